@@ -1,4 +1,4 @@
-"""The inputs that are measured, each made from a number and a count: the same bytes for the same two."""
+"""The inputs that are measured. Each is made from a number and a count, and is the same for the same two."""
 import random
 
 from measuring import session
@@ -11,7 +11,7 @@ BLOCKS, FIELDS, HELD = 300, 2_000, 250
 
 
 def sets(draw, count):
-    """`set` alone."""
+    """`set` only."""
     return session(SMALL, [f"set {draw.randrange(16)} {draw.randrange(100)}" for _ in range(count)])
 
 
@@ -38,7 +38,7 @@ def lists(draw, count):
 
 
 def block_makers(register, count):
-    """Makes so many blocks. Those past the registers that hold one are field 0 of the first ones."""
+    """Makes this number of blocks. Those for which there is no register are stored in field 0 of the first ones."""
     commands = []
     for block in range(count):
         if block < HELD:
@@ -70,8 +70,8 @@ def collected(draw, count):
     return session(OBJECTS, ["cons 0 work 1 0"] * count + COLLECTION)
 
 
-# What a made command may be, by its share. Registers 0 to 7 hold conses, 8 to 11 blocks, 12 to 14 numbers, and 15 what is
-# read of an object.
+# The forms of a random command, each with its share. Registers 0 to 7 hold conses, 8 to 11 blocks, 12 to 14 numbers, and 15
+# what was read from an object.
 CONSES = {"cons {c} {a} {n} {c}": 6, "list {c} {a} {n} {n} {c} {c}": 2, "car 15 {c}": 4, "cdr 15 {c}": 4, "rplaca {c} {n}": 2, "rplacd {c} {c}": 1, "eq {c} {c}": 1, "set {n} {i}": 2}
 MAKERS = {"make {b} {a} 7 {k}": 2, "grow {b} {k}": 1, "get 15 {b} {i}": 6, "put {b} {i} {c}": 4, "put {b} {i} {n}": 4, "size {b}": 1}
 PAGES = {"page-out 8": 0.5, "dump": 0.02}
@@ -87,14 +87,14 @@ PROFILES = {
 
 
 def made_command(draw, form, areas, longest, flips):
-    """One command of a form, with its registers and numbers drawn."""
+    """One command of a form, with random registers and numbers."""
     return form.format(
         c=draw.randrange(8), b=draw.randrange(8, 12), n=draw.randrange(12, 15),
         a=f"a{draw.randrange(areas)}", i=draw.randrange(8), k=draw.randrange(8, longest + 1), f=draw.choice(flips))
 
 
 def made(profile):
-    """Made commands by the shares of a profile."""
+    """Random commands by the shares of a profile."""
     world, shares, longest, flips = PROFILES[profile]
     forms, weights = list(shares), list(shares.values())
     areas = len(world) - 1
@@ -104,12 +104,12 @@ def made(profile):
         drawn = (draw.choices(forms, weights)[0] for _ in range(len(start), count))
         return session(world, (start + [made_command(draw, form, areas, longest, flips) for form in drawn])[:count])
 
-    commands.__doc__ = f"Made commands, {profile}."
+    commands.__doc__ = f"Random commands, {profile}."
     return commands
 
 
 def conses(count):
-    """The lines of a world of so many conses, each with its number and the next one."""
+    """The lines of a world with this number of conses, each with its own number as its car and the next one as its cdr."""
     return ["lispm-world 2", *OBJECTS, "capacity 0", *(f"cons work {at} #{at + 1}" for at in range(count - 1)), f"cons work {count - 1} nil", "root 0 #0"]
 
 
@@ -128,12 +128,12 @@ def dumped(draw, count):
 
 
 def world(draw, count):
-    """A world of conses alone."""
+    """A world file of conses."""
     return text_of([*conses(count), "end-world"])
 
 
 def expression(draw, count):
-    """The expression of a world of conses, with as many conses as items."""
+    """The expression of a list with this number of items."""
     return text_of(["sexpr-world 1", *OBJECTS, "capacity 0", "root 0 work(" + " ".join(map(str, range(count))) + ")", "end-sexpr"])
 
 

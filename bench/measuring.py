@@ -12,14 +12,14 @@ PROGRAM = os.path.join(TOP, "crates", "lispm", "out", "lispm")
 
 
 def words_of(text):
-    """The words of a script that measures a program and says so in this text."""
+    """The argument parser of a script that measures a program. The text is the script's help."""
     words = argparse.ArgumentParser(description=text, formatter_class=argparse.RawDescriptionHelpFormatter)
     words.add_argument("program", nargs="?", default=PROGRAM)
     return words
 
 
 def there(program):
-    """The program, where there is one."""
+    """The path of the program. Ends the script if it doesn't exist."""
     if shutil.which(program) is None:
         raise SystemExit(f"there is no program {os.path.relpath(program)}: bin/build makes lispm")
     return program
@@ -31,7 +31,7 @@ def counts():
 
 
 def memory_so_far(process, least):
-    """The greatest memory in bytes that a process had, or the least where it has ended."""
+    """The greatest memory in bytes that a process has used, or `least` if it has ended."""
     try:
         with open(f"/proc/{process}/status") as status:
             told = [line.split()[1] for line in status if line.startswith("VmHWM:")]
@@ -43,8 +43,8 @@ def memory_so_far(process, least):
 def run(command, text=b""):
     """The seconds, the greatest memory in bytes, and the status of one run.
 
-    The system keeps the greatest memory of a process from before its program was started too, so it is asked of
-    the program itself, again and again, until that has ended."""
+    The greatest memory is read from the running process, again and again, because the figure that the system gives after its
+    end includes the memory of the parent before the program was started."""
     with tempfile.TemporaryFile() as given:
         given.write(text)
         given.seek(0)
@@ -65,7 +65,7 @@ def run_well(command, text=b""):
 
 
 def processor_seconds(command, text=b""):
-    """The processor seconds of one run, on which other work on the machine tells less."""
+    """The processor seconds of one run, which other work on the machine influences less than the elapsed time."""
     before = resource.getrusage(resource.RUSAGE_CHILDREN)
     subprocess.run(command, input=text, stdout=subprocess.DEVNULL, check=True)
     after = resource.getrusage(resource.RUSAGE_CHILDREN)

@@ -1,6 +1,6 @@
 """Which crates a program stands on, whether it is built and up to date, and how long its proof takes."""
 import os
-from typing import Dict, Iterator, List, Optional
+from typing import Dict, Iterator, List, Optional, Tuple
 
 TOP = os.path.dirname(os.path.dirname(os.path.realpath(__file__)))
 # The seconds of each crate's proof: as bench/gate --keep measured them, and as the latest build here did.
@@ -11,15 +11,33 @@ UNKNOWN, UNCHANGED = 60.0, 2.0
 Crates = Dict[str, List[str]]
 
 
-def read_crates() -> Crates:
-    """The crates of this repository, each with those of them that it stands on."""
-    listed = {}
+# The word in crates.txt after the name of a crate that is built as a library for C.
+LIBRARY = "staticlib"
+
+
+def rows() -> Iterator[Tuple[List[str], List[str]]]:
+    """The rows of crates.txt: a crate's name, with its kind if it has one, and the crates whose names it uses."""
     with open(os.path.join(TOP, "crates.txt")) as lines:
         for line in lines:
             name, colon, below = line.partition("#")[0].partition(":")
             if colon:
-                listed[name.split()[0]] = below.split()
+                yield name.split(), below.split()
+
+
+def read_crates() -> Crates:
+    """The crates of this repository, each with those of them that it stands on."""
+    listed = {name[0]: below for name, below in rows()}
     return {name: [low for low in below if low in listed] for name, below in listed.items()}
+
+
+def used_by(name: str) -> List[str]:
+    """The crates whose names a crate uses, those of the kit too."""
+    return next(below for row, below in rows() if row[0] == name)
+
+
+def is_library(name: str) -> bool:
+    """The crate is built as a library for C, and not as a program."""
+    return any(row[0] == name and LIBRARY in row[1:] for row, _ in rows())
 
 
 def below_of(crates: Crates, name: str, found: Optional[List[str]] = None) -> List[str]:
@@ -34,8 +52,8 @@ def below_of(crates: Crates, name: str, found: Optional[List[str]] = None) -> Li
 
 
 def program_path(name: str) -> str:
-    """Where the built program stands."""
-    return os.path.join(TOP, "crates", name, "out", name)
+    """Where the built program is, or the archive of a library for C."""
+    return os.path.join(TOP, "crates", name, "out", f"lib{name}.a" if is_library(name) else name)
 
 
 def built_path(name: str, program: str) -> str:
@@ -60,9 +78,10 @@ def newer_source(name: str, than: float) -> Optional[str]:
     return next((entry.path for entry in sources(name) if entry.stat().st_mtime > than), None)
 
 
-def stale_by(program: str) -> Optional[str]:
-    """A file that a built program stands on and that is newer than it, by its path in the repository."""
-    built = os.stat(program_path(program)).st_mtime
+def stale_by(program: str, path: str = "") -> Optional[str]:
+    """A file from which a program (or what is built of it at `path`) is made and that is newer than it, by its path in the
+    repository."""
+    built = os.stat(path or program_path(program)).st_mtime
     listing = os.path.join(TOP, "crates.txt")
     if os.stat(listing).st_mtime > built:
         return "crates.txt"
@@ -119,3 +138,15 @@ def time_for(crates: Crates, waiting: List[str], seconds: Dict[str, float], runn
 def minutes(seconds: float) -> str:
     """A time as it is told: whole minutes, at least one."""
     return f"{max(1, round(seconds / 60))} min"
+
+
+def read_headings() -> Dict[str, List[str]]:
+    """The headings of crates.txt, each with the names of its crates: a comment's text up to its colon, and the lines after it."""
+    headings: Dict[str, List[str]] = {}
+    with open(os.path.join(TOP, "crates.txt")) as lines:
+        for line in lines:
+            if line.startswith("# ") and ":" in line:
+                headings[line[2:].partition(":")[0]] = []
+            elif not line.startswith("#") and ":" in line:
+                list(headings.values())[-1].append(line.partition(":")[0].split()[0])
+    return headings

@@ -3,27 +3,31 @@
 The words are checked first. Help, the version and the cause of refused words are told at once, and no proof begins
 for them. Then the built program takes the place of this one. If it isn't built, or a source is newer, it is proved
 and built first, which is said; LISPM_STALE=run runs an old program as it stands. With --trial the sources are
-compiled and run unproved.
+compiled and run unproved (see trial.py).
 """
-import errno
 import os
 import signal
 import sys
-from typing import BinaryIO, List
+from typing import List
 
 import crates
 import words
 
-KIT = "rattle-kit-13f"
+# The kits with which .ci/run has passed.
+KITS = ("rattle-kit-13b", "rattle-kit-13f")
 # Statuses of this script's own: no program, a trial without an answer, stopped by ctrl-C. A program has 0 to 8.
 REFUSED, NO_PROGRAM, NO_ANSWER, STOPPED = 7, 69, 70, 130
-# What `rt try` reads of standard input, in MiB, and the seconds that it gives a run.
-TRIAL_INPUT, TRIAL_SECONDS = 64, os.environ.get("RT_SECONDS") or "60"
+# The seconds that a run of a trial has, if the run isn't the whole trial.
+TRIAL_SECONDS = os.environ.get("RT_SECONDS") or "60"
 
 
 def written(to: int, text: str) -> bool:
     """Writes a text on standard output (1) or standard error (2); False if that fails."""
-    left = text.encode(errors="surrogateescape")
+    return written_bytes(to, text.encode(errors="surrogateescape"))
+
+
+def written_bytes(to: int, left: bytes) -> bool:
+    """Writes bytes there; False if that fails."""
     try:
         while left:
             left = left[os.write(to, left):]
@@ -82,7 +86,7 @@ def identity(name: str) -> str:
     """The version, the commit, whether the program is proved, and the kit, in two lines."""
     if not is_checkout():
         return text_of("identity", name)
-    kit = told_by(["rt", "version"]) or f"without the command rt ({KIT})"
+    kit = told_by(["rt", "version"]) or f"without the command rt ({' or '.join(KITS)})"
     return f"{name} {text_of('VERSION').strip()}{commit()}, {state_of(name)}\n{kit}\n"
 
 
@@ -114,57 +118,42 @@ def has_rt(name: str) -> bool:
 
     if shutil.which("rt"):
         return True
-    say(name, f"needs the command rt ({KIT}), see README")
+    say(name, f"needs the command rt ({' or '.join(KITS)}), see README")
     return False
 
 
-def copied_input(name: str) -> BinaryIO:
-    """Standard input up to its end, as a file, so that a slow pipe or a terminal loses nothing."""
-    import tempfile
-
-    if os.isatty(0):
-        say(name, "type the input; ctrl-D ends it")
-    copy, left = tempfile.TemporaryFile(), TRIAL_INPUT << 20
-    for part in iter(lambda: os.read(0, 1 << 20), b""):
-        left -= len(part)
-        if left < 0:
-            raise OSError(errno.EFBIG, f"a trial reads at most {TRIAL_INPUT} MiB of it")
-        copy.write(part)
-    copy.seek(0)
-    return copy
-
-
-def trial_status(name: str, status: int, told: str) -> int:
-    """The status of a trial's program, if it ended with one; `told` is what `rt try` wrote beside it."""
-    *lines, last = told.splitlines() or [""]
-    lines = [line for line in lines if not line.startswith(("interpreter: no-answer", "races:"))]
-    has_ended = last.startswith(f"run=ended status={status} ")
-    written(2, "".join(line + "\n" for line in lines + [last] * (not has_ended)))
-    if has_ended:
-        return status
-    say(name, f"the trial gave no answer, see above; status {NO_ANSWER}")
-    return NO_ANSWER
+def warn_of_kit(name: str) -> None:
+    """Says so if this kit isn't one with which all has passed."""
+    kit = told_by(["rt", "version"]).partition(" ")[0]
+    if kit and kit not in KITS:
+        say(name, f"this is {kit}, and .ci/run has passed with {' and '.join(KITS)}")
 
 
 def try_unproved(name: str, asked: words.Asked) -> int:
-    """Compiles the sources and runs them unproved."""
-    import subprocess
-
+    """Runs the program that the sources compile to, unproved."""
     if not is_checkout():
         say(name, "--trial needs the sources, see README")
         return NO_PROGRAM
-    if not has_rt(name):
-        return NO_PROGRAM
-    say(name, f"a trial, nothing of it is proved: about a minute to compile, then at most {TRIAL_SECONDS} s (RT_SECONDS sets "
-        "that) and 1 MiB of output, told at the end")
+    import trial
+
     try:
-        source = copied_input(name) if asked.reads else subprocess.DEVNULL
-    except OSError as fault:
-        say(name, f"standard input: {fault.strerror}; status {NO_ANSWER}")
-        return NO_ANSWER
-    ended = subprocess.run(["rt", "try", "--", *asked.words], cwd=os.path.join(crates.TOP, "crates", name), stdin=source,
-                           stderr=subprocess.PIPE, text=True, errors="replace")
-    return trial_status(name, ended.returncode, ended.stderr)
+        return trial.start(name, asked)
+    except trial.Failed as fault:
+        if str(fault):
+            say(name, f"{fault}; status {fault.status}")
+        return fault.status
+
+
+def waited(process) -> int:
+    """The status of a process. After ctrl-C, which it gets as well, and after a signal to end, which is handed on, it is
+    given the time to end what it has started."""
+    for number in (signal.SIGTERM, signal.SIGHUP):
+        signal.signal(number, lambda number, _: process.send_signal(number))
+    while True:
+        try:
+            return process.wait()
+        except KeyboardInterrupt:
+            continue
 
 
 def make_ready(name: str) -> int:
@@ -182,29 +171,33 @@ def make_ready(name: str) -> int:
         return NO_PROGRAM
     why = f"the program is older than {older} (LISPM_STALE=run runs it)" if older else "it isn't built yet"
     say(name, f"{why}, so it is proved first; --trial runs the sources unproved, in about a minute")
-    status = subprocess.run([os.path.join(crates.TOP, "bin", "build"), name], stdin=subprocess.DEVNULL).returncode
-    return status if status in (0, STOPPED) else NO_PROGRAM
+    warn_of_kit(name)
+    status = waited(subprocess.Popen([os.path.join(crates.TOP, "bin", "build"), name], stdin=subprocess.DEVNULL))
+    return status if status == 0 or status >= 128 else NO_PROGRAM
 
 
 def run_proved(name: str, asked: words.Asked) -> int:
     """The built program takes the place of this one."""
     status = make_ready(name)
-    if status:
-        return status
+    return status or take_over(name, path_of(name), asked.words)
+
+
+def take_over(name: str, path: str, given: List[str]) -> int:
+    """The program at this path takes the place of this one."""
     # Python ignores these two signals, and the program is to have them as a shell would give them.
     signal.signal(signal.SIGPIPE, signal.SIG_DFL)
     signal.signal(signal.SIGXFSZ, signal.SIG_DFL)
     try:
-        os.execv(path_of(name), [path_of(name), *asked.words])
+        os.execv(path, [path, *given])
     except OSError as fault:
-        say(name, f"{path_of(name)}: {fault.strerror}")
+        say(name, f"{path}: {fault.strerror}")
         return NO_PROGRAM
 
 
 def started(name: str, given: List[str]) -> int:
     """Does what the words ask, and answers the status."""
     left = [word for word in given if word != "--trial"]
-    if "--help" in left or "-h" in left or left == ["help"]:
+    if "--help" in left or "-h" in left or left[:1] == ["help"]:
         return answer(text_of("bin", f"{name}.usage"))
     if "--version" in left or "-V" in left:
         return answer(identity(name))
@@ -222,4 +215,5 @@ def main(name: str) -> None:
     try:
         sys.exit(started(name, sys.argv[1:]))
     except KeyboardInterrupt:
+        say(name, "stopped")
         sys.exit(STOPPED)

@@ -1,7 +1,7 @@
-"""The words of each program: which of them it accepts, and why it refuses others.
+"""The arguments of each program: which it accepts, and why it refuses others.
 
-PROGRAMS has a row for each program. A further program is a row here, a file bin/NAME like bin/lispm, a file
-bin/NAME.usage and a page man/NAME.1; `start`, `bin/build` and `bin/install` go by the row.
+PROGRAMS has a row for each program. To add a program, write a row here, a file bin/NAME like bin/lispm, a file
+bin/NAME.usage and a page man/NAME.1; `start`, `bin/build` and `bin/install` use the row.
 """
 import os
 from typing import Dict, List, NamedTuple, Optional, Tuple
@@ -10,24 +10,24 @@ MOST = 4_294_967_295
 
 
 class Refused(Exception):
-    """Words that a program refuses; its text is the cause."""
+    """A program refuses its arguments; the text is the cause."""
 
 
 class Mode(NamedTuple):
-    """What goes with a mode: options that it needs, options that it may have, and whether it reads standard input."""
+    """The options that a mode needs, those that it may have, and whether it reads standard input."""
     needs: Tuple[str, ...] = ()
     may_have: Tuple[str, ...] = ()
     reads: bool = True
 
 
 class Option(NamedTuple):
-    """An option's value, a number: the letter that stands for it in the usage, and the greatest."""
+    """An option's value, a number: its letter in the usage, and the greatest."""
     letter: str
     most: int
 
 
 class Program(NamedTuple):
-    """The modes by their words, "" alone if there is none to say, and the options. Without `words` it takes none at all."""
+    """The modes by name ("" alone if the program has one mode), and the options. If `words` is false it takes no argument."""
     modes: Dict[str, Mode]
     options: Dict[str, Option]
     words: bool = True
@@ -58,12 +58,12 @@ class Asked(NamedTuple):
 
 
 def listed(words: List[str]) -> str:
-    """The words to choose from: `a, b or c`."""
+    """The names to choose from: `a, b or c`."""
     return " or ".join([", ".join(words[:-1])] * (len(words) > 1) + words[-1:])
 
 
 def like(word: str, known: List[str]) -> str:
-    """Which known word was meant, as far as that shows; else all of them."""
+    """The known name that is most like this word; else all of them."""
     import difflib
 
     near = difflib.get_close_matches(word.lower(), known, 1)
@@ -73,13 +73,13 @@ def like(word: str, known: List[str]) -> str:
 
 
 def unknown_option(program: Program, word: str) -> Refused:
-    """The cause where a word looks like an option and is none."""
+    """The cause if a word looks like an option and is none."""
     known = [f"--{name}" for name in program.options] + ["--trial", "--help", "--version"]
     return Refused(f"unknown option {word!r}: {like(word, known)}")
 
 
 def parts_of(program: Program, words: List[str]) -> Tuple[List[Tuple[str, str]], List[str]]:
-    """The options with their values, and the other words, which stand for the mode. Behind `--` each word is one of these."""
+    """The options with their values, and the other arguments: the mode and a file. After `--` every argument is one of these."""
     options, others, left = [], [], iter(words)
     for word in left:
         if word == "--":
@@ -103,7 +103,7 @@ def is_number(text: str) -> bool:
 
 
 def test_value(name: str, option: Option, value: str) -> None:
-    """Refuses a value that is no number, or too large a one."""
+    """Refuses a value that is no number, or too large."""
     if value.startswith("#") and is_number(value[1:]):
         raise Refused(f"--{name} is the number without '#': --{name} {value[1:]}")
     if not is_number(value) or int(value) > option.most:
@@ -112,11 +112,11 @@ def test_value(name: str, option: Option, value: str) -> None:
 
 
 def test_options(program: Program, name: str, options: List[Tuple[str, str]]) -> None:
-    """Refuses options that come twice, don't go with the mode, are missing, or have another value than a number."""
+    """Refuses options that occur twice, don't belong to the mode, are missing, or have a value that is no number."""
     mode, given = program.modes[name], [option for option, _ in options]
     for option in given:
         if given.count(option) > 1:
-            raise Refused(f"--{option} comes twice")
+            raise Refused(f"--{option} occurs twice")
         if option not in mode.needs + mode.may_have:
             raise Refused(f"{name or 'it'} takes no --{option}")
     for option in mode.needs:
@@ -127,7 +127,7 @@ def test_options(program: Program, name: str, options: List[Tuple[str, str]]) ->
 
 
 def unknown_mode(program: Program, word: str) -> Refused:
-    """The cause where the one word that stands for the mode is none."""
+    """The cause if an argument should be a mode and is none."""
     modes = list(program.modes)
     if word.startswith("-") and word != "-":
         return unknown_option(program, word)
@@ -137,7 +137,7 @@ def unknown_mode(program: Program, word: str) -> Refused:
 
 
 def second_word(program: Program, name: str, word: str) -> Refused:
-    """The cause where a word behind the mode is no file that could be read."""
+    """The cause if an argument after the mode is no file that can be read."""
     mode, number = program.modes[name], word.lstrip("#")
     if word.startswith("-") and word != "-":
         return unknown_option(program, word)
@@ -154,12 +154,12 @@ def second_word(program: Program, name: str, word: str) -> Refused:
 
 
 def is_file_for(program: Program, name: str, word: str) -> bool:
-    """The word behind the mode names a file that the mode reads."""
+    """The argument after the mode names a file that the mode reads."""
     return word not in program.modes and program.modes[name].reads and os.path.exists(word) and not os.path.isdir(word)
 
 
 def mode_of(program: Program, others: List[str]) -> Tuple[str, Optional[str]]:
-    """The mode that the words stand for, and the file that a word behind it names."""
+    """The mode, and the file that is named after it."""
     name, *files = [""] * ("" in program.modes) + others or [""]
     if name not in program.modes:
         raise unknown_mode(program, name) if others else Refused(f"a mode is missing: use {listed(list(program.modes))}")
@@ -172,11 +172,11 @@ def mode_of(program: Program, others: List[str]) -> Tuple[str, Optional[str]]:
 
 
 def read_words(name: str, words: List[str]) -> Asked:
-    """What the words behind a program's name ask for; raises Refused."""
+    """The mode and the options that a program's arguments request; raises Refused."""
     program = PROGRAMS[name]
     if not program.words:
         if words:
-            raise Refused(f"it takes no words, and reads standard input: use {name} <FILE")
+            raise Refused(f"it takes no arguments, and reads standard input: use {name} <FILE")
         return Asked([], True, None)
     options, others = parts_of(program, words)
     mode, file = mode_of(program, others)

@@ -1,4 +1,4 @@
-"""Runs the test files of a folder, and tells how many tests passed, failed, or were left out."""
+"""Runs the test files of a folder, and prints how many tests passed, failed, or were left out."""
 import sys
 import unittest
 from typing import List

@@ -1,8 +1,9 @@
 """The commands as rules: each is given to lispm and to the toy, and the replies are compared before the next is drawn."""
 import subprocess
 from itertools import combinations
-from typing import List, Tuple
+from typing import List, Optional, Tuple
 
+import lispm
 from hypothesis import strategies
 from hypothesis.stateful import RuleBasedStateMachine, rule
 
@@ -20,11 +21,48 @@ class Differs(AssertionError):
     """The toy's reply isn't lispm's."""
 
 
+class Pipe:
+    """The program lispm, which answers a line before it reads the next."""
+
+    def __init__(self, path: str):
+        self.program = subprocess.Popen([path, "replay"], stdin=subprocess.PIPE, stdout=subprocess.PIPE, text=True, bufsize=1)
+
+    def give(self, line: str) -> None:
+        """A line of the world, which has no answer."""
+        self.program.stdin.write(line + "\n")
+
+    def answer(self, command: str) -> str:
+        self.give(command)
+        return self.program.stdout.readline().rstrip("\n")
+
+    def close(self) -> None:
+        self.program.stdin.close()
+        self.program.stdout.close()
+        self.program.wait()
+
+
+class Machine:
+    """The same by the C library, in this process."""
+
+    def __init__(self, library: lispm.Library):
+        self.session = library.session()
+
+    def give(self, line: str) -> None:
+        self.session.line(line.encode())
+
+    def answer(self, command: str) -> str:
+        return self.session.line(command.encode()).decode().rstrip("\n")
+
+    def close(self) -> None:
+        self.session.close()
+
+
 class Lockstep(RuleBasedStateMachine):
     """One example: a lispm of its own, and a toy of its own."""
 
+    library: Optional[lispm.Library] = None             # if there is one; else the program answers
     lispm = ""                                          # the path of the program
-    fault = False                                       # the toy has its fault
+    fault = False                                       # the toy has its bug
     latest: List[Tuple[str, str, str]] = []             # of the latest example: command, lispm's reply, the toy's
 
     def __init__(self):
@@ -32,25 +70,21 @@ class Lockstep(RuleBasedStateMachine):
         self.toy = Toy(REGISTERS, self.fault)
         self.is_equal = True
         Lockstep.latest = self.done = []
-        self.program = subprocess.Popen([self.lispm, "replay"], stdin=subprocess.PIPE, stdout=subprocess.PIPE,
-                                        text=True, bufsize=1)
+        self.machine = Machine(self.library) if self.library is not None else Pipe(self.lispm)
         for line in WORLD:
-            self.program.stdin.write(line + "\n")
+            self.machine.give(line)
 
     def teardown(self):
-        """Behind an example without a difference each pair of registers is compared."""
+        """After an example without a difference each pair of registers is compared."""
         try:
             for one, other in combinations(range(REGISTERS), 2) if self.is_equal else ():
                 self.check(f"eq {one} {other}")
         finally:
-            self.program.stdin.close()
-            self.program.stdout.close()
-            self.program.wait()
+            self.machine.close()
 
     def replies(self, command: str) -> Tuple[str, str]:
-        """The replies of lispm and of the toy. lispm answers a line before it reads the next."""
-        self.program.stdin.write(command + "\n")
-        wanted = self.program.stdout.readline().rstrip("\n")
+        """The replies of lispm and of the toy."""
+        wanted = self.machine.answer(command)
         try:
             got = self.toy.answer(command)
         except Exception as error:
@@ -116,7 +150,7 @@ class Lockstep(RuleBasedStateMachine):
 
     @rule(count=FIELD)
     def scavenge(self, count):
-        """Whether a collection is over is free, too."""
+        """Whether the scan has finished is free, too."""
         wanted, got = self.replies(f"scavenge {count}")
         assert wanted == got or {wanted, got} == {"more", "done"}
 

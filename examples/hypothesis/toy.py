@@ -26,7 +26,7 @@ Value = Union[None, int, Reference]
 
 
 class Toy:
-    """The runtime: registers, a space of objects, and the old space while a collection runs. With the fault an object
+    """The runtime: registers, a space of objects, and the old space while a collection runs. With the bug that `fault` switches on, an object
     that is copied leaves no forward, so a second reference to it gets a second copy."""
 
     def __init__(self, registers: int, fault: bool = False):
@@ -47,7 +47,7 @@ class Toy:
         return Reference(self.made)
 
     def settled(self, value: Value) -> Value:
-        """The value with the address at which its object stands now; copies it out of the old space."""
+        """The value with the current address of its object; copies the object out of the old space."""
         if not isinstance(value, Reference) or value.address not in self.old:
             return value
         found = self.old[value.address]
@@ -152,7 +152,7 @@ class Toy:
         return "flipped 0"
 
     def do_scavenge(self, count: int) -> str:
-        """Scans the registers, and then at most so many objects."""
+        """Scans the registers, and then at most this number of objects."""
         if not self.is_running:
             return "not-flipped"
         for at in range(len(self.registers)):

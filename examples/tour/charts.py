@@ -1,4 +1,4 @@
-"""How a count changes from command to command, if a size of the world is another."""
+"""Charts: how a count changes from command to command, for several values of one size of the world."""
 import re
 from typing import List, NamedTuple, Tuple
 
@@ -7,14 +7,14 @@ from lib import program, svg, tool
 from lib.session import Session
 
 SIZES = {"regions": 1, "frames": 2, "registers": 3, "levels": 4, "rate": 5}
-COUNTS = {"left": "left", "page calls": "calls"}        # the line of the machine whose numbers are added
-LABELS = {"left": "units left to scan", "page calls": "page calls, written and read"}
+COUNTS = {"left": "left", "page calls": "calls"}        # the line of lispm_inside whose numbers are added
+LABELS = {"left": "units not yet scanned", "page calls": "page calls, written and read"}
 COLOURS = [svg.VERMILION, svg.BLUE, svg.GREEN, svg.PURPLE]
 LEFT, TOP, WIDTH, HEIGHT, STEP = 60, 50, 620, 260, 20
 
 
 class Chart(NamedTuple):
-    """A count, a size with its values, the commands, and for each value the count behind each command."""
+    """A count, a size with its values, the commands, and for each value the count after each command."""
     count: str
     size: str
     values: List[int]
@@ -32,7 +32,7 @@ def read_mark(mark: str) -> Tuple[str, str, List[int]]:
 
 
 def with_size(trace: Session, size: str, value: int) -> Session:
-    """The session in a world in which this size is another."""
+    """The session in a world that has this value of the size."""
     def changed(text: str) -> str:
         words = text.split(" ")
         return " ".join(words[:SIZES[size]] + [str(value)] + words[SIZES[size] + 1:]) if words[0] == "space" else text
@@ -40,15 +40,15 @@ def with_size(trace: Session, size: str, value: int) -> Session:
 
 
 def count_of(output: bytes, head: str) -> int:
-    """The sum of the numbers on the line of the machine that begins so. The words of memory aren't read for it."""
+    """The sum of the numbers on the line of lispm_inside that begins with `head`. The words of memory aren't parsed for it."""
     found = re.search(rf"^{head} (.*)$", output.decode("latin-1"), re.M)
     if found is None:
-        raise tool.ToolError("a chart's session isn't answered whole", tool.WRONG)
+        raise tool.ToolError("the session of a chart was not answered completely", tool.WRONG)
     return sum(int(word) for word in found.group(1).split(" ") if word.isdigit())
 
 
 def row(trace: Session, count: str, inside: str) -> List[int]:
-    """The count behind each command."""
+    """The count after each command."""
     cuts = [trace.cut(number) for number in range(1, len(trace.commands) + 1)]
     return [count_of(program.run(inside, [], cut.text()).output, COUNTS[count]) for cut in cuts]
 
@@ -82,7 +82,7 @@ def down(value: int, most: int) -> float:
 
 
 def line_pieces(chart: Chart, at: int, most: int) -> List[str]:
-    """The line of one value, with its name in the legend."""
+    """The line of one value, and its entry in the legend."""
     colour, counts = COLOURS[at % len(COLOURS)], chart.rows[at]
     points = " ".join(f"{across(n, len(counts)):.1f},{down(value, most):.1f}" for n, value in enumerate(counts, 1))
     dash = ["", "8 3", "3 3", "8 3 2 3"][at % 4]
@@ -94,7 +94,7 @@ def line_pieces(chart: Chart, at: int, most: int) -> List[str]:
 
 
 def command_pieces(chart: Chart) -> List[str]:
-    """The commands below the chart, slanted."""
+    """The commands below the chart, rotated."""
     pieces = []
     for n, command in enumerate(chart.commands, 1):
         x, y = across(n, len(chart.commands)), TOP + HEIGHT + 14
@@ -102,10 +102,16 @@ def command_pieces(chart: Chart) -> List[str]:
     return pieces
 
 
+def ticks(most: int) -> List[int]:
+    """Round numbers from 0 on, at most six: multiples of 1, 2 or 5 times a power of ten."""
+    steps = (digit * 10 ** power for power in range(10) for digit in (1, 2, 5))
+    return list(range(0, most + 1, next(step for step in steps if most <= 5 * step)))
+
+
 def scale_pieces(most: int) -> List[str]:
-    """Four lines across, with what they stand for."""
+    """Horizontal lines at round numbers, each with its number."""
     pieces = []
-    for value in sorted({0, most // 4, most // 2, most * 3 // 4, most}):
+    for value in ticks(most):
         y = down(value, most)
         pieces += [f'<path d="M{LEFT},{y:.1f} h{WIDTH}" stroke="#DDDDDD"/>',
                    svg.text(LEFT - 6, y + 4, str(value), "small", 'text-anchor="end"')]
@@ -113,7 +119,7 @@ def scale_pieces(most: int) -> List[str]:
 
 
 def title(count: str, size: str, values: List[int]) -> str:
-    return f"{LABELS[count]} behind each command, {size} {', '.join(map(str, values))}"
+    return f"{LABELS[count]} after each command, {size} {', '.join(map(str, values))}"
 
 
 def drawing(chart: Chart) -> str:

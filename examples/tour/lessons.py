@@ -1,10 +1,10 @@
 """The lessons of the tour: a folder each, with a session, a page of what to see, and three exercises.
 
-In a session a comment may be a mark, which isn't shown but done:
+In a session a comment may be a mark. A mark isn't shown; it requests something in its place:
 
-    ; picture                       the machine behind the last command
-    ; chart COUNT, SIZE N ..        how a count changes from command to command if a size of the world is another
-    ; census                        of the dump before it
+    ; picture                       a picture of the machine after the last command
+    ; chart COUNT, SIZE N ..        a chart of how a count changes from command to command, for these values of a size
+    ; census                        a census of the dump before it
     ; why K                         why object K of the dump before it is held
 """
 import os
@@ -22,7 +22,7 @@ TASKS = 3
 
 
 class Lesson(NamedTuple):
-    """A lesson: its number, its folder, its session, and what is to be seen in it."""
+    """A lesson: its number, its folder, its session, and the text that says what to see in it."""
     number: int
     folder: str
     marked: showing.Marked
@@ -52,17 +52,17 @@ class Lesson(NamedTuple):
         return sum(command.line < line for command in self.session.commands)
 
     def pictured(self) -> List[int]:
-        """The numbers of the commands behind which the machine is shown."""
+        """The numbers of the commands after which the machine is shown."""
         lines = enumerate(self.marked.lines, 1)
         return [self.command_before(at) for at, line in lines if mark_of(line) == "picture"]
 
     def charts(self) -> List[str]:
-        """What the session says of its charts."""
+        """The marks of the session's charts."""
         return [mark_of(line) for line in self.marked.lines if mark_of(line).startswith("chart ")]
 
 
 def mark_of(line: str) -> str:
-    """The mark that a line of a session is; empty if it is none."""
+    """The mark on a line of a session; empty if the line isn't one."""
     text = line[1:].strip() if line.startswith(";") else ""
     return text if MARK.match(text) else ""
 

@@ -1,15 +1,16 @@
-"""Exercises: a world and a trace in which something is left to the reader, and what has to come.
+"""Exercises: a world and a trace in which the reader supplies commands or predicts replies, and the conditions for both.
 
-Its first comments are its text. Behind a command stands the reply that has to come, several lines with ` | ` between
-them, or `; ?` if the reader tells the reply. Further comments:
+The first comments of an exercise are its text. A command is followed by `; REPLY`, the reply that it has to get (of several
+lines with ` | ` between them), or by `; ?` if the reader predicts the reply. Further comments:
 
-    ; your commands                 the reader's commands stand here
-    ; at most N commands            of the reader (`1 command`)
+    ; your commands                 the place of the reader's commands
+    ; at most N commands            how many they may be (`1 command`)
     ; only WORD, ..                 the reader's commands begin with these words
     ; without WORD, ..              none of the reader's commands begins with these
-    ; machine: PATTERN              a line of what lispm_inside tells of the machine is so; `*` is anything
-    ; machine, N times: PATTERN     so many lines are
-    ; machine ?: WORDS              the reader tells how the line of the machine that begins so goes on
+    ; machine: PATTERN              some line that lispm_inside writes matches; `*` is anything, `?` one character
+    ; machine, N times: PATTERN     exactly N lines match
+    ; machine ?: START              the reader predicts the rest of the line of lispm_inside that begins with START
+    ; that is: TEXT                 the condition before it, for the reader
 """
 import re
 from fnmatch import fnmatchcase
@@ -19,23 +20,24 @@ from lib import answers, inside, program, session, showing, tool
 
 BETWEEN = " | "
 YOURS = "your commands"
+THAT_IS = "that is:"
 BESIDE = re.compile(r"^(.*?) +; (.*)$")
 
 
 class Item(NamedTuple):
-    """A line of an exercise: an input line with what has to come beside it (`?` is asked), or a comment."""
+    """A line of an exercise: an input line with its required reply beside it (`?` if it is to be predicted), or a comment."""
     text: str
     beside: Optional[str]
     is_comment: bool
 
 
 class Task(NamedTuple):
-    """An exercise: its text, and its lines from the first one of the world on."""
+    """An exercise: its text, and its lines from the first line of the world on."""
     text: List[str]
     items: List[Item]
 
     def comments(self, start: str) -> List[str]:
-        """What stands behind this start, of each comment that has it."""
+        """The rest of each comment that begins with `start`."""
         return [item.text[len(start):].strip() for item in self.items if item.is_comment and item.text.startswith(start)]
 
     @property
@@ -43,8 +45,29 @@ class Task(NamedTuple):
         return not self.comments(YOURS)
 
 
+def in_words(task: Task, rule: str) -> str:
+    """What a condition on the machine means, from the comment `that is:` after it; empty if there is none."""
+    pairs = zip(task.items, task.items[1:])
+    return next((after.text[len(THAT_IS):].strip() for item, after in pairs if item.is_comment and item.text == rule
+                 and after.is_comment and after.text.startswith(THAT_IS)), "")
+
+
+def shown_lines(task: Task) -> List[str]:
+    """The lines of an exercise for a reader: a condition on the machine is shown in words, if it has words."""
+    lines = []
+    for item in task.items:
+        words = in_words(task, item.text) if item.is_comment else ""
+        if words:
+            lines.append(f"; {'predict' if item.text.startswith('machine ?:') else 'condition'}: {words}")
+        elif not item.is_comment:
+            lines.append(item.text if item.beside is None else f"{item.text:24} ; {item.beside}")
+        elif not item.text.startswith(THAT_IS):
+            lines.append(f"; {item.text}")
+    return lines
+
+
 class Result(NamedTuple):
-    """Lines that show what came, what isn't as the exercise wants it, and what could not be looked at."""
+    """Lines that show the replies, the conditions that aren't met, and those that couldn't be checked."""
     lines: List[str]
     wrong: List[str]
     unseen: List[str]
@@ -64,13 +87,13 @@ def read(path: str) -> Task:
 
 
 def answer_lines(data: bytes) -> List[str]:
-    """The lines of an answer, without comments and empty ones."""
+    """The lines of an answer, without comments and empty lines."""
     lines = [line.strip() for line in data.decode("latin-1").split("\n")]
     return [line for line in lines if line and not line.startswith(";")]
 
 
 def filled(task: Task, yours: List[str]) -> List[Item]:
-    """The lines of the input, with the reader's commands at their place."""
+    """The lines of the input, with the reader's commands inserted."""
     found: List[Item] = []
     for item in task.items:
         if item.is_comment:
@@ -81,7 +104,7 @@ def filled(task: Task, yours: List[str]) -> List[Item]:
 
 
 def replies_of(items: List[Item], lispm: str) -> Dict[int, str]:
-    """The reply of each command by its line from 1, several lines as one. A refused input is the reader's mistake."""
+    """The reply of each command by its line, counted from 1; lines of one reply are joined. A refused input is the reader's mistake."""
     data = "".join(f"{item.text}\n" for item in items).encode("latin-1")
     of = session.parse(data)
     said = answers.split(of, program.replay(lispm, data).output)
@@ -92,22 +115,22 @@ def replies_of(items: List[Item], lispm: str) -> Dict[int, str]:
     return {answer.command.line: BETWEEN.join(answer.lines) for answer in said.answers}
 
 
-# ----------------------------------------------------------- what has to be so
+# ----------------------------------------------------------- conditions
 
 def broken_rules(task: Task, yours: List[str]) -> List[str]:
-    """The rules on the reader's commands that are broken."""
+    """The conditions on the reader's commands that aren't met."""
     heads = [line.split(" ")[0] for line in yours]
     most = [int(said.split(" ")[0]) for said in task.comments("at most ")]
-    wrong = [f"{len(yours)} commands, of at most {one}" for one in most if len(yours) > one]
+    wrong = [f"{len(yours)} commands, and at most {one} are allowed" for one in most if len(yours) > one]
     for said in task.comments("without "):
-        wrong += [f"without {said}, and there is `{line}`" for head, line in zip(heads, yours) if head in said.split(", ")]
+        wrong += [f"without {said}, but there is `{line}`" for head, line in zip(heads, yours) if head in said.split(", ")]
     for said in task.comments("only "):
-        wrong += [f"only {said}, and there is `{line}`" for head, line in zip(heads, yours) if head not in said.split(", ")]
+        wrong += [f"only {said}, but there is `{line}`" for head, line in zip(heads, yours) if head not in said.split(", ")]
     return wrong
 
 
 def machine_lines(items: List[Item], inside_path: str) -> List[str]:
-    """What lispm_inside tells of the machine behind the last command."""
+    """The lines that lispm_inside writes about the machine after the last command."""
     data = "".join(f"{item.text}\n" for item in items).encode("latin-1")
     lines = answers.lines_of(program.run(inside_path, [], data).output)
     return lines[lines.index(inside.FIRST):] if inside.FIRST in lines else []
@@ -118,18 +141,25 @@ def pattern_rules(task: Task) -> List[str]:
 
 
 def wrong_patterns(task: Task, machine: List[str]) -> List[str]:
-    """The lines that the machine must have, and hasn't."""
-    wrong = [f"the machine has no line `{pattern}`" for pattern in task.comments("machine:")
+    """The conditions on the lines of lispm_inside that aren't met."""
+    wrong = [f"the machine has no line `{pattern}`{explained(task, f'machine: {pattern}')}" for pattern in task.comments("machine:")
              if not any(fnmatchcase(line, pattern) for line in machine)]
     for said in task.comments("machine, "):
         times, pattern = re.match(r"([0-9]+) times: (.*)$", said).groups()
         count = sum(fnmatchcase(line, pattern) for line in machine)
-        wrong += [f"the machine has {count} lines `{pattern}`, and {times} are wanted"] * (count != int(times))
+        cause = f"the machine has {count} lines `{pattern}`, and {times} are required{explained(task, f'machine, {said}')}"
+        wrong += [cause] * (count != int(times))
     return wrong
 
 
+def explained(task: Task, rule: str) -> str:
+    """The words of a condition, as the end of a sentence that says it isn't met."""
+    words = in_words(task, rule)
+    return f" (required: {words})" if words else ""
+
+
 def told_lines(task: Task, machine: List[str]) -> List[str]:
-    """What the reader has to tell of the machine."""
+    """What the reader has to predict of the machine."""
     found = []
     for start in task.comments("machine ?:"):
         found += [line[len(start):].strip() for line in machine if line.startswith(start + " ")][:1]
@@ -139,7 +169,7 @@ def told_lines(task: Task, machine: List[str]) -> List[str]:
 # --------------------------------------------------------------------- checks
 
 def check_commands(task: Task, yours: List[str], lispm: str, look: Callable[[List[Item]], List[str]]) -> Result:
-    """The reader's commands at their place: what comes, and what of it isn't as it should be."""
+    """Checks the reader's commands: the replies, and the conditions that aren't met."""
     items = filled(task, yours)
     replies = replies_of(items, lispm)
     lines, wrong = [], broken_rules(task, yours)
@@ -147,12 +177,12 @@ def check_commands(task: Task, yours: List[str], lispm: str, look: Callable[[Lis
         if at in replies:
             is_so = item.beside in (None, replies[at])
             lines += showing.reply_lines(item.text, replies[at].split(BETWEEN))
-            wrong += [] if is_so else [f"`{item.text}` answers {replies[at]}, and {item.beside} is wanted"]
+            wrong += [] if is_so else [f"`{item.text}` replies {replies[at]}, and {item.beside} is required"]
     return Result(lines, wrong + wrong_patterns(task, look(items)), [])
 
 
 def check_told(task: Task, given: List[str], lispm: str, look: Callable[[List[Item]], List[str]]) -> Result:
-    """The replies that the reader tells, beside those that come."""
+    """Compares the reader's predictions with the replies."""
     items = filled(task, [])
     replies = replies_of(items, lispm)
     asked = [(item.text, replies[at]) for at, item in enumerate(items, 1) if item.beside == "?"]
@@ -163,16 +193,16 @@ def check_told(task: Task, given: List[str], lispm: str, look: Callable[[List[It
              for (text, reply), told in zip(asked, given)]
     right = sum(told.split() == reply.split() for (_, reply), told in zip(asked, given))
     wrong = [f"{right} of {len(asked)} right"] * (right < len(asked))
-    return Result(lines, wrong + [f"{len(given)} answers, and {len(asked)} are asked"] * (len(given) > len(asked)), [])
+    return Result(lines, wrong + [f"{len(given)} answers, and {len(asked)} are required"] * (len(given) > len(asked)), [])
 
 
 def check(task: Task, answer: bytes, lispm: str, inside_path: Optional[str]) -> Result:
-    """Whether an answer is what the exercise wants. Without lispm_inside what it has to show isn't looked at."""
+    """Whether an answer solves the exercise. Without lispm_inside the conditions on the machine aren't checked."""
     lines = answer_lines(answer)
     if pattern_rules(task) and inside_path is None:
         kept = [item for item in task.items if not (item.is_comment and item.text.startswith("machine"))]
         found = check(Task(task.text, kept), answer, lispm, None)
-        return found._replace(unseen=["lispm_inside isn't built, so what is asked of the machine wasn't looked at"])
+        return found._replace(unseen=["lispm_inside isn't built, so the conditions on the machine weren't checked"])
 
     def look(items: List[Item]) -> List[str]:
         return machine_lines(items, inside_path) if pattern_rules(task) else []

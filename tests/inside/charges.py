@@ -1,8 +1,8 @@
-"""The account of an area, reckoned from its words.
+"""The account of an area, computed from its words.
 
-The words of a region are objects, one behind another. A header, a pair and a cell tell how many words they are. A
-forward doesn't always: behind it stands what is left of the object that went away. So each number of words is tried
-that what the forward leads to allows, and the answer is the set of the charges that a whole reading of the words has.
+The words of a region are objects, one after another. A header, a pair and a cell show their number of words. A forward
+doesn't always: it is followed by the remaining words of the object that moved. So each number of words is tried that the
+object at the forward's end allows, and the result is the set of charges of all ways to divide the words into objects.
 """
 from typing import Iterator, List, Set, Tuple
 
@@ -10,16 +10,16 @@ from graph import follow, word_at
 from machine import Machine, Region
 from words import FIXNUM, FORWARDS, GC_FORWARD, HEADER, LIST, NEXT, NIL, NORMAL, REGION, SECOND, STRUCT
 
-Piece = Tuple[int, int]                  # the words of what stands at an address, and what it is charged there
+Piece = Tuple[int, int]                  # the number of words of what is at an address, and its charge there
 
 
 def grown_block(fields: int) -> Iterator[Piece]:
-    """Husks of a block that has so many fields now: it had fewer. They stay charged."""
+    """Husks of a block that has this number of fields now: it had fewer. They remain charged."""
     return ((words, words) for words in range(1, fields + 1))
 
 
 def moved(machine: Machine, address: int) -> List[Piece]:
-    """What went away from behind a GC-FORWARD to the address; its charge went with it."""
+    """What moved away from a GC-FORWARD at the address; its charge moved with it."""
     first, last = word_at(machine, address), word_at(machine, follow(machine, address))
     if last.tag == HEADER:
         grew = first.tag in FORWARDS

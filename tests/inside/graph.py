@@ -1,4 +1,4 @@
-"""The graph that the words of a machine tell: values, objects, and the dump of what the registers reach."""
+"""The graph that the words of a machine represent: values, objects, and the dump of what the registers reach."""
 from typing import Dict, List, NamedTuple, Optional, Tuple, Union
 
 from machine import Machine
@@ -26,7 +26,7 @@ def word_at(machine: Machine, address: int) -> Word:
 
 
 def follow(machine: Machine, address: int) -> int:
-    """Where an address leads over the forwards."""
+    """The address to which forwards lead from an address."""
     for _ in range(MOST_FORWARDS + 1):
         word = word_at(machine, address)
         if word.tag not in FORWARDS:
@@ -54,7 +54,7 @@ def block_at(machine: Machine, address: int) -> Object:
 
 
 def cons_at(machine: Machine, address: int) -> Object:
-    """A pair or a cell: the code of its first word tells which."""
+    """A pair or a cell, according to the code of its first word."""
     word, area = word_at(machine, address), machine.region(address).area
     need(word.tag != HEADER and word.code != SECOND, f"no cons at {address}")
     car = value_of(machine, word)
@@ -85,7 +85,7 @@ class Graph:
                 self.visit(value)
 
     def visit(self, value: Value) -> None:
-        """Numbers the object of a value, and those along the cdrs behind it."""
+        """Numbers the object of a value, and those that follow along its cdrs."""
         while not isinstance(value, str) and value not in self.number:
             found = object_at(self.machine, value)
             self.number[value] = len(self.objects)

@@ -52,7 +52,7 @@ def survivor_level(machine: Machine, region: Region) -> int:
 
 
 def check_forward(machine: Machine, address: int, word: Word) -> None:
-    """A forward leads within its area: one of a transport from an old region to where survivors go, the other within
+    """A forward leads within its area: one of a transport from an old region to the class of its survivors, the other within
     its class."""
     here, there = machine.region(address), machine.region(word.low)
     need(here.area == there.area, f"word {address}: a forward to another area")
@@ -64,7 +64,7 @@ def check_forward(machine: Machine, address: int, word: Word) -> None:
 
 
 def held_addresses(machine: Machine) -> Iterator[Tuple[str, bool, Word]]:
-    """Each register and each word of a live region with an address: what it is, whether it is left to scan, the word."""
+    """Each register and each word of a live region with an address: what it is, whether it is not yet scanned, the word."""
     for number, (word, left) in enumerate(zip(machine.registers, machine.registers_left)):
         if word.address is not None:
             yield f"register {number}", left, word
@@ -74,10 +74,10 @@ def held_addresses(machine: Machine) -> Iterator[Tuple[str, bool, Word]]:
 
 
 def check_addresses(machine: Machine) -> None:
-    """What is held leads to used words; only what is left to scan may lead to an old region."""
+    """What is held leads to used words; only units not yet scanned may lead to an old region."""
     for name, left, word in held_addresses(machine):
         need(word.low in machine.words, f"{name}: the address of no used word")
-        need(left or not machine.is_old(word.low), f"{name}: an old address behind the scan")
+        need(left or not machine.is_old(word.low), f"{name}: an old address in a scanned unit")
     for number, word in enumerate(machine.registers):
         need(word.tag not in FORWARDS, f"register {number}: a forward")
 
@@ -91,7 +91,7 @@ def check_forwards(machine: Machine) -> None:
 # -------------------------------------------------------------------- the scan
 
 def next_unit(machine: Machine) -> Optional[Tuple[str, int]]:
-    """The unit that comes next: on the page of the latest transport, else a register, else the lowest word."""
+    """The next unit: on the page of the latest transport, else a register, else the lowest word."""
     near = [address for address in machine.words_left if address // PAGE == machine.moved]
     if near:
         return "word", min(near)
@@ -101,16 +101,16 @@ def next_unit(machine: Machine) -> Optional[Tuple[str, int]]:
 
 
 def check_left(machine: Machine) -> None:
-    """What is left to scan: the registers from one on, and the last used words of pages in live regions."""
+    """The units not yet scanned: the registers from one on, and the last used words of pages in live regions."""
     count = sum(machine.registers_left) + len(machine.words_left)
-    need(machine.left == count, f"left {machine.left}, and {count} lines say that they are left")
+    need(machine.left == count, f"left {machine.left}, and {count} lines end in `left`")
     need((machine.left > 0) == (machine.phase == "running"), f"left {machine.left} in the phase {machine.phase}")
-    need(machine.registers_left == sorted(machine.registers_left), "a register is left, and one above it isn't")
+    need(machine.registers_left == sorted(machine.registers_left), "a register isn't yet scanned, and a later one is")
     for address in machine.words_left:
-        need(not machine.is_old(address), f"word {address} is left and in an old region")
+        need(not machine.is_old(address), f"word {address} ends in `left`, in an old region")
         behind = address + 1
         need(behind % PAGE == 0 or behind not in machine.words or behind in machine.words_left,
-             f"word {address} is left, and the one behind it isn't")
+             f"word {address} isn't yet scanned, and the next one is")
 
 
 def check_next(machine: Machine) -> None:
@@ -121,7 +121,7 @@ def check_next(machine: Machine) -> None:
 # ----------------------------------------------------------------------- pages
 
 def levels_on_pages(machine: Machine) -> Dict[int, Set[int]]:
-    """For each page with a used word the levels, 1 or more, of the addresses on it. Only what may stand there is asked:
+    """For each page with a used word the levels, 1 or more, of the addresses on it. Other words are ignored:
     an address in a free region has no level."""
     levels: Dict[int, Set[int]] = {}
     for address, word in machine.words.items():
@@ -148,7 +148,7 @@ def check_marks(machine: Machine) -> None:
 
 
 def check_calls(machine: Machine, failed: bool, freed: bool) -> None:
-    """Each write took a page to the device and each read took one back, but for one that failed. `freed`: a reclaim may
+    """Each write took a page to the device and each read took one back, except one that failed. `freed`: a reclaim may
     have freed pages that are out."""
     net = machine.writes - machine.reads
     wanted = (net - 1, net + 1) if failed else (net,)
@@ -200,20 +200,20 @@ def base_pages(machine: Machine) -> Set[int]:
 
 
 def check_flip(machine: Machine, pages: int) -> None:
-    """The machine behind a flip that answered `flipped PAGES`: all registers and the words of the base pages are left."""
+    """The machine after a flip that replied `flipped PAGES`: all registers and the words of the base pages aren't yet scanned."""
     found = base_pages(machine)
     need(len(found) == pages, f"flipped {pages}, and these are the base pages: {sorted(found)}")
     on_them = {address for address in machine.words if address // PAGE in found}
-    need(machine.words_left == on_them, "the words left aren't those of the base pages")
-    need(all(machine.registers_left), "a register isn't left behind the flip")
-    need(machine.moved is None, "a page of a transport, behind a flip")
+    need(machine.words_left == on_them, "the unscanned words aren't those of the base pages")
+    need(all(machine.registers_left), "a register is already scanned after the flip")
+    need(machine.moved is None, "a page of a transport, just after a flip")
     for number, region in machine.regions.items():
         need(region.old == machine.condemns(region), f"region {number}: condemned, and not old")
         need(region.old or region.mark == region.used, f"region {number}: the flip mark isn't the used end")
 
 
 def check_same_region(number: int, then: Region, machine: Machine) -> None:
-    """A region that was used at the flip: as long as the collection runs an old one stays as it was, and a live one
+    """A region that was used at the flip: as long as the collection runs an old one doesn't change, and a live one
     only gets more words."""
     now = machine.regions.get(number)
     if then.old and machine.phase == "idle":
@@ -224,7 +224,7 @@ def check_same_region(number: int, then: Region, machine: Machine) -> None:
 
 
 def check_since_flip(flipped: Machine, machine: Machine) -> None:
-    """A machine later than its latest flip has the regions and the marks of then. What is left is of a base page, or was
+    """A machine later than its latest flip has the regions and the marks of then. What isn't yet scanned is of a base page, or was
     placed later."""
     base = base_pages(flipped)
     for number, region in flipped.regions.items():
@@ -235,4 +235,4 @@ def check_since_flip(flipped: Machine, machine: Machine) -> None:
         need(region.mark == mark, f"region {number}: the flip mark is {region.mark}, and was {mark} at the flip")
     for address in machine.words_left:
         mark = machine.region(address).mark
-        need(address % REGION >= mark or address // PAGE in base, f"word {address} is left, and on no base page")
+        need(address % REGION >= mark or address // PAGE in base, f"word {address} isn't yet scanned, and on no base page")

@@ -1,4 +1,4 @@
-"""The machine that `lispm_inside` writes behind the replies, read by its grammar."""
+"""The machine that `lispm_inside` writes after the replies, read by its grammar."""
 import re
 from typing import Dict, FrozenSet, List, NamedTuple, Optional, Set, Tuple
 
@@ -133,7 +133,7 @@ def read_areas(reader: Reader) -> List[Area]:
 
 
 def read_regions(reader: Reader) -> Tuple[Dict[int, Region], List["re.Match[str]"]]:
-    """The regions, and the lines of their words: each region's behind it, one for each address below its used end."""
+    """The regions, and the lines of their words: each region's after it, one for each address below its used end."""
     regions, words, order = {}, [], []
     for line in iter(lambda: reader.take("region"), None):
         number, area, level, age, used, mark = line.groups()
@@ -172,7 +172,7 @@ def read_machine(lines: List[str]) -> Machine:
     tags, rows = read_pages(reader)
     writes, reads = numbers(reader.one("calls"))
     reader.one("end")
-    need(reader.at == len(lines), "lines behind end-inside")
+    need(reader.at == len(lines), "lines after end-inside")
     return Machine(space, capacity, areas, phase[1] or phase[2], condemned, left,
                    (unit[1], int(unit[2])) if unit[1] else None, int(moved[1]) if moved[1] else None,
                    [read_word(line[2]) for line in registers], [bool(line[3]) for line in registers],

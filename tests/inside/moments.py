@@ -29,7 +29,7 @@ class Input(NamedTuple):
         return self._replace(commands=self.commands[:count])
 
     def probed(self) -> "Input":
-        """The input with `stats` and `dump` behind its commands."""
+        """The input with `stats` and `dump` after its commands."""
         return self._replace(commands=self.commands + PROBES)
 
     def collects_by_itself(self) -> bool:
@@ -114,7 +114,7 @@ def may_free(given: Input, replies: List[str]) -> bool:
 
 
 def judge_shown(given: Input, shown: Shown, failed: bool, probes: List[str]) -> None:
-    """Judges a machine by itself, and beside what `stats` and `dump` reply there (`fault` tells nothing)."""
+    """Judges a machine by itself, and by what `stats` and `dump` reply there (from `fault` nothing follows)."""
     machine = shown.machine
     check_world(given, machine)
     graph = judge(machine, failed, may_free(given, shown.replies))
@@ -130,7 +130,7 @@ def latest_flip(answers: List[List[str]]) -> Optional[int]:
 
 
 def judge_flip(programs: Programs, given: Input, shown: Shown) -> None:
-    """Judges the machine behind the latest flip, and the later one beside it if no other flip can have come."""
+    """Judges the machine after the latest flip, and compares the later one with it if there can't have been another flip."""
     answers = answers_of(given, shown.replies)
     at = latest_flip(answers)
     if at is None:
@@ -142,7 +142,7 @@ def judge_flip(programs: Programs, given: Input, shown: Shown) -> None:
 
 
 def judge_moment(programs: Programs, given: Input) -> Machine:
-    """Judges what is shown behind the last command of an input that is answered whole."""
+    """Judges what is shown after the last command of an input of which every command is answered."""
     shown = show(programs, given)
     replies = reply_lines(programs, given.probed())
     need(replies[:len(shown.replies)] == shown.replies, "the replies aren't lispm's")
@@ -164,8 +164,8 @@ def came_to(shown: Shown, failing: int) -> bool:
 
 
 def judge_failing(programs: Programs, given: Input, failing: int) -> bool:
-    """Judges a run in which one page call fails: behind its last command, and where the call failed. Answers whether
-    the run came to that call."""
+    """Judges a run in which one page call fails, after its last command and after the one in which it failed. Returns whether
+    the run made that call."""
     words = ["--fail", str(failing)]
     shown, probed = show(programs, given, words), show(programs, given.probed(), words)
     at, failed = fault_of(answers_of(given, shown.replies)), came_to(shown, failing)
@@ -179,13 +179,13 @@ def judge_failing(programs: Programs, given: Input, failing: int) -> bool:
 
 
 def judge_fault(programs: Programs, given: Input, at: int, words: List[str]) -> None:
-    """Judges the machine behind the command that met the fault: it has the graph and, if no collection can have ended
+    """Judges the machine after the command in which the call failed: it has the graph and, if no collection can have ended
     there, the accounts of before that command, and the replies were lispm's."""
     shown, before = show(programs, given.cut(at + 1), words), given.cut(at)
     replies = reply_lines(programs, before.probed())
     count = len(shown.replies) - 1
     need(replies[:count] == shown.replies[:count], "the replies before the fault aren't lispm's")
-    need(shown.replies[count] == "fault", "no fault where the input is cut behind it")
+    need(shown.replies[count] == "fault", "no fault if the input is cut after it")
     graph = judge(shown.machine, True, may_free(given, shown.replies))
     stats, dump = replies[count:count + len(given.names)], replies[count + len(given.names):]
     need(dump == graph.dump(given.names), "the command that met the fault changed the graph")
@@ -201,7 +201,7 @@ def same_bytes(programs: Programs, data: bytes) -> None:
         return
     at = len(plain.output)
     need(ended.output[:at] == plain.output, "the replies aren't lispm's")
-    need(ended.output[at:].startswith(HEAD.encode() + b"\n"), "no machine behind the replies")
+    need(ended.output[at:].startswith(HEAD.encode() + b"\n"), "no machine after the replies")
     judge(shown_by(ended.output).machine, False, True)
 
 

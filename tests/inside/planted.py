@@ -61,7 +61,7 @@ FLIPPED = FULL.replace(b"car 3 1\nscavenge 2\n", b"")
 
 
 class Scene(NamedTuple):
-    """A moment of an input: what it shows, what `stats` and `dump` reply there, and the machine behind the flip."""
+    """A moment of an input: what it shows, what `stats` and `dump` reply there, and the machine after the flip."""
     given: Input
     replies: Lines
     lines: Lines
@@ -81,7 +81,7 @@ def scene(programs: Programs, data: bytes) -> Scene:
 
 
 def judge_lines(there: Scene, lines: Lines) -> None:
-    """All that is asked of a picture of this moment."""
+    """All conditions on the output at this moment."""
     machine = read_machine(lines)
     judge_shown(there.given, Shown(there.replies, machine), False, there.probes)
     check_since_flip(there.flipped, machine)
@@ -90,7 +90,7 @@ def judge_lines(there: Scene, lines: Lines) -> None:
 
 
 def judge_alone(there: Scene, lines: Lines) -> None:
-    """What is asked by the words alone."""
+    """The conditions on the words themselves."""
     judge(read_machine(lines), False, True)
 
 
@@ -206,7 +206,7 @@ FAULTS: Dict[str, Fault] = {
     "a line left out": lines_out,
 }
 
-# These are told by the words alone, without a dump, stats or the flip before.
+# These are found by the words alone, without a dump, stats or the flip before.
 ALONE = ("a region left out", "left more by one", "left less by one", "next another", "next none", "a row missing",
          "a row with a level more", "an account more by one", "an account less by one", "over, and not running", "a page on the device missing",
          "a line twice")

@@ -1,4 +1,4 @@
-"""A word of the machine, as its nine hexadecimal digits say it (docs/RULES.md, Words)."""
+"""A word of the machine, from its nine hexadecimal digits (docs/RULES.md, Words)."""
 from typing import NamedTuple, Optional
 
 from wrong import Wrong, need
@@ -23,12 +23,12 @@ class Word(NamedTuple):
 
     @property
     def fields(self) -> int:
-        """The number of fields that a header tells."""
+        """The number of fields in a header."""
         return self.low % 2048
 
     @property
     def block_code(self) -> int:
-        """The code that a header tells."""
+        """The code in a header."""
         return self.low // 2048
 
 

@@ -1,11 +1,11 @@
-"""What a judge says of a picture that can't be right."""
+"""How a judge reports an output that can't be right."""
 
 
 class Wrong(Exception):
-    """Something that a picture says can't be so; the text tells what."""
+    """Something in an output is impossible; the text says what."""
 
 
 def need(holds: object, what: str) -> None:
-    """Refuses the picture unless this holds."""
+    """Rejects the output unless this holds."""
     if not holds:
         raise Wrong(what)

@@ -62,6 +62,19 @@ class Build(Tree):
         self.assertNotIn("Traceback", err)
         self.assertIn("by-hand", self.run_words("bin/lispm", "replay", LISPM_STALE="run").out)
 
+    def test_a_signal_to_end(self) -> None:
+        """TERM, to bin/lispm or bin/build alone, ends the build as ctrl-C does."""
+        for words in (["bin/lispm", "replay"], ["bin/build"]):
+            self.make_stale()
+            count = len(self.calls())
+            process = self.start(*words, RT_SLEEPS="30")
+            while len(self.calls()) == count:
+                time.sleep(0.05)
+            time.sleep(0.2)
+            process.terminate()
+            _, err = process.communicate(timeout=20)
+            self.assertEqual((process.returncode, err.splitlines()[-1]), (143, "build: stopped; what is proved is kept"))
+
     def test_ctrl_c_in_a_build(self) -> None:
         """bin/build is interrupted."""
         self.interrupted("bin/build")
@@ -69,6 +82,13 @@ class Build(Tree):
     def test_ctrl_c_in_the_build_of_a_start(self) -> None:
         """bin/lispm is interrupted while it builds."""
         self.interrupted("bin/lispm", "replay")
+
+    def test_a_folder_that_cannot_be_written(self) -> None:
+        """One line says which."""
+        self.write("bin/out", "no folder")
+        self.write("crates/low/out", "no folder")
+        ended = self.run_words("bin/build")
+        self.assertEqual((ended.status, ended.err.splitlines()[-1].partition("/crates")[2]), (1, "/low/out: File exists"))
 
     def test_words_of_a_build(self) -> None:
         """Help, and a crate that there isn't."""

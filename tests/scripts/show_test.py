@@ -1,6 +1,7 @@
 """examples/show and tests/run."""
 import os
 import shutil
+import subprocess
 
 from tree import Tree
 
@@ -94,10 +95,19 @@ class Show(Tree):
         self.assertEqual(ended.out.splitlines()[-1], "1 of 2 right")
 
     def test_many_sessions_in_one_trial(self) -> None:
-        """One compilation for all of them; one that passes the limits is told."""
+        """One compilation for all of them, and none at the next trial."""
+        for _ in range(2):
+            ended = self.run_words("examples/show", "--trial", "mine", "shared.world")
+            self.assertEqual((ended.status, [line.split()[:2] for line in self.calls()]), (0, [["lispm:", "try"]]))
+            self.assertEqual([line for line in ended.out.splitlines() if line.startswith("==")], ["== mine", "== shared.world"])
+            self.assertIn("    set 0 5                  trial: replay\n", ended.out)
+            self.assertIn("print:\n    trial: print\n", ended.out)
+
+    def test_many_sessions_in_one_trial_of_rt(self) -> None:
+        """A kit that leaves no program compiles once for all of them; one that passes the limits is told."""
         self.write("examples/much", SESSION.replace("set 0 5", "too-much"))
-        ended = self.run_words("examples/show", "--trial", "mine", "shared.world", "much")
-        self.assertEqual([line.split()[:3] for line in self.calls()], [["lispm:", "try", "--cases"]])
+        ended = self.run_words("examples/show", "--trial", "mine", "shared.world", "much", RT_KEEPS="no")
+        self.assertEqual([line.split()[:3] for line in self.calls()][1:], [["lispm:", "try", "--cases"]])
         self.assertEqual([line for line in ended.out.splitlines() if line.startswith("==")], ["== mine", "== shared.world", "== much"])
         self.assertIn("    words: print \n    lispm-world 2\n", ended.out)
         self.assertEqual((ended.status, ended.err.splitlines()[-1]), (70, "show: much: the trial gave no answer within its limits"))
@@ -106,7 +116,56 @@ class Show(Tree):
         """One line, and the status that bin/lispm has."""
         self.without_rt()
         ended = self.run_words("examples/show", "--trial", "mine")
-        self.assertEqual((ended.status, len(ended.err.splitlines())), (69, 1))
+        self.assertEqual((ended.status, ended.out, ended.err.count("needs the command rt")), (69, "", 1))
+
+    def test_nothing_is_proved(self) -> None:
+        """If lispm isn't built that is said, with what there is to do; an old program is told."""
+        os.utime(self.path("crates/lispm/out/lispm"), (1_000_000_005,) * 2)
+        os.utime(self.path("crates/low/src/main.rt"), (1_000_000_009,) * 2)
+        ended = self.run_words("examples/show", "mine")
+        self.assertEqual((ended.status, ended.err), (0, "show: the program that runs is older than crates/low/src/main.rt\n"))
+        os.remove(self.path("crates/lispm/out/lispm"))
+        ended = self.run_words("examples/show", "mine")
+        self.assertEqual((ended.status, ended.out, ended.err.splitlines()[0].partition(":")[0]), (69, "", "show"))
+        self.assertIn("--trial runs the sources unproved", ended.err)
+        self.assertEqual(self.calls(), ["replay"])
+
+    def test_a_session_from_a_page(self) -> None:
+        """Indented, with blank lines, remarks and replies: these are compared."""
+        right = self.run_words("examples/show", "mine").out
+        remarks = right.replace("wrong-type", "wrong-type   a remark").replace("    trace", "    trace\n\n    ")
+        for text in (right, remarks, "".join(line[4:] if line.startswith("    ") else f"; {line}" for line in right.splitlines(True))):
+            self.write("examples/pasted", text)
+            ended = self.run_words("examples/show", "pasted")
+            self.assertEqual((ended.status, ended.out.splitlines()[-1]), (0, "4 replies are as in the file, 0 differ"), text)
+        self.write("examples/pasted", right.replace("wrong-type", "nil").replace("end-world", "end"))
+        ended = self.run_words("examples/show", "pasted")
+        self.assertEqual((ended.status, ended.out.splitlines()[-1]), (1, "2 replies are as in the file, 2 differ"))
+        self.assertIn("wrong-type       the file has: nil\n", ended.out)
+        self.assertIn("end-world        the file has: end\n", ended.out)
+        plain = self.run_words("examples/show", "--plain", "pasted").out
+        self.assertEqual(plain, self.run_words("examples/show", "--plain", "mine").out)
+
+    def test_two_spaces_in_a_command(self) -> None:
+        """Are no reply: the command is refused as it is."""
+        for line in ("set  0 5", "set 0  5", "set 0 5 "):
+            self.write("examples/odd", SESSION.replace("set 0 5", line))
+            self.assertIn(f"\n{line}\n", self.run_words("examples/show", "--plain", "odd").out)
+
+    def test_comments_in_utf_8(self) -> None:
+        """Are written as they are, and so is any other byte."""
+        for title in ("Für müde".encode(), b"F\xfcr"):
+            with open(self.path("examples/mine"), "wb") as file:
+                file.write(SESSION.replace("A title.", "?").encode().replace(b"?", title, 1))
+            shown = subprocess.run([self.path("examples/show"), "mine"], env=self.environment(), capture_output=True)
+            self.assertEqual((shown.returncode, shown.stdout.split(b"\n")[0]), (0, title))
+
+    def test_a_full_disk(self) -> None:
+        """One line, and status 1."""
+        with open("/dev/full", "w") as full:
+            for words in (["--list"], ["mine"], ["--plain", "mine"]):
+                ended = subprocess.run([self.path("examples/show"), *words], env=self.environment(), stdout=full, stderr=subprocess.PIPE)
+                self.assertEqual((ended.returncode, ended.stderr), (1, b"show: standard output: No space left on device\n"))
 
 
 class Run(Tree):
@@ -141,8 +200,8 @@ class Run(Tree):
 
     def test_a_trial_leaves_out_what_passes_its_limits(self) -> None:
         """One compilation a program; what has no answer is named and counted."""
-        ended = self.run_words("tests/run", "--trial")
-        self.assertEqual([line.split()[:3] for line in self.calls()], [["lispm:", "try", "--cases"], ["lispm_bands:", "try", "--cases"]])
+        ended = self.run_words("tests/run", "--trial", RT_KEEPS="no")
+        self.assertEqual([line.split()[:3] for line in self.calls()][1::2], [["lispm:", "try", "--cases"], ["lispm_bands:", "try", "--cases"]])
         self.assertEqual((ended.status, ended.out.splitlines()[-1]), (1, "2 passed, 2 failed, 2 left out"))
         self.assertEqual(ended.out.count("much: left out, it passes the limits of a trial\n"), 2)
 

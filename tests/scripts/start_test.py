@@ -1,6 +1,7 @@
 """Starting a program: built, stale, missing, or on trial."""
 import os
 import pty
+import signal
 import subprocess
 import time
 
@@ -48,7 +49,7 @@ class Start(Tree):
         for words in (["bin/lispm", "replay"], ["bin/lispm", "--trial", "replay"], ["bin/lispm_bands"], ["bin/build", "lispm"]):
             ended = self.run_words(*words)
             self.assertEqual((ended.status, ended.out), (69, ""))
-            self.assertRegex(ended.err.splitlines()[-1], r"^\w+: needs the command rt \(rattle-kit-\w+\), see README$")
+            self.assertRegex(ended.err.splitlines()[-1], r"^\w+: needs the command rt \(rattle-kit-\w+ or rattle-kit-\w+\), see README$")
 
     def test_a_proof_is_said_before_it_begins(self) -> None:
         """What isn't built is proved first; that, and how long it takes, is said."""
@@ -90,64 +91,141 @@ class Start(Tree):
 class Trial(Tree):
     """bin/lispm --trial."""
 
+    COMPILED = ["lispm: try --seconds 2 -- exercise --number=1 --count=1000000"]
+    INPUT = "lispm-world 1\nspace 5 32 1 1 0\narea a dynamic 9\ntrace\nend\n"
+
     def test_trial_may_stand_anywhere(self) -> None:
-        """Before, between and behind the other words."""
+        """Before, between and after the other words. The sources are compiled once."""
         for words in (["--trial", "why", "--object", "2"], ["why", "--trial", "--object", "2"], ["why", "--object", "2", "--trial"]):
-            ended = self.run_words("bin/lispm", *words)
-            self.assertEqual(ended.out.splitlines()[0], "words: why --object 2")
-            self.assertIn("nothing of it is proved: about a minute to compile, then at most 60 s", ended.err)
-            self.assertIn("1 MiB", ended.err)
-        self.assertEqual(self.calls(), ["lispm: try -- why --object 2"] * 3)
+            ended = self.run_words("bin/lispm", *words, data=self.INPUT)
+            self.assertEqual(ended.out.splitlines()[0], "trial: why --object 2")
+            self.assertEqual(ended.out.partition("\nSigIgn")[2].partition("\n")[2], self.INPUT)
+            self.assertIn("a trial, nothing of it is proved", ended.err)
+        self.assertEqual(self.calls(), self.COMPILED)
 
     def test_a_trial_of_a_file(self) -> None:
-        """MODE FILE works under --trial, too."""
-        self.write("input", "from the file\n")
-        ended = self.run_words("bin/lispm", "replay", "input", "--trial", data="not this")
-        self.assertEqual(ended.out.splitlines(), ["words: replay", "from a file", "from the file"])
+        """MODE FILE works under --trial, too, also if nothing has to be compiled."""
+        self.write("input", self.INPUT)
+        for _ in range(2):
+            ended = self.run_words("bin/lispm", "replay", "input", "--trial", data="not this")
+            self.assertEqual(ended.out.splitlines()[0::2], ["trial: replay", *self.INPUT.splitlines()[0::2]])
+
+    def test_other_sources_are_compiled_again(self) -> None:
+        """What a program is made of counts, and nothing else."""
+        for path, count in (("crates/low/src/main.rt", 2), ("crates/low/src/main.rt", 3), ("crates/lispm_bands/src/main.rt", 3)):
+            self.run_words("bin/lispm", "--trial", "replay", data=self.INPUT)
+            self.write(path, f"// {count}")
+            self.run_words("bin/lispm", "--trial", "replay", data=self.INPUT)
+            self.assertEqual(self.calls(), self.COMPILED * count)
+
+    def test_few_programs_are_kept(self) -> None:
+        """Only the latest of a name."""
+        for count in range(6):
+            self.write("crates/low/src/main.rt", f"// {count}")
+            self.run_words("bin/lispm", "--trial", "replay", data=self.INPUT)
+        self.run_words("bin/lispm_bands", "--trial")
+        kept = sorted(os.listdir(self.path(".cache/lispm-trials")))
+        self.assertEqual([name.split("-")[0] for name in kept], ["lispm"] * 4 + ["lispm_bands"])
 
     def test_a_slow_pipe_loses_nothing(self) -> None:
-        """Standard input is read to its end before the trial begins, and handed in as a file."""
+        """Standard input is read to its end before the sources are compiled."""
         process = self.start("bin/lispm", "--trial", "replay")
-        process.stdin.write("first\n")
+        process.stdin.write(self.INPUT[:20])
         process.stdin.flush()
         time.sleep(0.5)
         self.assertEqual(self.calls(), [])
-        out, _ = process.communicate("last\n", timeout=20)
-        self.assertEqual(out.splitlines(), ["words: replay", "from a file", "first", "last"])
+        out, _ = process.communicate(self.INPUT[20:], timeout=20)
+        self.assertTrue(out.endswith("\n" + self.INPUT), out)
+
+    def test_a_kept_program_answers_at_once(self) -> None:
+        """It takes the place of the script, so a pipe needn't end."""
+        self.run_words("bin/lispm", "--trial", "replay", data=self.INPUT)
+        process = self.start("bin/lispm", "--trial", "replay")
+        self.assertEqual(process.stdout.readline(), "trial: replay\n")
+        process.communicate(timeout=20)
 
     def test_an_exercise_reads_nothing(self) -> None:
         """So a trial of one doesn't wait for standard input."""
         process = self.start("bin/lispm", "exercise", "--number=1", "--count=1", "--trial")
-        self.addCleanup(process.stdin.close)
-        self.assertEqual(process.wait(20), 0)
-        self.assertIn("words: exercise", process.stdout.read())
-        process.stdout.close()
-        process.stderr.close()
+        self.assertEqual(process.stdout.readline(), "trial: exercise --number=1 --count=1\n")
+        process.communicate(timeout=20)
 
     def test_a_terminal_is_read(self) -> None:
-        """What is typed on a terminal, up to ctrl-D."""
+        """What is typed on a terminal, up to ctrl-D; and the seconds are shown."""
         child, terminal = pty.fork()
         if child == 0:
-            os.execve(self.path("bin/lispm"), ["lispm", "--trial", "replay"], self.environment())
+            os.execve(self.path("bin/lispm"), ["lispm", "--trial", "replay"], self.environment(RT_SLEEPS="1.5"))
         written = b""
-        for typed, wanted in ((b"typed\n\x04", b"ctrl-D"), (b"", b"from a file\r\ntyped")):
+        for typed, wanted in ((self.INPUT.encode() + b"\x04", b"ctrl-D"), (b"", b"compiling, 1 s"), (b"", b"trial: replay")):
             while wanted not in written:
                 written += os.read(terminal, 1000)
             os.write(terminal, typed)
         self.assertEqual(os.waitpid(child, 0)[1], 0)
         os.close(terminal)
 
-    def test_a_trial_without_an_answer(self) -> None:
-        """Its status isn't one of the program's; a status of the program is handed on."""
-        for last, status in (("run=no-answer status=6 proved=no", 70), ("run=fault status=4 proved=no", 70),
-                             ("error: refused status=1", 70), ("run=ended status=2 runners=1 proved=no", 2)):
-            ended = self.run_words("bin/lispm", "--trial", "replay", RT_TRIAL=last)
-            self.assertEqual(ended.status, status)
-            self.assertEqual("the trial gave no answer" in ended.err, status == 70)
-            self.assertEqual(last in ended.err, status == 70)
+    def test_ctrl_c_ends_what_was_begun(self) -> None:
+        """One signal, and time to end: rt isn't killed, and what it has started is ended. Nothing half is kept."""
+        for number, status in ((signal.SIGINT, 130), (signal.SIGTERM, 143)):
+            process = self.start("bin/lispm", "exercise", "--number=1", "--count=1", "--trial", RT_SLEEPS="30")
+            begun = time.time()
+            while len(self.calls()) % 2 == 0:
+                time.sleep(0.05)
+            time.sleep(0.3)
+            os.killpg(process.pid, number)
+            _, err = process.communicate(timeout=20)
+            self.assertLess(time.time() - begun, 20)
+            self.assertEqual((process.returncode, "stopped" in err), (status, number == signal.SIGINT))
+            self.assertEqual(self.calls()[-1], "lispm: ended")
+            self.assertEqual(os.listdir(self.path(".cache/lispm-trials")), [])
+
+    def test_an_input_that_is_refused_is_not_compiled_for(self) -> None:
+        """The error line of an input that is refused before its first command is written at once."""
+        for mode, data, told in (("replay", "", "error line 1: not a world"), ("replay", "# A page\n", "error line 1: not a world"),
+                                 ("replay", "\ufeff" + self.INPUT, "error line 1: not a world"),
+                                 ("replay", self.INPUT.replace("\n", "\r\n"), "error line 1: not a world"),
+                                 ("replay", self.INPUT.replace("area a", "area A"), "error line 3: bad name"),
+                                 ("replay", self.INPUT.replace(" 5 32", " 4 32"), "error line 2: bad number"),
+                                 ("print", "sexpr-world 1\n", "error line 1: not a world"),
+                                 ("compile", self.INPUT, "error line 1: not a world")):
+            ended = self.run_words("bin/lispm", "--trial", mode, data=data)
+            self.assertEqual((ended.status, ended.out), (2, told + "\n"))
+            self.assertIn("tools/check FILE says more", ended.err)
+        self.assertEqual(self.calls(), [])
+        for mode, data in (("replay", self.INPUT.replace("end", "conz\nend")), ("compile", "sexpr-world 1\n")):
+            self.assertIn(f"trial: {mode}", self.run_words("bin/lispm", "--trial", mode, data=data).out)
+
+    def test_sources_that_do_not_compile(self) -> None:
+        """What rt says is told, and nothing is kept."""
+        for last in ("error: refused\nrun=none proved=no", "rt: no crate"):
+            ended = self.run_words("bin/lispm", "--trial", "replay", data=self.INPUT, RT_TRIAL=last)
+            self.assertEqual((ended.status, ended.out), (70, ""))
+            self.assertIn(last, ended.err)
+            self.assertEqual(os.listdir(self.path(".cache/lispm-trials")), [])
+
+    def test_a_kit_that_leaves_no_program(self) -> None:
+        """Then `rt try` runs the trial."""
+        ended = self.run_words("bin/lispm", "--trial", "replay", data=self.INPUT, RT_KEEPS="no")
+        self.assertEqual((ended.status, ended.out), (0, "words: replay \n" + self.INPUT))
+        self.assertEqual([line.split()[:3] for line in self.calls()[1:]], [["lispm:", "try", "--cases"]])
+
+    def test_another_kit_is_told(self) -> None:
+        """Only one that isn't known."""
+        for kit, is_told in (("rattle-kit-13b x", False), ("rattle-kit-13f x", False), ("rattle-kit-9 x", True)):
+            self.write("crates/low/src/main.rt", kit)
+            ended = self.run_words("bin/lispm", "--trial", "replay", data=self.INPUT, RT_KIT=kit)
+            self.assertEqual("this is rattle-kit-9, and .ci/run has passed with rattle-kit-13b and" in ended.err, is_told)
 
     def test_a_trial_has_a_limit_of_input(self) -> None:
-        """More than a trial reads is told, and not cut."""
+        """More than the first trial reads is told, and not cut."""
         ended = self.run_words("bin/lispm", "--trial", "replay", data="x" * (65 << 20))
         self.assertEqual((ended.status, self.calls()), (70, []))
         self.assertIn("at most 64 MiB", ended.err)
+
+    def test_an_old_python(self) -> None:
+        """One line says what is needed."""
+        for path in ("bin/lispm", "bin/lispm_bands", "bin/lispm_inside", "tools/check", "examples/show", "bin/build"):
+            code = (f"import sys; sys.version_info = (3, 6, 9); sys.argv = [{path!r}]; __file__ = {path!r}; "
+                    f"sys.path.insert(0, {os.path.dirname(path)!r}); exec(open({path!r}).read())")
+            ended = subprocess.run(["python3", "-c", code], cwd=self.top, env=self.environment(), capture_output=True, text=True)
+            self.assertEqual((ended.returncode, len(ended.stderr.splitlines())), (69, 1), ended.stderr)
+            self.assertIn("needs Python 3.9, and this is 3.6", ended.stderr)

@@ -11,11 +11,11 @@ from typing import List, NamedTuple, Optional
 HERE = os.path.dirname(os.path.realpath(__file__))
 TOP = os.path.dirname(os.path.dirname(HERE))
 COPIED = ["bin", "examples", "tools", "man", "tests/run", "tests/scripts", "bench/gate", "VERSION", "CHANGELOG.md", "LICENSE-MIT",
-          "LICENSE-APACHE"]
-CRATES = {"low": "", "lispm": "low", "lispm_bands": "low", "lispm_inside": "low"}
+          "LICENSE-APACHE", "crates/lispm_c/lispm.h", "crates/lispm_c/lispm.pc"]
+CRATES = {"low": "", "lispm": "low", "lispm_bands": "low", "lispm_inside": "low", "lispm_c staticlib": "low"}
 # The tree's own commands: what a shell script and Python want, and no `rt`.
 COMMANDS = ["python3", "sh", "bash", "env", "git", "sed", "ls", "cat", "grep", "sleep", "dirname", "readlink", "basename", "mkdir",
-            "chmod", "tr", "head"]
+            "chmod", "tr", "head", "mv"]
 OLD = 1_000_000_000
 
 # In the background SIGINT is ignored; the programs that are tested here have to hear it.
@@ -41,9 +41,10 @@ class Tree(unittest.TestCase):
         for path in COPIED:
             self.copy(path)
         self.write("crates.txt", "# tree: crates of a test\n" + "".join(f"{name}: {below}\n" for name, below in CRATES.items()))
-        for name in CRATES:
+        names = [row.split()[0] for row in CRATES]
+        for name in names:
             self.write(f"crates/{name}/src/main.rt", "")
-        for path in ["crates.txt"] + [f"crates/{name}/src/main.rt" for name in CRATES]:
+        for path in ["crates.txt"] + [f"crates/{name}/src/main.rt" for name in names]:
             os.utime(self.path(path), (OLD, OLD))
         self.commands = self.path("commands")
         os.mkdir(self.commands)
@@ -81,6 +82,10 @@ class Tree(unittest.TestCase):
         """Puts a program where a build puts it."""
         os.makedirs(self.path(f"crates/{name}/out"), exist_ok=True)
         shutil.copy(os.path.join(HERE, "program"), self.path(f"crates/{name}/out/{name}"))
+
+    def build_library(self) -> None:
+        """Puts something in the place of the C library."""
+        self.write("crates/lispm_c/out/liblispm.a", "!<arch>\n")
 
     def make_stale(self, name: str = "lispm") -> None:
         """A built program that is older than a source."""

@@ -27,7 +27,7 @@ CAUSES = [
     (["why", "2"], "without '#': --object 2"),
     (["why", "#2"], "without '#': --object 2"),
     (["why", "--object", "#2"], "--object is the number without '#': --object 2"),
-    (["why", "--object", "1", "--object", "2"], "--object comes twice"),
+    (["why", "--object", "1", "--object", "2"], "--object occurs twice"),
     (["replay", "--object", "2"], "replay takes no --object"),
     (["replay", "no/such"], "replay reads standard input: use <FILE"),
     (["replay", "examples"], "'examples' is a folder"),
@@ -73,7 +73,7 @@ class Words(Tree):
 
     def test_help_is_told_at_once(self) -> None:
         """Help in each form, also beside --trial, on a tree where nothing is built."""
-        for given in (["--help"], ["-h"], ["help"], ["replay", "--help"], ["--trial", "--help"], ["-h", "--trial"], ["--trial", "help"]):
+        for given in (["--help"], ["-h"], ["help"], ["replay", "--help"], ["help", "replay"], ["--trial", "--help"], ["-h", "--trial"], ["--trial", "help"]):
             ended = self.run_words("bin/lispm", *given)
             self.assertEqual((ended.status, ended.out, ended.err), (0, self.read("bin/lispm.usage"), ""), given)
         self.assertEqual(self.run_words("bin/lispm_bands", "--help").out, self.read("bin/lispm_bands.usage"))
@@ -84,7 +84,7 @@ class Words(Tree):
         version = self.read("VERSION").strip()
         for given in (["--version"], ["-V"], ["--trial", "--version"]):
             ended = self.run_words("bin/lispm", *given)
-            self.assertEqual((ended.status, ended.out), (0, f"lispm {version}, not built yet\nrattle-kit-test\n"))
+            self.assertEqual((ended.status, ended.out), (0, f"lispm {version}, not built yet\nrattle-kit-13f\n"))
         self.build_by_hand()
         self.assertIn("proved and built", self.run_words("bin/lispm", "--version").out)
         self.make_stale()
@@ -112,7 +112,7 @@ class Words(Tree):
         for at, (given, cause) in enumerate(CAUSES):
             self.assert_refused(self.run_words("bin/lispm", *given, *["--trial"] * (at % 4 == 0)), cause)
         self.assert_refused(self.run_words("bin/lispm_bands", "VERSION"), "use lispm_bands <FILE")
-        self.assert_refused(self.run_words("bin/lispm_bands", "--"), "it takes no words")
+        self.assert_refused(self.run_words("bin/lispm_bands", "--"), "it takes no arguments")
 
     def test_a_program_without_modes(self) -> None:
         """A row for a program with an option alone is all that words.py wants."""

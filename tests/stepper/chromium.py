@@ -8,7 +8,7 @@ import shutil
 import subprocess
 import tempfile
 import time
-from typing import Any, Optional
+from typing import Any, Optional, Sequence
 
 SECONDS = 60
 KEYS = {"ArrowRight": 39, "ArrowLeft": 37, "Home": 36, "End": 35, "Tab": 9, "Enter": 13}
@@ -34,12 +34,12 @@ def raised(fd: int) -> int:
 class Chromium:
     """A browser with one page. Use it by `with`."""
 
-    def __init__(self, program: str):
+    def __init__(self, program: str, more: Sequence[str] = ()):
         self.folder = tempfile.mkdtemp()
         reads, self.writer = map(raised, os.pipe())
         self.reader, writes = map(raised, os.pipe())
         words = ["--headless", "--no-sandbox", "--disable-gpu", "--hide-scrollbars", "--force-device-scale-factor=1",
-                 "--remote-debugging-pipe", f"--user-data-dir={self.folder}", "about:blank"]
+                 "--remote-debugging-pipe", f"--user-data-dir={self.folder}", *more, "about:blank"]
         line = f'exec "$0" "$@" {IN}<&{reads} {OUT}>&{writes}'
         self.process = subprocess.Popen(["bash", "-c", line, program, *words], pass_fds=(reads, writes),
                                         stdout=subprocess.DEVNULL, stderr=subprocess.DEVNULL)

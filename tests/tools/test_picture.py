@@ -6,7 +6,7 @@ import unittest
 
 from support import TOOLS, TOP, with_files
 
-from lib import program
+from lib import node, program
 
 SESSION = os.path.join(TOP, "examples", "collection")
 PICTURES = os.path.join(TOP, "tests", "inside", "collection")
@@ -15,9 +15,11 @@ LISPM = program.place("lispm", None)
 needs_inside = unittest.skipUnless(program.is_there("lispm_inside", None), "lispm_inside isn't built")
 needs_lispm = unittest.skipUnless(program.is_there("lispm", None), "lispm isn't built")
 
+needs_node = unittest.skipUnless(node.find(), "node 18 or later isn't there")
 
-def ended(*words: str, given: bytes = b"", inside: str = INSIDE):
-    environment = {**os.environ, "LISPM_INSIDE": inside, "LISPM": LISPM}
+
+def ended(*words: str, given: bytes = b"", inside: str = INSIDE, **more: str):
+    environment = {**os.environ, "LISPM_INSIDE": inside, "LISPM": LISPM, **{name.upper(): value for name, value in more.items()}}
     return subprocess.run(list(words), input=given, env=environment, stdout=subprocess.PIPE, stderr=subprocess.PIPE, cwd=TOOLS)
 
 
@@ -68,11 +70,25 @@ class Forms(unittest.TestCase):
             self.assertLessEqual(max(map(len, text.split("\n"))), 80, name)
 
     @needs_inside
+    @needs_node
     def test_a_drawing_has_its_text(self):
         drawing = picture("-T", "svg", "--after", "6", SESSION)
         self.assertTrue(drawing.startswith("<svg "))
         self.assertIn("<desc>behind command 6: car 3 1 -&gt; 1", drawing)
         self.assertEqual(drawing.count("marker-end"), 2)
+
+    @needs_inside
+    @needs_node
+    def test_moments_side_by_side(self):
+        below, beside = (picture("-T", "svg", *more, "--after", "5,6", SESSION) for more in ([], ["--beside"]))
+        self.assertEqual([re.findall(r'<g class="moment" transform="translate\(([0-9.]+) ([0-9.]+)\)', one)[1].count("0") for one in (below, beside)], [1, 1])
+        wide = [float(re.search(r'<svg [^>]*width="([0-9.]+)"', one).group(1)) for one in (below, beside)]
+        self.assertGreater(wide[1], 1.5 * wide[0])
+
+    @needs_inside
+    def test_a_drawing_without_node(self):
+        found = ended("./picture", "-T", "svg", SESSION, node="/nowhere/node")
+        self.assertEqual((found.returncode, found.stderr), (69, b"picture: a drawing needs node 18 or later: apt-get install nodejs\n"))
 
     @needs_inside
     def test_a_fault_is_shown(self):
@@ -98,7 +114,6 @@ class Objects(unittest.TestCase):
         found = ended("./objects", "--after", "6", SESSION).stdout.decode()
         self.assertIn("#0  work cons  1  1   unreached", found)
         self.assertIn("register 1  #4096", found)
-        self.assertTrue(ended("./objects", "-T", "dot", SESSION).stdout.startswith(b"digraph objects {"))
 
 
 class Mistakes(unittest.TestCase):

@@ -1,11 +1,14 @@
 """The tool `shrink`: the least input that is wrong in the same way."""
 import os
+import signal
+import subprocess
 import sys
+import time
 import unittest
 
-from support import HERE, run_tool, with_files
+from support import HERE, TOOLS, run_tool, with_files
 from lib import drawing, judging, program, shrinking, verdict
-from lib.driving import Fault, fault_of
+from lib.driving import Fault, check, fault_of
 
 TINY = (sys.executable, os.path.join(HERE, "tiny"))
 NUMBERS = range(1, 21)
@@ -40,6 +43,38 @@ class Shrunk(unittest.TestCase):
 
     def test_it_ends_early(self):
         self.check("leave", 1, "status 3 [status 3: put]")
+
+    def test_quotas_are_lowered(self):
+        """A driver that refuses nothing: without lower quotas these would be filled command by command."""
+        for number in (1, 3):
+            data = drawing.drawn(number, drawing.What(count=400, grade="space"))
+            with with_files(data) as (path,):
+                ended = run_tool("shrink", "--seconds", "60", path, "--", *TINY)
+            self.assertEqual(ended.status, 1, ended.errors)
+            self.assertLessEqual(len(verdict.judge(ended.output.encode()).commands), 2, ended.output)
+
+    def test_it_is_stopped(self):
+        """What was found until then is written: an input on which the driver is wrong in the same way."""
+        data = drawing.drawn(1, drawing.What(count=150, grade="identity"))
+        with with_files(data) as (path,):
+            words = [os.path.join(TOOLS, "shrink"), "--seconds", "60", path, "--", *TINY, "rplacd"]
+            for number, status, seconds in ((signal.SIGTERM, 143, 3), (signal.SIGINT, 130, 2)):
+                process = subprocess.Popen(words, stdout=subprocess.PIPE, stderr=subprocess.PIPE, start_new_session=True)
+                time.sleep(seconds)
+                os.killpg(process.pid, number)
+                output, errors = process.communicate(timeout=20)
+                self.check_part(data, process.returncode, output, errors.decode(), status, "stopped, and this may not be the least: line ")
+
+    def test_its_time_is_up(self):
+        data = drawing.drawn(1, drawing.What(count=150, grade="identity"))
+        with with_files(data) as (path,):
+            ended = run_tool("shrink", "--seconds", "60", "--total", "1", path, "--", *TINY, "rplacd")
+        self.check_part(data, ended.status, ended.output.encode(), ended.errors, 1, "the time is up, and this may not be the least: line ")
+
+    def check_part(self, data: bytes, status: int, output: bytes, errors: str, wanted: int, told: str) -> None:
+        self.assertEqual((status, errors.count("\n"), told in errors), (wanted, 1, True), errors)
+        self.assertLess(output.count(b"\n"), data.count(b"\n"))
+        self.assertEqual(check([*TINY, "rplacd"], output, 60).way, "dump: dump")
 
     def test_a_driver_that_is_right(self):
         ended = shrunk(1)

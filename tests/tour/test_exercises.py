@@ -1,4 +1,4 @@
-"""The solution of each exercise is right, and other answers aren't."""
+"""The solution of each exercise is accepted, and other answers are rejected."""
 import os
 import unittest
 
@@ -26,14 +26,22 @@ class Solutions(unittest.TestCase):
                 self.assertTrue(tour.asked_count(lesson, number) if found.is_prediction else found.comments("at most "))
 
     def test_each_comment_is_a_rule(self):
-        rules = (tasks.YOURS, "at most ", "only ", "without ", "machine: ", "machine, ", "machine ?: ")
+        rules = (tasks.YOURS, "at most ", "only ", "without ", "machine: ", "machine, ", "machine ?: ", "that is: ")
         for lesson, number in EXERCISES:
             for item in task(lesson, number).items:
                 self.assertTrue(not item.is_comment or item.text.startswith(rules), item.text)
 
+    def test_each_condition_on_the_machine_has_words(self):
+        for lesson, number in EXERCISES:
+            found = task(lesson, number)
+            for item in found.items:
+                if item.is_comment and item.text.startswith("machine"):
+                    self.assertTrue(tasks.in_words(found, item.text), item.text)
+            self.assertNotIn("; machine", "\n".join(tasks.shown_lines(found)))
+
 
 def add_tests() -> None:
-    """A test for each solution, and one that an empty answer isn't right."""
+    """A test that each solution is accepted, and one that an empty answer is rejected."""
     for lesson, number in EXERCISES:
         needs = tour.needs_inside if wants_machine(lesson, number) else tour.needs_lispm
 
@@ -53,12 +61,12 @@ add_tests()
 
 
 class Rules(unittest.TestCase):
-    """What the reader's commands may be."""
+    """The conditions on answers."""
 
     @tour.needs_lispm
     def test_too_many_commands(self):
         ended = check(LESSONS[0], 3, "set 7 1\n" + solution(LESSONS[0], 3))
-        self.assertIn("not yet: 5 commands, of at most 4", ended.output)
+        self.assertIn("not yet: 5 commands, and at most 4 are allowed", ended.output)
 
     @tour.needs_inside
     def test_commands_that_may_not_be(self):
@@ -72,11 +80,12 @@ class Rules(unittest.TestCase):
         self.assertIn("not yet: the machine has no line `next register 3`", ended.output)
         ended = check(LESSONS[3], 2, "cdr 2 1\n")
         self.assertIn("not yet: the machine has 0 lines", ended.output)
+        self.assertIn("(required: exactly two words are HEADER-FORWARDs)", ended.output)
 
     @tour.needs_lispm
-    def test_what_has_to_come(self):
+    def test_required_replies(self):
         ended = check(LESSONS[1], 2, "cons 1 work 0 7\n")
-        self.assertIn("not yet: `cdr 2 1` answers nil, and cons is wanted", ended.output)
+        self.assertIn("not yet: `cdr 2 1` replies nil, and cons is required", ended.output)
         self.assertEqual(ended.status, 1)
 
     @tour.needs_lispm
@@ -84,7 +93,7 @@ class Rules(unittest.TestCase):
         ended = check(LESSONS[1], 1, "t\nt\nt\nt\nt\n")
         self.assertIn("not yet: 4 of 5 right", ended.output)
         ended = check(LESSONS[1], 1, solution(LESSONS[1], 1) + "t\n")
-        self.assertIn("not yet: 6 answers, and 5 are asked", ended.output)
+        self.assertIn("not yet: 6 answers, and 5 are required", ended.output)
 
     @tour.needs_lispm
     def test_a_command_that_is_refused(self):
@@ -99,9 +108,9 @@ class Rules(unittest.TestCase):
         self.assertEqual(check(LESSONS[0], 3, answer).status, 0)
 
     @tour.needs_lispm
-    def test_without_a_machine_the_rest_is_looked_at(self):
+    def test_without_a_machine_the_rest_is_checked(self):
         ended = check(LESSONS[2], 2, solution(LESSONS[2], 2), inside="/nowhere")
-        self.assertEqual((ended.status, ended.output.splitlines()[-1]), (0, "right as far as it was looked at"))
+        self.assertEqual((ended.status, ended.output.splitlines()[-1]), (0, "right as far as it was checked"))
         self.assertEqual(check(LESSONS[2], 2, "", inside="/nowhere").status, 1)
 
 

@@ -1,4 +1,5 @@
-"""Each lesson can be run, has what a lesson has, and shows the replies that lispm writes."""
+"""Each lesson can be run, has all parts of a lesson, and shows the replies that lispm writes."""
+import re
 import unittest
 from functools import lru_cache
 
@@ -25,7 +26,7 @@ class Lessons(unittest.TestCase):
                 self.assertTrue(lesson.question.endswith("?"))
                 self.assertLessEqual(len(lesson.session.commands), 25)
                 self.assertTrue(lesson.pictured() or lesson.charts())
-                self.assertTrue(lesson.marked.asked, "a quiz asks for something")
+                self.assertTrue(lesson.marked.asked, "a quiz needs at least one reply to ask for")
                 self.assertNotIn("To be written", lesson.see)
 
     def test_the_marks_of_a_quiz_are_no_part_of_the_input(self):
@@ -52,9 +53,9 @@ class Lessons(unittest.TestCase):
         for lesson in LESSONS:
             with self.subTest(lesson.number):
                 shown = whole(lesson.number)
-                for number in lesson.pictured():
-                    self.assertIn(f"  | behind command {number}: {lesson.session.commands[number - 1].text} -> ", shown)
-                self.assertEqual(shown.count("  | behind command "), len(lesson.pictured()))
+                headings = re.findall(r"(?m)^  \| \w+ command ([0-9]+): (.*) -> ", shown)
+                wanted = [(str(number), lesson.session.commands[number - 1].text) for number in lesson.pictured()]
+                self.assertEqual(headings, wanted)
 
     @tour.needs_lispm
     def test_without_pictures_if_there_is_no_machine(self):
@@ -80,7 +81,7 @@ class Quiz(unittest.TestCase):
 
 
 class Mistakes(unittest.TestCase):
-    """Each is told in one line, with a status."""
+    """Each is reported in one line, with a status."""
 
     def test_words(self):
         for words in ([], ["99"], ["one"], ["1", "--quiz", "1"], ["1", "--check", "1"], ["1", "--odd"]):

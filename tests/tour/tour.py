@@ -1,4 +1,4 @@
-"""What the tests of the tour share: the lessons, and runs of its scripts."""
+"""What the tests of the tour share: the lessons, and calls of its scripts."""
 import os
 import subprocess
 import sys
@@ -48,7 +48,7 @@ def check(lesson: lessons.Lesson, number: int, answer: str, **more: str) -> Ende
 
 
 def asked_count(lesson: lessons.Lesson, number: int) -> int:
-    """How many answers an exercise asks for."""
+    """How many predictions an exercise requires."""
     return sum(item.beside == "?" for item in task(lesson, number).items) + len(task(lesson, number).comments("machine ?:"))
 
 

@@ -1,4 +1,4 @@
-"""An output as a value: the reply lines of each command, the error line, and what stands behind."""
+"""An output as a value: the reply lines of each command, the error line, and the lines after it."""
 from typing import List, NamedTuple, Optional
 
 from .session import Command, Session
@@ -16,7 +16,7 @@ class Answer(NamedTuple):
 
 
 class Answers(NamedTuple):
-    """The commands that were answered, in order; the line that tells an error; and lines that answer no command."""
+    """The commands that were answered, in order; the error line; and lines that answer no command."""
     answers: List[Answer]
     error: Optional[str]
     rest: List[str]

@@ -1,4 +1,4 @@
-"""Where in a refused line the fault is, and how a line is shown with it."""
+"""The wrong piece of a refused line, and how a line is shown with it."""
 from typing import NamedTuple, Optional
 
 from .line_kinds import COMMANDS, WORLD, LineKind, capacity_line
@@ -24,7 +24,7 @@ def line_kind(found: Verdict, line: str) -> Optional[LineKind]:
 
 
 def span(found: Verdict, line: str) -> Span:
-    """Where the fault of the refused line is."""
+    """The wrong piece of the refused line."""
     if found.place is not None:
         return word_span(line, found.place)
     if found.reason in ("wrong count", "too many fields", "too many items"):
@@ -39,21 +39,21 @@ def span(found: Verdict, line: str) -> Span:
 
 
 def word_span(line: str, place: int) -> Span:
-    """The word at a place of a line, of which 0 is the first word's. Behind the last word it is one column."""
+    """The word at a place of a line, counted from 0. After the last word it is one column."""
     words = line.split(" ")
     before = sum(len(word) + 1 for word in words[:place])
     return Span(before + 1, len(words[place]) if place < len(words) else 1)
 
 
 def surplus_span(found: Verdict, line: str) -> Span:
-    """The first word that is too many, or the place behind the last if there are too few."""
+    """The first word that is too many, or the place after the last if there are too few."""
     kind, count = line_kind(found, line), len(line.split(" "))
     most = len(kind.words) + (kind.most if kind.more else 0)
     return word_span(line, min(most + 1, count))
 
 
 def bad_byte(line: str) -> int:
-    """The place of the first byte that is outside 32 to 126, or of the first space that may not stand there."""
+    """The place of the first byte that is outside 32 to 126, or of the first space that isn't allowed."""
     for at, char in enumerate(line):
         if not " " <= char <= "~":
             return at

@@ -3,6 +3,7 @@
 A driver is any command that reads an input and writes its replies, as docs/ADAPTER.md says. It may also crash, hang or
 write half a line: that is told at the first command that has no whole reply, unless a reply before it is wrong.
 """
+import hashlib
 import os
 import select
 import shutil
@@ -10,13 +11,15 @@ import signal
 import subprocess
 import tempfile
 import time
-from typing import IO, List, NamedTuple, NoReturn, Optional
+from typing import IO, Iterable, List, NamedTuple, NoReturn, Optional
 
 from . import judging, tool
 from .program import Ended
 
 SECONDS = 10.0               # for one input
 MOST_OUTPUT = 1 << 28        # bytes
+ASKED = {"LISPM_DRIVER": "program"}           # what a driver's script is asked for its program by
+MOST_READ = 1 << 24          # bytes of a file that its checksum is made of, at each end
 UNFINISHED = ("missing", "cut", "status")      # what the judge finds if a run broke off
 
 
@@ -46,6 +49,31 @@ def find(driver: List[str]) -> List[str]:
     if path is None:
         raise tool.ToolError(f"{driver[0]}: no such program")
     return [os.path.abspath(path), *driver[1:]]
+
+
+def resolved(driver: List[str], seconds: float = SECONDS) -> List[str]:
+    """The command that a driver's script ends in. A script may write it, a word a line, if the environment has
+    LISPM_DRIVER=program; any other driver reads an empty input then, and is its own command."""
+    try:
+        ended = subprocess.run(driver, stdin=subprocess.DEVNULL, stdout=subprocess.PIPE, stderr=subprocess.DEVNULL, timeout=seconds,
+                               env={**os.environ, **ASKED}, start_new_session=True)
+    except (OSError, subprocess.TimeoutExpired):
+        return driver
+    words = ended.stdout.decode("utf-8", "surrogateescape").split("\n")[:-1]
+    is_program = ended.returncode == 0 and words and os.path.isabs(words[0]) and os.access(words[0], os.X_OK)
+    return words if is_program and os.path.isfile(words[0]) else driver
+
+
+def checksum(words: List[str]) -> str:
+    """The checksum of words, and of each file among them."""
+    told = hashlib.sha256()
+    for word in words:
+        told.update(word.encode("utf-8", "surrogateescape") + b"\n")
+        if os.path.isfile(word):
+            with open(word, "rb") as file:
+                told.update(hashlib.sha256(file.read(MOST_READ)).digest())
+                told.update(b"%d" % os.path.getsize(word))
+    return told.hexdigest()[:16]
 
 
 def run(driver: List[str], data: bytes, seconds: float = SECONDS) -> Ended:
@@ -124,11 +152,25 @@ def ending(ended: Ended) -> Optional[str]:
     return None if ended.output[-1:] in (b"", b"\n") else "cut line"
 
 
+class Found(NamedTuple):
+    """The first thing that is wrong with a run on an input, None if it is right; and what the judge relaxed."""
+    fault: Optional[Fault]
+    relaxed: Iterable[str]
+
+
+def found_in(data: bytes, ended: Ended) -> Found:
+    """What the judge says of a run on an input."""
+    judged = judging.judge(data, ended.output, ended.status)
+    return Found(None if judged.first is None else fault_at(judged.first, ended), judged.relaxed)
+
+
 def fault_of(data: bytes, ended: Ended) -> Optional[Fault]:
     """The first thing that is wrong with a run on an input; None if it is right."""
-    first = judging.judge(data, ended.output, ended.status).first
-    if first is None:
-        return None
+    return found_in(data, ended).fault
+
+
+def fault_at(first: judging.First, ended: Ended) -> Fault:
+    """A fault as it is told, if this is the first wrong reply."""
     kind = ending(ended)
     if kind is not None and first.kind in UNFINISHED:
         return Fault(kind, first.line, first.command)
@@ -141,6 +183,11 @@ def short(text: str) -> str:
     return text if len(text) <= 80 else text[:76] + " ..."
 
 
+def judged(driver: List[str], data: bytes, seconds: float = SECONDS) -> Found:
+    """Runs a driver on an input, and judges it."""
+    return found_in(data, run(driver, data, seconds))
+
+
 def check(driver: List[str], data: bytes, seconds: float = SECONDS) -> Optional[Fault]:
     """Runs a driver on an input, and tells what is wrong."""
-    return fault_of(data, run(driver, data, seconds))
+    return judged(driver, data, seconds).fault

@@ -1,4 +1,4 @@
-"""What would do in the place of what is refused, and what is known to lead to a refusal."""
+"""What is expected in the place of what is refused, and what is known to cause refusals."""
 import difflib
 from typing import Callable, Dict, List
 
@@ -12,8 +12,8 @@ from .world_lines import PART
 FIRST_WORDS = {"space expected": "space", "area expected": "area"}
 
 
-def would_do(found: Verdict, lines: List[str]) -> str:
-    """What would do in the place of the fault."""
+def expected(found: Verdict, lines: List[str]) -> str:
+    """What is expected in the place of the wrong piece."""
     line = lines[found.line - 1] if found.line <= len(lines) else ""
     if found.reason.startswith("exhausted "):
         return more_quota(found)
@@ -22,16 +22,16 @@ def would_do(found: Verdict, lines: List[str]) -> str:
     if found.reason in HINTS:
         return HINTS[found.reason](found, line)
     kind = line_kind(found, line)
-    return kind.kind_at(found.place).would_do(found.so_far) + " would do"
+    return "expected: " + kind.kind_at(found.place).expected(found.so_far)
 
 
 def more_quota(found: Verdict) -> str:
     _, area, charged, wanted, _ = found.reason.split(" ")
-    return f"a quota of {int(charged) + int(wanted)} for the area {area} would do up to here"
+    return f"a quota of {int(charged) + int(wanted)} for the area {area} would be enough up to here"
 
 
 def object_that_is_named(found: Verdict, lines: List[str]) -> str:
-    """The object line that refers to what isn't there."""
+    """The object line that refers to an object that doesn't exist."""
     name = "#" + found.reason.split(" ")[2]
     named = next(at for at, line in enumerate(lines, 1) if name in line.split(" "))
     return f"line {named} refers to {name}, and {objects_there(found.so_far)}"
@@ -49,7 +49,7 @@ def bad_line(_: Verdict, line: str) -> str:
         return "the line is empty"
     at = bad_byte(line)
     if line[at] != " ":
-        return f"{named_byte(line[at])} can't stand in a line"
+        return f"{named_byte(line[at])} isn't allowed in a line"
     if at == 0 or at + 1 == len(line):
         return "a space " + ("begins" if at == 0 else "ends") + " the line"
     return "words have one space between them"
@@ -62,60 +62,60 @@ def not_a_world(_: Verdict, line: str) -> str:
 def unknown_command(_: Verdict, line: str) -> str:
     near = difflib.get_close_matches(line.split(" ")[0].lower(), COMMANDS, 1)
     if near:
-        return f"{COMMANDS[near[0]].shape(near[0])} would do"
-    return "the commands are " + ", ".join(word for word in COMMANDS if word != "end") + ", and end behind the last"
+        return f"expected: {COMMANDS[near[0]].shape(near[0])}"
+    return "the commands are " + ", ".join(word for word in COMMANDS if word != "end") + ", and end after the last"
 
 
 def unexpected_line(found: Verdict, line: str) -> str:
-    """The lines that may come here."""
+    """The lines that are allowed here."""
     head = line.split(" ")[0]
     if head == "end-world":
-        return "a world file ends so; in an input trace follows, then the commands"
+        return "end-world ends a world file; in an input write trace, then the commands"
     if head in COMMANDS and head not in PART:
-        return f"trace has to stand before the first command; {lines_that_may_come(found.so_far)}"
-    return lines_that_may_come(found.so_far)
+        return f"trace is missing before the first command; {allowed_lines(found.so_far)}"
+    return allowed_lines(found.so_far)
 
 
-def lines_that_may_come(world: World) -> str:
-    """What a line may begin with behind the lines so far, of which there are some areas."""
+def allowed_lines(world: World) -> str:
+    """How a line may begin after the lines so far, which include an area."""
     objects = ["cons", "block"] + ["run"] * (world.format == 2)
     heads = ["area"] * (world.format == 1 and not world.objects and not world.roots)
     heads += [] if world.roots else objects
-    return "what may come here: " + ", ".join(heads + ["root", "trace"])
+    return "allowed here: " + ", ".join(heads + ["root", "trace"])
 
 
 def capacity_expected(found: Verdict, _: str) -> str:
     levels = found.so_far.space.levels
-    return f"a world of format 2 has a line capacity with {levels} number{'s' * (levels > 1)} behind its areas"
+    return f"a world of format 2 has a line capacity with {levels} number{'s' * (levels > 1)} after its areas"
 
 
 def wrong_count(found: Verdict, line: str) -> str:
     head = line.split(" ")[0]
-    return f"{line_kind(found, line).shape(head)} would do"
+    return f"expected: {line_kind(found, line).shape(head)}"
 
 
 def too_small(found: Verdict, line: str) -> str:
-    """How many regions the areas so far and this one want, and what quota of this one would do."""
+    """How many regions the areas so far and this one need, and which quota of this one would be enough."""
     space = found.so_far.space
     quotas = [area.quota for area in found.so_far.areas]
     taken = sum(-(-quota // 1024) for quota in quotas) + 2 * (space.levels + 1) * (len(quotas) + 1)
     wanted = taken + -(-int(line.split(" ")[3]) // 1024)
-    said = f"the areas up to here want {wanted:,} regions, and the space line says {space.regions:,}"
+    said = f"the areas up to here need {wanted:,} regions, and the space line has {space.regions:,}"
     left = (space.regions - taken) * 1024
-    return f"{said}; a quota of {left} would do here" if left >= 0 else said
+    return f"{said}; a quota of {left} is possible here" if left >= 0 else said
 
 
 def text_after_end(_: Verdict, __: str) -> str:
-    return "nothing may stand behind the line feed of end"
+    return "nothing may follow the line feed of end"
 
 
 def no_end(found: Verdict, _: str) -> str:
-    return "end has to be the last line" + ("" if found.world else ", behind trace and the commands")
+    return "end has to be the last line" + ("" if found.world else ", after trace and the commands")
 
 
 def first_word(found: Verdict, _: str) -> str:
     head = FIRST_WORDS[found.reason]
-    return f"{WORLD[head].shape(head)} would do"
+    return f"expected: {WORLD[head].shape(head)}"
 
 
 HINTS: Dict[str, Callable[[Verdict, str], str]] = {
@@ -131,10 +131,10 @@ HINTS: Dict[str, Callable[[Verdict, str], str]] = {
 }
 
 
-# -------------------------------------------- what the whole file tells
+# -------------------------------------------- what the whole file shows
 
 def known_causes(data: bytes, lines: List[str]) -> List[str]:
-    """What is known to make a file that looks right be refused."""
+    """Known reasons for which a file that looks right is refused."""
     return [text for test in (byte_order_mark, carriage_returns, comments) for text in test(data, lines)]
 
 

@@ -1,4 +1,4 @@
-"""The kinds of lines: for each first word the kinds of the words behind it.
+"""The kinds of lines: for each first word the kinds of the words after it.
 
 Counts are tested before words, and too many values have reasons of their own.
 """
@@ -11,8 +11,8 @@ from .word_kinds import Kind
 
 
 class LineKind(NamedTuple):
-    """The kinds of the words behind the first, and of the further words, of which there are least to most.
-    More than the most are refused with the reason `too_many`."""
+    """The kinds of the words after the first, and of further words, at least `least` and at most `most`.
+    More are refused with the reason `too_many`."""
     words: Tuple[Kind, ...]
     more: Optional[Kind] = None
     least: int = 0
@@ -20,11 +20,11 @@ class LineKind(NamedTuple):
     too_many: str = "wrong count"
 
     def kind_at(self, place: int) -> Optional[Kind]:
-        """The kind of the word at a place of the line, of which 0 is the first word's."""
+        """The kind of the word at a place of the line, counted from 0."""
         return self.words[place - 1] if place <= len(self.words) else self.more
 
     def test_count(self, count: int) -> None:
-        """Refuses a line with so many words behind its first."""
+        """Refuses a line if it may not have this number of words after its first."""
         beyond = count - len(self.words)
         if self.more is not None and beyond > self.most:
             raise Refused(self.too_many)
@@ -82,7 +82,7 @@ def capacity_line(world: World) -> LineKind:
 
 
 def read_words(kind: LineKind, words: List[str], world: World) -> list:
-    """What the words behind the first say. The leftmost that is at fault refuses the line."""
+    """The values of the words after the first. The leftmost wrong word refuses the line."""
     said: list = []
     kind.test_count(len(words) - 1)
     kinds_there = kind.words

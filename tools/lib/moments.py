@@ -1,6 +1,6 @@
-"""The machine at a moment of a session: behind command N, counted from 1, comments left out.
+"""The machine at a moment of a session: after command N, counted from 1, without comments.
 
-The machine is deterministic, so the input cut behind a command is the run up to it.
+The machine is deterministic, so the input cut after a command is the run up to it.
 """
 import argparse
 import os
@@ -13,11 +13,12 @@ from .session import Command, Session
 
 
 class Moment(NamedTuple):
-    """A command, its reply, and the machine that it left. No command stands for the opening."""
+    """A command, its reply, the machine after it, and what lispm_inside wrote. The opening has no command."""
     number: int
     command: str
     reply: List[str]
     machine: Machine
+    output: str
 
 
 def add_words(words: argparse.ArgumentParser) -> None:
@@ -53,7 +54,7 @@ def refused(trace: Session, output: bytes) -> str:
 
 
 def at(trace: Session, number: int, inside_path: str, fail: int = 0) -> Moment:
-    """The moment behind a command; 0 is the opening."""
+    """The moment after a command; 0 is the opening."""
     cut = trace.cut(number)
     words = ["--fail", str(fail)] if fail else []
     ended = program.run(inside_path, words, cut.text())
@@ -62,10 +63,10 @@ def at(trace: Session, number: int, inside_path: str, fail: int = 0) -> Moment:
         raise tool.ToolError(refused(trace, ended.output), tool.WRONG)
     given = answers.split(cut, replies).answers
     last = given[-1] if given else None
-    return Moment(number, last.command.text if last else "", last.lines if last else [], machine)
+    return Moment(number, last.command.text if last else "", last.lines if last else [], machine, ended.output.decode("latin-1"))
 
 
 def each(trace: Session, numbers: Iterable[int], inside_path: str, fail: int = 0) -> Iterator[Moment]:
-    """The moments behind these commands, in this order. Each is a run of its own, and a few run at once."""
+    """The moments after these commands, in this order. Each is a run of its own, and a few run at once."""
     with ThreadPoolExecutor(os.cpu_count()) as pool:
         yield from pool.map(lambda number: at(trace, number, inside_path, fail), numbers)

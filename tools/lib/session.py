@@ -1,13 +1,13 @@
-"""An input as a value: its world, its commands, and where each of its lines stands in the file.
+"""An input as a value: its world, its commands, and the number of each of its lines in the file.
 
-A commented session has lines that begin with `;`, which no input can have. They are left out, as is `; ?` behind its
+A commented session has lines that begin with `;`, which no input can have. They are left out, as is `; ?` after its
 commands, and the other lines keep the numbers that they have in the file. Bytes are read as Latin-1, so every file is a
-session and `text` gives its bytes back; whether it is a whole input is for `lib.verdict` to say.
+session, and `text` returns its bytes; `lib.verdict` decides whether it is a whole input.
 """
 import re
 from typing import List, NamedTuple, Optional
 
-ASKED = re.compile(r" *; \?$")      # behind a command of a commented session: a quiz asks for its reply
+ASKED = re.compile(r" *; \?$")      # after a command of a commented session: a quiz hides its reply
 
 
 class Line(NamedTuple):
@@ -47,7 +47,7 @@ class Session(NamedTuple):
 
     @property
     def registers(self) -> int:
-        """How many registers the world has; 0 if it doesn't say."""
+        """How many registers the world has; 0 if no line has the number."""
         for line in self.header:
             words = line.text.split(" ")
             if words[0] == "space" and len(words) > 3 and words[3].isdigit():
@@ -61,7 +61,7 @@ class Session(NamedTuple):
         return data + b"\n" if self.has_last_feed and lines else data
 
     def cut(self, count: int, *more: str) -> "Session":
-        """The input cut behind this many commands: these further commands, if any, and `end` follow."""
+        """The input cut after this many commands; these further commands, if any, and `end` follow."""
         kept = self.commands[:count]
         last = kept[-1].line if kept else len(self.header)
         added = [Command(last, len(kept) + at, text) for at, text in enumerate(more, 1)]
@@ -76,12 +76,12 @@ class Session(NamedTuple):
         return found.number if isinstance(found, Line) else found.line
 
     def command_at(self, line: int) -> Optional[Command]:
-        """The command that stands on this line of the file."""
+        """The command on this line of the file."""
         return next((command for command in self.commands if command.line == line), None)
 
 
 def parse(data: bytes) -> Session:
-    """The session that these bytes say."""
+    """The session that these bytes spell."""
     pieces = data.decode("latin-1").split("\n")
     has_last_feed = len(pieces) > 1 and pieces[-1] == ""
     if pieces[-1] == "":

@@ -1,14 +1,17 @@
 """The least input of which something still holds: fewer lines first, then a smaller world, then smaller words.
 
 Each step proposes smaller inputs; one that keeps what has to hold takes the input's place. Each part of a trace is a
-trace, so most of what is proposed is an input; what isn't doesn't keep it.
+trace, so most of what is proposed is an input; what isn't doesn't keep it. If fewer words are allocated in what is
+proposed, it is also proposed with quotas and capacities that are lower by these words.
 """
 import re
+from collections import Counter
 from typing import Callable, Dict, Iterator, List, NamedTuple, Optional, Set
 
 Lines = List[str]
 Holds = Callable[[bytes], bool]
 WORLD = (("area",), ("capacity",), ("cons", "block", "run"), ("root",))
+PLAIN_QUOTA = 12         # a quota that is tried first
 
 
 class Parts(NamedTuple):
@@ -36,14 +39,18 @@ def parts_of(data: bytes) -> Optional[Parts]:
 
 
 class Shrinker:
-    """Keeps the least input so far, and how many inputs were tried."""
+    """Keeps the least input so far in `parts`, also if what has to hold raises an exception."""
 
     def __init__(self, parts: Parts, holds: Holds):
         self.parts, self.holds = parts, holds
         self.tried: Set[bytes] = set()
 
     def keeps(self, parts: Parts) -> bool:
-        """Takes these parts if they are new, and what has to hold holds of them."""
+        """Takes these parts, or these with lower quotas, if they are new, and what has to hold holds of them."""
+        return any(self.takes(one) for one in (parts, *lowered(self.parts, parts)))
+
+    def takes(self, parts: Parts) -> bool:
+        """Takes exactly these parts, if what has to hold holds of them."""
         data = parts.data()
         if data in self.tried or parts == self.parts:
             return False
@@ -79,6 +86,45 @@ class Shrinker:
                 if not self.keeps(self.parts._replace(**{name: lines[:at] + lines[at + size:]})):
                     at += size
             size //= 2
+
+
+# --------------------------------------------------- quotas that follow
+
+def charges(parts: Parts) -> Counter:
+    """The words that the objects and the commands of these parts are charged, by the names of areas. A block that grows is
+    in the area, if there is one alone."""
+    found: Counter = Counter()
+    only = parts.areas[0].split(" ")[1] if len(parts.areas) == 1 else None
+    for line in parts.objects:
+        words = line.split(" ")
+        found[words[1]] += {"cons": 2, "block": len(words) - 2, "run": 3 * (len(words) - 2)}[words[0]]
+    for line in parts.commands:
+        words = line.split(" ")
+        if words[0] in ("cons", "list"):
+            found[words[2]] += 2 if words[0] == "cons" else 3 * (len(words) - 3)
+        elif words[0] in ("make", "grow") and words[-1].isdigit():
+            found[words[2] if words[0] == "make" else only] += int(words[-1]) + 1
+    return found
+
+
+def lowered(before: Parts, after: Parts) -> Iterator[Parts]:
+    """The later parts with lower quotas, and with lower quotas and capacities, if they charge fewer words."""
+    fewer = charges(before) - charges(after)
+    areas = [lower_area(line, fewer) for line in after.areas]
+    if areas != after.areas:
+        yield after._replace(areas=areas)
+        if after.capacity:
+            yield after._replace(areas=areas, capacity=lower_capacity(after.capacity, sum(fewer.values())))
+
+
+def lower_area(line: str, fewer: Counter) -> str:
+    word, name, kind, quota = line.split(" ")
+    return f"{word} {name} {kind} {max(0, int(quota) - fewer[name])}" if fewer[name] else line
+
+
+def lower_capacity(lines: Lines, fewer: int) -> Lines:
+    words = lines[0].split(" ")
+    return [" ".join(words[:1] + [str(max(0, int(word) - fewer)) for word in words[1:2]] + words[2:])]
 
 
 # ------------------------------------------------------------------ the world
@@ -151,9 +197,10 @@ def simpler_area(line: str) -> Iterator[str]:
     word, name, kind, quota = line.split(" ")
     for simpler in ("dynamic", "ephemeral")[:("dynamic", "ephemeral", "static").index(kind)]:
         yield f"{word} {name} {simpler} {quota}"
-    for lower in (12, 20, 60, 100, 1000):
-        if lower < int(quota):
-            yield f"{word} {name} {kind} {lower}"
+    above = int(quota) - PLAIN_QUOTA
+    while above > 0:
+        yield f"{word} {name} {kind} {int(quota) - above}"
+        above //= 2
 
 
 # ------------------------------------------------------------------ the words

@@ -75,6 +75,10 @@ def run(words: argparse.ArgumentParser, main: Callable[[argparse.Namespace], int
     except BrokenPipeError:
         leave_standard_output()
         status = CLOSED
+    except OSError as error:
+        leave_standard_output()
+        tell(f"{error.filename or 'standard output'}: {error.strerror}")
+        status = WRONG
     except KeyboardInterrupt:
         tell("stopped")
         status = STOPPED
@@ -88,7 +92,7 @@ def tell(cause: str) -> None:
 
 
 def leave_standard_output() -> None:
-    """Lets the interpreter's last flush go nowhere, since nobody reads standard output any more."""
+    """Lets the interpreter's last flush go nowhere, since standard output takes no more."""
     os.dup2(os.open(os.devnull, os.O_WRONLY), 1)
 
 

@@ -14,7 +14,7 @@ class Kind(NamedTuple):
     """A kind of word: its sign in a table of commands, how it is read, and what would do."""
     sign: str
     read: Callable[[str, World], object]
-    would_do: Callable[[World], str]
+    expected: Callable[[World], str]
 
 
 def ranged(sign: str, low: int, high: int) -> Kind:
@@ -34,7 +34,7 @@ def read_register(word: str, world: World) -> int:
     return n
 
 
-def register_would_do(world: World) -> str:
+def register_expected(world: World) -> str:
     last = world.space.registers - 1
     return f"a register, 0 to {last}" if last else "register 0, the only one"
 
@@ -46,7 +46,7 @@ def read_area(word: str, world: World) -> int:
     return area
 
 
-def area_would_do(world: World) -> str:
+def area_expected(world: World) -> str:
     return "an area: " + ", ".join(area.name for area in world.areas)
 
 
@@ -74,7 +74,7 @@ def read_levels(word: str, world: World) -> Union[str, Tuple[int, ...]]:
     return tuple(found)
 
 
-def levels_would_do(world: World) -> str:
+def levels_expected(world: World) -> str:
     top = world.space.levels
     return "full, or 1" if top == 1 else f"full, or ascending levels from 1 to {top}, such as 1,2"
 
@@ -107,32 +107,32 @@ def read_root_value(word: str, world: World) -> Value:
     return value
 
 
-def root_register_would_do(world: World) -> str:
+def root_register_expected(world: World) -> str:
     free = [n for n in range(world.space.registers) if n not in world.roots]
     return f"a register, 0 to {world.space.registers - 1}, without a root line" if free else "no further root line"
 
 
-def root_value_would_do(world: World) -> str:
+def root_value_expected(world: World) -> str:
     last = len(world.objects) - 1
     return INTEGERS + (f", or an object, #0 to #{last}" if last >= 0 else "; there are no objects")
 
 
 INTEGERS = f"nil, or an integer from {spelling.LEAST} to {spelling.GREATEST}"
 
-REGISTER = Kind("R", read_register, register_would_do)
-AREA = Kind("AREA", read_area, area_would_do)
+REGISTER = Kind("R", read_register, register_expected)
+AREA = Kind("AREA", read_area, area_expected)
 CODE = ranged("CODE", 0, 65535)
 LENGTH = ranged("N", 0, 2047)
 COUNT = ranged("N", 0, TOP)
 INDEX = ranged("I", 0, TOP)
 CONSTANT = Kind("V", read_constant, lambda _: INTEGERS)
 VALUE = Kind("V", read_value, lambda _: INTEGERS + ", or #K, the object with the number K")
-LEVELS = Kind("LEVELS", read_levels, levels_would_do)
+LEVELS = Kind("LEVELS", read_levels, levels_expected)
 NEW_NAME = Kind("NAME", read_new_name, lambda _: "a new name: a letter a to z, and at most 15 of a to z, 0 to 9 and -")
 AREA_KIND = Kind("KIND", read_area_kind, lambda _: "static, dynamic or ephemeral")
 QUOTA = ranged("QUOTA", 0, 1048576)
 CAPACITY = ranged("C", 0, 16777216)
-ROOT_REGISTER = Kind("R", read_root_register, root_register_would_do)
-ROOT_VALUE = Kind("V", read_root_value, root_value_would_do)
+ROOT_REGISTER = Kind("R", read_root_register, root_register_expected)
+ROOT_VALUE = Kind("V", read_root_value, root_value_expected)
 SPACE = (ranged("REGIONS", 5, 1024), ranged("FRAMES", 32, 4096), ranged("REGISTERS", 1, 256),
          ranged("LEVELS", 1, 6), ranged("RATE", 0, 16))

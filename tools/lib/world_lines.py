@@ -1,4 +1,4 @@
-"""The lines of a world: which may come, what each says, and why one is refused."""
+"""The lines of a world: which one may be next, what each means, and why one is refused."""
 from typing import Callable, Dict, List
 
 from .line_kinds import WORLD, LineKind, capacity_line, read_words
@@ -13,7 +13,7 @@ FORMAT_2 = ("capacity", "run")
 
 class WorldLines:
     """A world that is read line by line, up to `trace`. `part` is how far it is; `named` is each object that a line
-    refers to, and `closed` says that no further object line may come."""
+    refers to, and `closed` is set once no further object line is allowed."""
 
     def __init__(self) -> None:
         self.world = World()
@@ -42,7 +42,7 @@ class WorldLines:
         return capacity_line(self.world) if head == "capacity" else WORLD[head]
 
     def test_order(self, n: int, head: str) -> None:
-        """A line with this first word may come here."""
+        """Refuses a line whose first word isn't allowed here."""
         if n in (2, 3):
             expected = "space" if n == 2 else "area"
             if head != expected:
@@ -55,7 +55,7 @@ class WorldLines:
             raise Refused("unexpected line", place=0)
 
     def test_references(self, head: str) -> None:
-        """At the first line behind the objects: each object that was named is there."""
+        """At the first line after the objects: refuses it if an object that was named doesn't exist."""
         if head in ("root", "trace") and not self.closed:
             missing = [k for k in self.named if k >= len(self.world.objects)]
             if missing:

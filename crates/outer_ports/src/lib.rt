@@ -13,7 +13,9 @@ mod swaps;
 
 pub use adapters::{SinkWrite, SourceRead};
 pub use room::copy_at;
-pub use sinks::{Sink, SinkBuffer, SinkBytes, SinkFault, SinkTally, Tally, give_all, give_parts};
+pub use sinks::{
+    Sink, SinkBuffer, SinkBytes, SinkFault, SinkTally, SinkVec, Tally, give_all, give_parts,
+};
 pub use sources::{Source, SourceBytes, SourceFault};
 pub use store_word::NoMemory;
 pub use swaps::{PageCalls, Swap, SwapMemory};

@@ -4,6 +4,7 @@ mod buffer;
 mod sink;
 mod sink_bytes;
 mod sink_tally;
+mod sink_vec;
 mod tally;
 mod text;
 
@@ -11,5 +12,6 @@ pub use buffer::SinkBuffer;
 pub use sink::{Sink, SinkFault};
 pub use sink_bytes::SinkBytes;
 pub use sink_tally::SinkTally;
+pub use sink_vec::SinkVec;
 pub use tally::Tally;
 pub use text::{give_all, give_parts};

@@ -21,7 +21,6 @@ use Rattle.line_input.specs.Lines.{lines_of, size_of, whole_lines}
 use Rattle.line_input.specs.Reader.{Buffered, IsFound, IsPart}
 use Rattle.line_input.specs.Statuses.{IsOfLine, status_of, trouble_line}
 use Rattle.line_input.specs.Verdict.{early_reason}
-use Rattle.line_input.proofs.Cuts.{whole_lines-append, no_whole_lines}
 use Rattle.input_verdict.specs.Input.{JudgedInput}
 use Rattle.input_verdict.specs.Places.{IsPlace, Judged}
 use Rattle.input_verdict.specs.Verdict.{Read, Whole, Broken, enough, judged, judged_as, verdict, start, decided, ended, ending_at, world_of}

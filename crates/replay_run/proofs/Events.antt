@@ -45,18 +45,23 @@ takes_command old new takes all (Does c) goes may command is =
     subst takes e (all new.judge.builder.world goes.0 c may)
 
 -- it stands for a state that a run in the world comes to
-pub is_in : (old new : JudgedInput) {stands : State → Type 0} {rose : ℕ} {commands : List Command} {w pending : List ℕ} {m : ℕ} → IsPlace old → Tells (world_of old) commands stands rose w pending m → AreInLimits commands
-    → (event : Event) → Goes old event new → (command : Command) → event ≡ Does command → IsIn new.judge.builder.world stands
-is_in old new form tells limits Nothing goes command is = absurd (cc (is))
-is_in old new form tells limits Opens goes command is = absurd (cc (is))
-is_in old new {stands} {rose} {commands} {w} {pending} {m} form tells limits (Does c) goes command is =
-    let t = (subst (λ o. Tells o commands stands rose w pending m) goes.0 tells).told in
+pub is_in : (place : JudgedInput) {stands : State → Type 0} {rose : ℕ} {commands : List Command} {w pending : List ℕ} {m : ℕ} → IsPlace place → Tells (world_of place) commands stands rose w pending m → AreInLimits commands
+    → (world : World) → world_of place ≡ Some world → IsIn world stands
+is_in place {stands} {rose} {commands} {w} {pending} {m} form tells limits world opened =
+    let t = (subst (λ o. Tells o commands stands rose w pending m) opened tells).told in
     record {
       state = t.last;
       stood = t.state;
-      reached = told_reached t limits (sound_at old form new.judge.builder.world goes.0);
-      few = few_at old form new.judge.builder.world goes.0;
+      reached = told_reached t limits (sound_at place form world opened);
+      few = few_at place form world opened;
     }
+
+-- so it does where a line asks for a command
+pub stands_command : (old new : JudgedInput) (stands : State → Type 0) → ((world : World) → world_of old ≡ Some world → IsIn world stands) → (event : Event) → Goes old event new → (command : Command) → event ≡ Does command
+    → IsIn new.judge.builder.world stands
+stands_command old new stands all Nothing goes command is = absurd (cc (is))
+stands_command old new stands all Opens goes command is = absurd (cc (is))
+stands_command old new stands all (Does c) goes command is = all new.judge.builder.world goes.0
 
 -- the machine is idle where a line opens a world
 pub idle_opens : (old new : JudgedInput) (idle : Type 0) → (world_of old ≡ None → idle) → (event : Event) → Goes old event new → event ≡ Opens → idle

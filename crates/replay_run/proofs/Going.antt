@@ -1,17 +1,16 @@
 -- What holds between two lines.
-use Rattle.std.proofs.Common.{◌≡◌, ◌⊎◌, inl, inr, ℕ, ◌+◌, ◌-◌, ◌<◌, ◌≤◌, ◌^◌, List, [], ◌∷◌, ◌++◌, length, take, drop, get_or, Bool, true, false, Option, Some, None, Ok, Err, refl, sym, ap, ◌∙◌, subst, arith, rules}
-use Rattle.std.specs.Prelude.{IfSome, unwrap_or}
-use Rattle.std.proofs.lemmas.List.{append-nil, append_assoc, length-append, take_all, get_or_at, get_or_append_left}
+use Rattle.std.proofs.Common.{◌≡◌, ◌⊎◌, inl, inr, ℕ, ◌+◌, ◌-◌, ◌<◌, ◌≤◌, ◌^◌, List, [], ◌∷◌, ◌++◌, length, take, drop, get_or, true, Option, Some, None, Ok, Err, refl, sym, ap, ◌∙◌, subst, arith}
+use Rattle.std.proofs.lemmas.List.{append-nil, length-append, take_all, get_or_at, get_or_append_left}
 use Rattle.std.proofs.lemmas.Bool.{cases_lt}
-use Rattle.outer_ports.specs.Ports.{Gained, Gave, IsAtEnd}
+use Rattle.outer_ports.specs.Ports.{Gained, Gave}
 use Rattle.outer_ports.specs.Buffers.{Gathered}
-use Rattle.outer_ports.proofs.Gains.{gained_more, gained_nothing, gave_nothing, gave_then}
+use Rattle.outer_ports.proofs.Gains.{gained_more, gained_nothing}
 use Rattle.lisp_graph.specs.declared.command.Command.{Command}
 use Rattle.lisp_graph.specs.declared.world.World.{World}
 use Rattle.paged_machine.specs.lisp_meaning.State.{State}
 use Rattle.line_input.specs.declared.lines.found.Found.{Found}
 use Rattle.line_input.specs.declared.statuses.status.RunError.TheVariants.{Line as OfLine}
-use Rattle.line_input.specs.Lines.{Line, lines_of, size_of, whole_lines}
+use Rattle.line_input.specs.Lines.{Line, lines_of, size_of}
 use Rattle.line_input.specs.Reader.{Buffered, IsAllBuffered, IsFound}
 use Rattle.line_input.proofs.Cuts.{Passes, passes_whole, passes_last, lines_long}
 use Rattle.line_input.proofs.Going.{Taken, at_least, taken_more, taken_start}

@@ -16,3 +16,5 @@ pub mod Complete
 mod Words
 pub mod Reading
 mod Made
+pub mod Feeding
+pub mod ErrorLines

@@ -8,15 +8,13 @@ use Rattle.outer_ports.specs.Ports.{Rose}
 use Rattle.outer_ports.specs.declared.sinks.tally.Tally.{Tally}
 use Rattle.paged_machine.specs.lisp_meaning.State.{State}
 use Rattle.trace_text.specs.Made.{made}
-use Rattle.trace_text.specs.Summary.{summary}
 use Rattle.line_input.specs.declared.statuses.status.Status.{Status}
 use Rattle.line_input.specs.declared.statuses.status.Status.TheVariants.{Done, WriteFailed, Refused, ReadFailed, NoSpace, NoMemory, SwapFailed, Usage, NoObject}
 use Rattle.line_input.specs.declared.statuses.status.RunError.TheVariants.{Memory}
-use Rattle.line_input.specs.Statuses.{Closed, code, trouble_line}
+use Rattle.line_input.specs.Statuses.{Closed, trouble_line}
 use Rattle.input_verdict.specs.Verdict.{Read, Whole, start, verdict, world_of}
 use Rattle.input_verdict.proofs.MadeWhole.{made_whole}
-use Rattle.replay_run.specs.Replies.{Answered}
-use Rattle.replay_run.specs.Outcome.{BeforeDump, Breaks, HasObject, IsUntouched, Ran, Wrote}
+use Rattle.replay_run.specs.Outcome.{BeforeDump, Breaks, HasObject, Ran, Wrote}
 use Rattle.replay_run.specs.Exercise.{Ends, Exercised, RanMade}
 use Rattle.command_words.specs.declared.mode.Mode.TheVariants.{Exercise}
 use Rattle.replay_run.proofs.MadeBare.{made_bare}

@@ -3,3 +3,5 @@ pub mod Outcome
 pub mod Steps
 pub mod Top
 pub mod Exercise
+pub mod OneLine
+pub mod Session

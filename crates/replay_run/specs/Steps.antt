@@ -1,7 +1,7 @@
 -- A run up to its last line.
-use Rattle.std.specs.Prelude.{◌≡◌, ◌≢◌, ◌⊎◌, ◌≤◌, ◌<◌, ℕ, List, [], ◌++◌, length, Option, Some, None, Result, Ok, Err, IfSome, unwrap_or, MatchResult, IfErr, count_by, Bool, true, false}
+use Rattle.std.specs.Prelude.{◌≡◌, ◌≢◌, ◌⊎◌, ◌+◌, ◌-◌, ◌^◌, ◌≤◌, ◌<◌, ℕ, List, [], ◌++◌, length, Option, Some, None, Result, Ok, Err, IfSome, unwrap_or, MatchResult, IfErr, count_by, true, false}
 use Rattle.outer_ports.specs.Ports.{Gained, Gave}
-use Rattle.outer_ports.specs.Buffers.{Gathered, Gathers}
+use Rattle.outer_ports.specs.Buffers.{Buffered as Buffer, Gathered, Gathers}
 use Rattle.lisp_graph.specs.declared.command.Command.{Command}
 use Rattle.lisp_graph.specs.declared.command.Command.TheVariants.{Dump}
 use Rattle.lisp_graph.specs.declared.world.World.{World}
@@ -109,6 +109,17 @@ pub record HasNoRoom (command : Command) (old : State) (stands : State → Type 
   pub state : stands old
   pub quiet : faults' ≡ faults
   pub gathered : Gathered held held' pending had
+
+-- a buffer has room for an answer that isn't a dump, and the sink's count of faults isn't at its end
+pub record HasRoom (buffer : Buffer) (faults : ℕ) : Type 0 where
+  pub room : length buffer.pending + 1024 ≤ buffer.room
+  pub few : faults < 2 ^ 64 - 1
+
+-- The sink failed in a dump, which changed nothing: the machine stands for what it stood for.
+pub record FailsInDump (command : Command) (stood stands : State → Type 0) (faults faults' : ℕ) : Type 0 where
+  pub dump : command ≡ Dump
+  pub state : (s : State) → stood s → stands s
+  pub quiet : faults' ≡ faults
 
 -- what a command did, from each state that the machine stood for
 abbrev pub Served : World → Command → (State → Type 0) → (State → Type 0) → ℕ → ℕ → (List ℕ → Type 0) → (List ℕ → Type 0) → List ℕ → List ℕ → Result (Unit {0}) Halt → Type 0

@@ -8,11 +8,14 @@
 mod exercise;
 mod halt;
 mod input;
+mod line;
 mod run;
 mod serve;
+mod session;
 mod top;
 
 pub use input::{answer_input, replay};
 pub use paged_machine::Machine;
 pub use run::run_trace;
+pub use session::{Session, SessionState};
 pub use top::run_lispm;

@@ -9,12 +9,12 @@ ghost use Rattle.replay_run.specs.Outcome.{HasNoWorld, HasNoWorldYet};
 ghost use Rattle.replay_run.specs.Steps.{Acted, Fetched, IsIn, RanTo, TakesAfter, closed};
 
 use crate::halt::Halt;
-use crate::serve::serve;
-use input_verdict::{InputJudge, JudgedInput, Step, judge_line, trouble};
+use crate::line::answer_line;
+use input_verdict::{InputJudge, JudgedInput};
 use line_input::{Found, InputReader, LineReader, RunError, Stop, early_end};
-use lisp_graph::{Request, World};
+use lisp_graph::Request;
 use outer_ports::{Sink, SinkBuffer, Source};
-use paged_machine::{Engine, LoadFault};
+use paged_machine::Engine;
 use std::alloc::Global;
 use world_text::Reason;
 
@@ -59,45 +59,8 @@ fn next_line<S: Source, K: Sink>(
     }
 }
 
-/// Does what a line brings about.
-#[inline(always)]
-fn act<K: Sink, E: Engine>(
-    alloc: Global,
-    buffer: &mut SinkBuffer,
-    sink: &mut K,
-    engine: &mut E,
-    world: &World,
-    step: Step,
-    command: &Request,
-) -> Result<(), Halt>
-    requires may { MayDo world.now (event_of step command.now) }
-    requires takes { step ≡ Step.Does → E.takes engine.old command.now }
-    requires stands { step ≡ Step.Does → IsIn world.now (E.stands engine.old) }
-    requires idle { step ≡ Step.Opens → E.is_idle engine.old }
-    ensures acted { Acted (event_of step command.now) world.now (E.stands engine.old) (E.stands engine.new) (E.faults engine.old) (E.faults engine.new)
-        (K.stands sink.old) (K.stands sink.new) buffer.old.pending buffer.new.pending result }
-    ensures same { event_of step command.now ≡ Nothing → engine.new ≡ engine.old }
-    ensures takes { OnOk result (TakesAfter (event_of step command.now) world.now (E.takes engine.old) (E.takes engine.new) (E.is_idle engine.old) (E.is_idle engine.new)) }
-    ensures read { IfErr result (λ halt. halt ≢ Halt.Read) }
-    ensures write { IfErr result (λ halt. halt ≡ Halt.Write → Rose (K.faults sink.old) (K.faults sink.new)) }
-    ensures swap { IfErr result (λ halt. halt ≡ Halt.Swap → E.faults engine.old < E.faults engine.new) }
-    ensures later { K.faults sink.old ≤ K.faults sink.new }
-    ensures later_engine { E.faults engine.old ≤ E.faults engine.new }
-    ensures quiet { result ≢ Err Halt.Write → K.faults sink.new ≡ K.faults sink.old }
-{
-    match step {
-        Step::Nothing => Ok(()),
-        Step::Opens => match engine.open(alloc, world) {
-            Ok(()) => Ok(()),
-            Err(LoadFault::NoMemory) => Err(Halt::Memory),
-            Err(LoadFault::Swap(_)) => Err(Halt::Swap),
-        },
-        Step::Does => serve(alloc, buffer, sink, engine, world, command),
-    }
-}
-
 /// Where the input ends.
-fn close(place: &JudgedInput) -> Result<(), Stop>
+pub(crate) fn close(place: &JudgedInput) -> Result<(), Stop>
     requires { place.now.lines < 2 ^ 50 }
     ensures { result ≡ closed (ending_at place.now) }
 {
@@ -144,22 +107,18 @@ pub fn run_trace<S: Source, K: Sink, E: Engine>(
             Err(halt) => return Err(halt.stop()),
         };
         let text = &reader.bytes()[..found.length];
-        let step = match judge_line(&mut place, text, found.size, &mut command) {
-            Ok(step) => step,
-            Err(fault) => return Err(Stop::Tell(trouble(&place, fault))),
-        };
-        reader.pass(found.size);
-        match act(
+        match answer_line(
             alloc,
+            &mut place,
+            &mut command,
             buffer,
             sink,
             engine,
-            place.judge.world(),
-            step,
-            &command,
+            text,
+            found.size,
         ) {
-            Ok(()) => {}
-            Err(halt) => return Err(halt.stop()),
+            Ok(()) => reader.pass(found.size),
+            Err(stop) => return Err(stop),
         }
     }
 }

@@ -1,12 +1,12 @@
 //! Commands, and the texts of their answers.
-ghost use Rattle.std.specs.Prelude.{◌≡◌, ◌≢◌, ◌≤◌, ◌<◌, Err, IfErr};
+ghost use Rattle.std.specs.Prelude.{◌≡◌, ◌≢◌, ◌≤◌, ◌<◌, ◌+◌, ◌-◌, ◌^◌, length, Err, Ok, IfErr};
 ghost use Rattle.outer_ports.specs.Ports.{HasCause, Rose};
 ghost use Rattle.outer_ports.specs.Buffers.{Gathers};
 ghost use Rattle.lisp_graph.specs.declared.command.Command.{Command as OneCommand};
 ghost use Rattle.paged_machine.specs.lisp_meaning.State.{State};
 ghost use Rattle.paged_machine.specs.lisp_meaning.Step.{Accounts, area_lines};
 ghost use Rattle.replay_run.specs.Replies.{answer_text};
-ghost use Rattle.replay_run.specs.Steps.{IsIn, IsReached, Served};
+ghost use Rattle.replay_run.specs.Steps.{FailsInDump, HasRoom, IsIn, IsReached, Served};
 ghost use Rattle.trace_text.specs.Replies.{reply_text};
 
 use crate::halt::Halt;
@@ -16,10 +16,12 @@ use paged_machine::{DumpFault, Engine};
 use std::alloc::Global;
 use trace_text::{account_text, fixed_text, reply_text};
 
-/// Gathers a text behind what is pending.
+/// Gathers a text after what is pending. It can't fail if the buffer has room for the text.
 #[inline(always)]
 fn give<K: Sink>(buffer: &mut SinkBuffer, sink: &mut K, text: &[u8]) -> Result<(), Halt>
     ensures gathers { Gathers (K.stands sink.old) (K.stands sink.new) buffer.old.pending buffer.new.pending text.now result }
+    ensures fits { length buffer.old.pending + length text.now ≤ buffer.old.room → K.faults sink.old < 2 ^ 64 - 1 → result ≡ Ok tt }
+    ensures room { buffer.new.room ≡ buffer.old.room }
     ensures write { IfErr result (λ halt. halt ≡ Halt.Write) }
     ensures cause { HasCause (K.faults sink.old) (K.faults sink.new) result }
 {
@@ -29,7 +31,7 @@ fn give<K: Sink>(buffer: &mut SinkBuffer, sink: &mut K, text: &[u8]) -> Result<(
     }
 }
 
-/// Gathers the line of a reply. Most lines are always the same, and are given from the place that they have.
+/// Gathers the line of a reply. Most lines are always the same, and are given from the place that they have. A line has at most 64 bytes.
 #[inline(always)]
 fn give_reply<K: Sink>(
     buffer: &mut SinkBuffer,
@@ -38,6 +40,8 @@ fn give_reply<K: Sink>(
     areas: &Areas,
 ) -> Result<(), Halt>
     ensures gathers { Gathers (K.stands sink.old) (K.stands sink.new) buffer.old.pending buffer.new.pending (reply_text reply.now areas.now) result }
+    ensures fits { length buffer.old.pending + 64 ≤ buffer.old.room → K.faults sink.old < 2 ^ 64 - 1 → result ≡ Ok tt }
+    ensures room { buffer.new.room ≡ buffer.old.room }
     ensures write { IfErr result (λ halt. halt ≡ Halt.Write) }
     ensures cause { HasCause (K.faults sink.old) (K.faults sink.new) result }
 {
@@ -50,7 +54,7 @@ fn give_reply<K: Sink>(
     }
 }
 
-/// Gathers the line of each area.
+/// Gathers the line of each area, at most 16 lines of 64 bytes.
 fn give_accounts<K: Sink, E: Engine>(
     buffer: &mut SinkBuffer,
     sink: &mut K,
@@ -60,6 +64,8 @@ fn give_accounts<K: Sink, E: Engine>(
     requires { IsIn world.now (E.stands engine.now) }
     ensures gathers { (s : State) → E.stands engine.now s → IsReached world.now s
         → Gathers (K.stands sink.old) (K.stands sink.new) buffer.old.pending buffer.new.pending (answer_text world.now.areas (Accounts (area_lines s 0 s.areas))) result }
+    ensures fits { HasRoom buffer.old (K.faults sink.old) → result ≡ Ok tt }
+    ensures room { buffer.new.room ≡ buffer.old.room }
     ensures write { IfErr result (λ halt. halt ≡ Halt.Write) }
     ensures cause { HasCause (K.faults sink.old) (K.faults sink.new) result }
 {
@@ -71,7 +77,8 @@ fn give_accounts<K: Sink, E: Engine>(
     Ok(())
 }
 
-/// Runs a command and gathers what is written for it.
+/// Runs a command and gathers what is written for it. If the buffer has room for 1,024 bytes the sink fails only in a dump, which leaves the
+/// machine as it is.
 #[inline(always)]
 pub(crate) fn serve<K: Sink, E: Engine>(
     alloc: Global,
@@ -85,6 +92,9 @@ pub(crate) fn serve<K: Sink, E: Engine>(
     requires stands { IsIn world.now (E.stands engine.old) }
     ensures served { Served world.now command.now (E.stands engine.old) (E.stands engine.new) (E.faults engine.old) (E.faults engine.new)
         (K.stands sink.old) (K.stands sink.new) buffer.old.pending buffer.new.pending result }
+    ensures fits { result ≡ Err Halt.Write → HasRoom buffer.old (K.faults sink.old)
+        → FailsInDump command.now (E.stands engine.old) (E.stands engine.new) (E.faults engine.old) (E.faults engine.new) }
+    ensures room { buffer.new.room ≡ buffer.old.room }
     ensures takes { (other : OneCommand) → E.takes engine.old other → E.takes engine.new other }
     ensures read { IfErr result (λ halt. halt ≢ Halt.Read) }
     ensures swap { IfErr result (λ halt. halt ≢ Halt.Swap) }

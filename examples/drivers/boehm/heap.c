@@ -1,7 +1,7 @@
 /* The heap of ../c/heap.h over the collector of Boehm, Demers and Weiser.
 
    Objects are never moved, and the collector finds the roots by itself: `registers` is among the program's data.  A
-   flip is one full collection; there is no work behind it, so it is over with the first scan that is asked for. */
+   flip is one full collection; no work remains after it, so the first scan that is requested finishes it. */
 #include "heap.h"
 
 #include <gc.h>
@@ -9,7 +9,7 @@
 #include <stdlib.h>
 #include <string.h>
 
-/* The parts are two values of a cons, or the fields of a block.  They stand behind the object; a block that grew has
+/* The parts are two values of a cons, or the fields of a block.  They follow the object; a block that grew has
    them elsewhere, so that the object keeps its address. */
 struct object {
     uint32_t area, charge, code, length;
@@ -19,7 +19,7 @@ struct object {
 static enum phase phase;
 static uint32_t charged[MOST_AREAS];            /* what was ever made; nothing is taken back */
 
-/* A reader that loads a world keeps objects where the collector doesn't look. */
+/* A reader that loads a world keeps objects in places that the collector doesn't search. */
 void heap_open(void)
 {
     GC_INIT();

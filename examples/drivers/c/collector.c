@@ -2,7 +2,7 @@
 
    A flip makes the regions of some levels old, and moves what the registers refer to.  From then on the program never
    sees an old address: each word that it reads is settled first.  Units of work settle the words that may still have
-   one: those outside that refer to a condemned level, and those that were copied.  When none is left, nothing refers
+   one: those outside that refer to a condemned level, and those that were copied.  When none remains, nothing refers
    to an old region, and a reclaim frees them all. */
 #include "collector.h"
 #include "nursery.h"
@@ -12,8 +12,8 @@
 static struct {
     enum phase phase;
     uint32_t levels;                            /* that were condemned, as bits */
-    struct slots outside;                       /* words outside old regions, left to scan */
-    uint32_t region;                            /* where the scan of whole regions is */
+    struct slots outside;                       /* words outside old regions, not yet scanned */
+    uint32_t region;                            /* the region that is scanned as a whole */
 } cycle;
 
 enum phase heap_phase(void)
@@ -53,7 +53,7 @@ static void copy_words(address from, address to, uint32_t count)
 {
     for (uint32_t i = 0; i < count; i++) {
         memory[to + i] = memory[from + i];
-        memory[to + i].remembered = 0;           /* that is of a place, and not of what stands there */
+        memory[to + i].remembered = 0;           /* this belongs to the place, not to its content */
     }
 }
 
@@ -67,8 +67,8 @@ static address copy_whole(address from, uint32_t count)
     return to;
 }
 
-/* The cells of a list that stand one behind the other move together, so that they stay cells: up to the last of the
-   list, or up to one behind which no cell stands. */
+/* The cells of a list that are adjacent move together, so that they remain cells: up to the last cell of the list, or
+   up to one that isn't followed by a cell. */
 static uint32_t run_length(address from)
 {
     uint32_t count = 1;
@@ -79,7 +79,7 @@ static uint32_t run_length(address from)
     return count;
 }
 
-/* A last cell behind which the list goes on elsewhere becomes a pair. */
+/* If the list continues elsewhere after its last cell, this cell becomes a pair. */
 static address copy_run(address from)
 {
     uint32_t count = run_length(from);
@@ -212,8 +212,8 @@ uint32_t heap_flip(uint32_t levels)
 
 /* ---- The scan */
 
-/* Finds the next word of a region that is left to scan.  New objects stand behind it, too: to scan them finds
-   nothing, since the program has no old address to give them. */
+/* Finds the next word of a region that is not yet scanned.  Words of new objects are found, too: scanning them changes
+   nothing, since the program has no old address to store in them. */
 static bool next_in_regions(address *at)
 {
     for (uint32_t i = 0; i < world.regions; i++) {

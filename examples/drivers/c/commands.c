@@ -1,4 +1,4 @@
-/* What each command does, and its reply: one line, but for `stats` and `dump`. */
+/* What each command does, and its reply: one line, except for `stats` and `dump`. */
 #include "commands.h"
 #include "dump.h"
 
@@ -66,8 +66,8 @@ static bool collects_itself(void)
     return false;
 }
 
-/* Before a command that allocates, whatever it will answer: in a world with capacities a collection that is over
-   is reclaimed, and levels that are full are flipped. */
+/* Before a command that allocates, whatever it will reply: in a world with capacities a collection whose scan has
+   finished is reclaimed, and levels that are full are flipped. */
 static void collect_silently(void)
 {
     if (!collects_itself())
@@ -78,7 +78,7 @@ static void collect_silently(void)
         heap_flip(full_levels());
 }
 
-/* Whether the area has room for so many words; if so, the allocation pays for them with work. */
+/* Whether the area has room for this number of words; if so, the allocation pays for them by scanning. */
 static bool has_room(uint32_t area, uint32_t wanted)
 {
     uint32_t charged = heap_charged(area), quota = world.areas[area].quota;
@@ -127,8 +127,8 @@ static void run_make(const struct command *command)
     puts("ok");
 }
 
-/* A block that grows gets one more than twice its fields, if that is more than is wanted: so a block that grows
-   step by step is seldom laid anew. */
+/* A block that grows gets one more than twice its fields, if that is more than requested: so a block that grows
+   step by step is seldom relocated. */
 static uint32_t grown_length(uint32_t length, uint32_t wanted)
 {
     uint32_t doubled = 2 * length + 1;

@@ -1,4 +1,4 @@
-/* The commands of a trace: their words, what each has behind its word, and the function that does it. */
+/* The commands of a trace: the name of each, what follows the name, and the function that runs it. */
 #ifndef COMMANDS_H
 #define COMMANDS_H
 

@@ -22,7 +22,7 @@ static struct {
     uint32_t size;
 } table;
 
-/* The place of an object in the table, or the free place where it would come to stand. */
+/* The place of an object in the table, or the free place for it. */
 static uint32_t *place_of(struct value object)
 {
     uintptr_t identity = heap_identity(object);

@@ -1,5 +1,5 @@
-/* What the driver wants of a runtime.  The files that read an input, run its commands and write dumps call these
-   functions and nothing else: to put your own runtime in the place of this one, write them anew, as ../boehm does. */
+/* What the driver requires of a runtime.  The files that read an input, run its commands and write dumps call these
+   functions and nothing else: to replace this runtime by your own, write them again, as ../boehm does. */
 #ifndef HEAP_H
 #define HEAP_H
 
@@ -44,8 +44,8 @@ struct value {
 extern struct world world;
 extern struct value registers[MOST_REGISTERS];  /* the roots */
 
-/* The world's areas are known; then its objects are made; then they are all there, and commands come.  An object
-   that is made before heap_loaded stands at level 0, a later one of an ephemeral area at level 1. */
+/* heap_open is called when the world's areas are known, heap_loaded when all its objects have been made and before the
+   first command.  An object that is made before heap_loaded is at level 0, a later one of an ephemeral area at level 1. */
 void heap_open(void);
 void heap_loaded(void);
 
@@ -60,8 +60,8 @@ void heap_grow(struct value block, uint32_t fields);
 struct value heap_read(struct value object, uint32_t part);
 void heap_write(struct value object, uint32_t part, struct value value);
 
-/* Looks that change nothing, for replies and dumps.  Two references have one identity exactly if they are to
-   one object; it may be another one after the next command. */
+/* Functions that change nothing, for replies and dumps.  Two references have the same identity if and only if they are to
+   the same object; the identity may be another one after the next command. */
 struct look {
     uint32_t area, charge, code, length;        /* the code and the number of fields of a block */
 };
@@ -73,9 +73,9 @@ uintptr_t heap_identity(struct value object);
 uint32_t heap_charged(uint32_t area);
 uint32_t heap_level_charged(uint32_t level);
 
-/* Collections.  The levels of a flip are a set of bits, 1 << level, and ALL_LEVELS if it is full.  It answers
-   how many pages of 256 words it will scan at most, beside registers and what is condemned.  heap_scan does so
-   many units of work, or all that are left; the phase is OVER as soon as it has left none. */
+/* Collections.  The levels of a flip are a set of bits, 1 << level, and ALL_LEVELS if it is full.  It returns
+   the greatest number of pages of 256 words that it will scan, besides registers and what is condemned.  heap_scan does
+   this number of units of work, or all that remain; the phase is OVER as soon as none remains. */
 enum phase { IDLE, RUNNING, OVER };
 enum { ALL_LEVELS = 0x7f };
 enum phase heap_phase(void);

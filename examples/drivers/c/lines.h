@@ -1,5 +1,5 @@
 /* Lines, their words, and what a word spells.  A word that spells nothing of its kind ends the run with the line
-   `error line N: REASON`, and so does each other rule that an input breaks; the replies before it stand. */
+   `error line N: REASON`, and so does each other rule that an input breaks; the replies before it have been written. */
 #ifndef LINES_H
 #define LINES_H
 
@@ -30,7 +30,7 @@ void next_line(void);
 bool is_line_of(const char *word);
 void want_words(bool right_count);
 
-/* A value of a world may be `#k`, the object of that number, which may come later. */
+/* A value of a world may be `#k`, the object of that number, which may be defined later. */
 struct part {
     struct value value;
     bool is_object;

@@ -7,23 +7,23 @@
 
 enum { REGION_WORDS = 4096, PAGE_WORDS = 256, LEVEL_COUNT = MOST_LEVELS + 1 };
 
-/* A header is the code times this, and the number of the fields behind it. */
+/* A header is the code times this, plus the number of the fields after it. */
 enum { LENGTHS = MOST_FIELDS + 1 };
 
 /* Addresses count words from the beginning of the memory. */
 typedef uint32_t address;
 
 enum tag {
-    NOTHING,                                    /* of unused words, and of what a block left that grew */
+    NOTHING,                                    /* of unused words, and of the old words of a grown block */
     NIL_WORD,
     NUMBER_WORD,
     CONS_WORD,                                  /* the address of a cons */
     BLOCK_WORD,                                 /* the address of a block's header */
-    HEADER,                                     /* of a block: its fields are the words behind it */
+    HEADER,                                     /* of a block: its fields are the words after it */
     FORWARD                                     /* the object has gone on to another address */
 };
 
-/* What follows the car that stands in a word.  A cons is a cell, the car alone, or a pair of a car and a cdr. */
+/* What follows the car in a word.  A cons is a cell, the car alone, or a pair of a car and a cdr. */
 enum cdr_code {
     NEXT,                                       /* a cell; its cdr is the cons at the next address */
     LAST,                                       /* a cell; its cdr is nil */
@@ -61,11 +61,11 @@ extern struct slots remembered[LEVEL_COUNT];
 struct region *region_of(address at);
 bool is_old(address at);
 
-/* Words for a new object, behind the last one of its area and level. */
+/* Words for a new object, after the last one of its area and level. */
 address place(uint32_t area, uint32_t level, uint32_t count);
 void close_chain(uint32_t area, uint32_t level);
 
-/* Where an object stands that was known by this address; and what stands there: a block, a pair or a cell. */
+/* The place of an object that was known by this address; and what is there: a block, a pair or a cell. */
 address final_address(address at);
 bool is_block(address at);
 bool is_pair(address at);

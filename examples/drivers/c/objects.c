@@ -82,7 +82,7 @@ struct look heap_look(struct value object)
     return look;
 }
 
-/* Finds the word of a part.  The cdr of a cell has none, since the cell's code tells it: then it is the cell. */
+/* Finds the word of a part.  The cdr of a cell has none, since the cell's code determines it: then it is the cell. */
 static bool has_word(struct value object, uint32_t part, address *at)
 {
     *at = final_address((address)object.object);
@@ -114,7 +114,7 @@ struct value heap_read(struct value object, uint32_t part)
     return heap_peek(object, part);
 }
 
-/* A cell has no word for another cdr: it is laid anew, as a pair, and a forward leads there. */
+/* A cell has no word for another cdr: it is relocated as a pair, and a forward leads there. */
 static void cell_to_pair(struct value object, struct value cdr)
 {
     struct value car = heap_read(object, 0);
@@ -139,7 +139,7 @@ void heap_write(struct value object, uint32_t part, struct value value)
     }
 }
 
-/* A block that grows is laid anew, too.  What it leaves is a husk: its words are charged until they are collected,
+/* A block that grows is relocated, too.  What it leaves is a husk: its words are charged until they are collected,
    and they refer to nothing any more. */
 void heap_grow(struct value object, uint32_t fields)
 {

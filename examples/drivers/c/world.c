@@ -137,9 +137,11 @@ static void add_part(struct value holder, uint32_t at, struct part part)
     fillings.list[fillings.count++] = (struct filling){holder, at, part.object};
 }
 
+/* What the objects so far are charged, by area. */
+static uint32_t charged[MOST_AREAS];
+
 static void want_quota(uint32_t area, uint32_t wanted)
 {
-    static uint32_t charged[MOST_AREAS];
     const char *name = world.areas[area].name;
     uint32_t quota = world.areas[area].quota;
 
@@ -242,9 +244,11 @@ static void fill_objects(void)
         heap_write(fillings.list[i].holder, fillings.list[i].at, objects.values[fillings.list[i].object]);
 }
 
+/* The registers that had a root line. */
+static bool is_given[MOST_REGISTERS];
+
 static void read_root(void)
 {
-    static bool is_given[MOST_REGISTERS];
     uint32_t at;
     struct part part;
 

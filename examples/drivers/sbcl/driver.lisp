@@ -33,7 +33,7 @@
            (t ,@body))))
 
 (defmacro with-charge ((area words) &body body)
-  "An allocation, if the quota allows it. A collection that runs is over then."
+  "An allocation, if the quota allows it. A running collection has then finished its scan."
   `(cond ((charge ,area ,words)
           ,@body
           (when *phase* (setf *phase* :over))
@@ -203,7 +203,7 @@
     (write-line (apply action (apply #'parse words parsed)) *out*)))
 
 (defun run ()
-  "Answers an input, and tells the status."
+  "Answers an input, and returns the status."
   (read-world)
   (loop for words = (words-of (next-line))
         until (string= (first words) "end")

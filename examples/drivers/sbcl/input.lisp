@@ -31,7 +31,7 @@
     (get-output-stream-string line)))
 
 (defun check-at-end ()
-  "Nothing stands behind the line that ends an input."
+  "Nothing may follow the line that ends an input."
   (unless (listen *in*) (finish-output *out*))
   (incf *line*)
   (when (read-char *in* nil nil) (bad "text after end")))
@@ -54,7 +54,7 @@
 ;;; Words of each kind. A reader answers what the word says, or nil.
 
 (defun digits (word start)
-  "The number that stands in a word from a place on."
+  "The number in a word from a place on."
   (let ((text (subseq word start)))
     (and (string/= text "")
          (every #'digit-char-p text)
@@ -73,10 +73,10 @@
       (let ((number (number-in word 1 2147483648 1))) (and number (- number)))
       (number-in word 0 2147483647)))
 
-(defstruct reference number)            ; `#k' in a world, until the objects stand
+(defstruct reference number)            ; `#k' in a world, until the objects exist
 
 (defun value-in (word)
-  "A value; a word that is none is refused here, since nil is one. References are told by number."
+  "A value; a word that is none is refused here, since nil is one. References are given by number."
   (cond ((string= word "nil") nil)
         ((starts-p word #\#)
          (make-reference :number (or (number-in word 0 4294967295 1) (bad "bad value"))))

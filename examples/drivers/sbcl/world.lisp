@@ -1,7 +1,7 @@
 ;;;; A world: its sizes, its areas, its objects, and its roots.
 ;;;;
 ;;;; nil and numbers are Lisp's own, a cons is a Lisp cons, and a block an adjustable vector. What
-;;;; they have no room for (the area, a cons's charge, a block's code) stands in a weak table by `eq'.
+;;;; they have no room for (the area, a cons's charge, a block's code) is in a weak table by `eq'.
 
 (in-package :driver)
 
@@ -56,7 +56,7 @@
           (chosen (or (levels-in word (levels)) (bad "bad levels")))))))
 
 (defun parse (words kinds &key rest (least 0) most reason)
-  "What the words behind the first say, each by its kind; those behind the last kind are of the kind REST."
+  "What the words after the first mean, each by its kind; those after the last kind are of the kind REST."
   (let ((more (- (length words) 1 (length kinds))))
     (when (and most (> more most)) (bad reason))
     (unless (if rest (>= more least) (= more 0)) (bad "wrong count"))
@@ -65,7 +65,7 @@
           collect (read-word kind word))))
 
 (defun object-of (value)
-  "A value of a world whose objects stand."
+  "A value of a world whose objects exist."
   (cond ((not (reference-p value)) value)
         ((< (reference-number value) (length *objects*)) (aref *objects* (reference-number value)))
         (t (bad "no object ~d" (reference-number value)))))
@@ -73,7 +73,7 @@
 ;;; The lines of a world
 
 (defun charge (area words)
-  "Charges an area; nil where its quota is met."
+  "Charges an area; nil if that would exceed its quota."
   (and (<= (+ (area-charged area) words) (area-quota area))
        (incf (area-charged area) words)))
 
@@ -99,18 +99,18 @@
     (refuse 4 "space too small")))
 
 (defun check-references ()
-  "Each object that a line refers to stands."
+  "Each object that a line refers to exists."
   (let ((missing (remove-if (lambda (number) (< number (length *objects*))) *named*)))
     (when missing (bad "no object ~d" (reduce #'min missing)))))
 
 (defun resolve (object)
-  "The parts of an object that are told by number become the objects themselves."
+  "The parts of an object that are given by number become the objects themselves."
   (if (consp object)
       (setf (car object) (object-of (car object)) (cdr object) (object-of (cdr object)))
       (map-into object #'object-of object)))
 
 (defun take-line (words)
-  "A line behind the first area line that may come here."
+  "A line after the first area line that is allowed here."
   (let ((head (intern (string-upcase (first words)) :driver)))
     (ecase head
       (area
@@ -135,7 +135,7 @@
     head))
 
 (defun may-follow (part head)
-  "A line that begins so may come behind one that begins with PART."
+  "Whether a line that begins with HEAD may follow one that begins with PART."
   (let ((order '(("area") ("capacity") ("cons" "block" "run") ("root") ("trace"))))
     (flet ((place (word) (position word order :test (lambda (w group) (member w group :test #'string=)))))
       (and (place head)

@@ -38,6 +38,20 @@ impl SinkBuffer {
         Ok(SinkBuffer { room, len: 0 })
     }
 
+    /// The bytes that are pending.
+    pub fn bytes(&self) -> &[u8]
+        ensures { result.now ≡ self.now.pending }
+    {
+        &self.room[..self.len]
+    }
+
+    /// Forgets what is pending.
+    pub fn clear(&mut self)
+        ensures { self.new ≡ record self.old { pending = [] } }
+    {
+        self.len = 0;
+    }
+
     /// Gathers these bytes behind what is pending. The sink isn't called where they have room, and
     /// else is given what is pending first. Where it fails, a prefix that isn't all of them was
     /// gathered, and none of that is lost.

@@ -1,9 +1,8 @@
-use Rattle.std.proofs.Common.{◌≡◌, ◌∙◌, ap, ◌+◌, ◌-◌, ◌<◌, ◌≤◌, ◌^◌, ℕ, arith, refl, sym, take}
+use Rattle.std.proofs.Common.{◌∙◌, arith, inl, inr, refl, sym}
 use Rattle.line_input.proofs.Going.{falls}
-use Rattle.input_verdict.specs.Events.{event_of, trouble_at}
-use Rattle.input_verdict.proofs.Accepted.{goes_on, next_bytes, none_open}
+use Rattle.input_verdict.proofs.Accepted.{next_bytes}
 use Rattle.replay_run.proofs.Going.{going_start, going_filled, passes_accepted}
-use Rattle.replay_run.proofs.Events.{idle_opens, is_in, takes_command, takes_with}
+use Rattle.replay_run.proofs.Events.{is_in, takes_with}
 use Rattle.replay_run.proofs.Ending.{closed_reads, ran_end, ran_fetch, ran_judge, unopened, unread}
 use Rattle.replay_run.proofs.Passing.{fits_accepted, going_act, ran_stopped, stopped_opened}
 use Rattle.replay_run.proofs.run.run_trace.Goals as goal
@@ -29,59 +28,47 @@ returns-in-Err-clause-ran g c =
     let going = going_filled c.next_line.new.reader c.loop-found.invariant.going e.given e.once e.short e.gathered in
     rw c.stop.ensures.is (ran_fetch going c.loop-found.invariant.place e.end c.enough_if-enough.result c.in-Err.halt c.enough_if-enough.ensures.value e.fetched)
 
-pub returns-in-Err-judge_line-clause-ran : goal.returns-in-Err-judge_line-clause-ran
-returns-in-Err-judge_line-clause-ran g c =
+pub answer_line-requires-clause-stands : goal.answer_line-requires-clause-stands
+answer_line-requires-clause-stands g c = is_in c.loop-found.place c.loop-found.invariant.place c.loop-found.invariant.going.tells c.loop-found.invariant.going.limits
+
+pub returns-in-Err-answer_line-clause-ran : goal.returns-in-Err-answer_line-clause-ran
+returns-in-Err-answer_line-clause-ran g c =
     let e = c.in-Ok-Some.ensures in
     let going = going_filled c.next_line.new.reader c.loop-found.invariant.going e.given e.once e.short e.gathered in
-    let fault = c.in-Err-judge_line.fault in
-    let told = c.trouble.ensures.is ∙ ap (λ place. trouble_at place fault) c.in-Err-judge_line.ensures.same in
-    rw told (ran_judge going c.loop-found.invariant.place e.end c.enough_if-enough.result c.in-Ok-Some.found (trouble_at c.loop-found.place fault) c.judge_line.new.place c.enough_if-enough.ensures.value
-    (rw c.in-Ok-Some.field-0-is at e.fetched).0 (rw c.bytes.ensures.value at c.in-Err-judge_line.ensures.judged) (λ other. none_open c.loop-found.place (c.in-Err-judge_line.ensures.early other)))
-
-pub act-requires-clause-takes : goal.act-requires-clause-takes
-act-requires-clause-takes g c = λ is.
-    takes_command c.loop-found.place c.judge_line.new.place (g.E.Engine.takes c.loop-found.engine) c.loop-found.invariant.going.takes_all (event_of c.in-Ok.step c.judge_line.new.command)
-    (goes_on c.loop-found.place (take c.in-Ok-Some.found.length c.bytes.result.now) c.in-Ok-Some.found.size _ c.in-Ok.ensures.judged) c.in-Ok.ensures.may c.judge_line.new.command (ap (λ step. event_of step c.judge_line.new.command) is)
-
-pub act-requires-clause-stands : goal.act-requires-clause-stands
-act-requires-clause-stands g c = λ is.
-    rw c.world.ensures (is_in c.loop-found.place c.judge_line.new.place c.loop-found.invariant.place c.loop-found.invariant.going.tells c.loop-found.invariant.going.limits (event_of c.in-Ok.step c.judge_line.new.command)
-    (goes_on c.loop-found.place (take c.in-Ok-Some.found.length c.bytes.result.now) c.in-Ok-Some.found.size _ c.in-Ok.ensures.judged) c.judge_line.new.command (ap (λ step. event_of step c.judge_line.new.command) is))
-
-pub act-requires-clause-idle : goal.act-requires-clause-idle
-act-requires-clause-idle g c = λ is.
-    idle_opens c.loop-found.place c.judge_line.new.place (g.E.Engine.is_idle c.loop-found.engine) (λ none. (c.loop-found.invariant.going.idle_before none).0) (event_of c.in-Ok.step c.judge_line.new.command)
-    (goes_on c.loop-found.place (take c.in-Ok-Some.found.length c.bytes.result.now) c.in-Ok-Some.found.size _ c.in-Ok.ensures.judged) (ap (λ step. event_of step c.judge_line.new.command) is)
+    let many = c.enough_if-enough.ensures.value in
+    let found = (rw c.in-Ok-Some.field-0-is at e.fetched).0 in
+    elim c.in-Err-answer_line.ensures.stopped [
+      | inl r ↦
+          rw (r.stops, r.still.0, r.still.1, r.still.2)
+          (ran_judge going c.loop-found.invariant.place e.end c.enough_if-enough.result c.in-Ok-Some.found r.trouble r.place' many found (rw c.bytes.ensures.value at r.judged) r.early)
+      | inr h ↦
+          let judged = rw c.bytes.ensures.value at h.accepted in
+          let p = passes_accepted c.next_line.new.reader c.enough_if-enough.result c.in-Ok-Some.found c.loop-found.place _ c.loop-found.invariant.place.counts.within many judged found in
+          rw h.stops (ran_stopped going c.loop-found.invariant.place e.end c.in-Ok-Some.found p _ judged (g.E.Engine.faults c.answer_line.new.engine) h.event h.halt refl h.acted)
+    ]
 
 pub loop-found-smaller : goal.loop-found-smaller
 loop-found-smaller g c =
     let e = c.in-Ok-Some.ensures in
-    let judged = rw c.bytes.ensures.value at c.in-Ok.ensures.judged in
+    let judged = rw c.bytes.ensures.value at c.in-Ok.ensures.done.accepted in
     let p = passes_accepted c.next_line.new.reader c.enough_if-enough.result c.in-Ok-Some.found c.loop-found.place _ c.loop-found.invariant.place.counts.within c.enough_if-enough.ensures.value judged (rw c.in-Ok-Some.field-0-is at e.fetched).0 in
-    falls c.loop-found.place.bytes c.judge_line.new.place.bytes c.in-Ok-Some.found.size (next_bytes c.loop-found.place _ c.in-Ok-Some.found.size _ judged) p.some (fits_accepted c.next_line.new.reader c.in-Ok-Some.found c.loop-found.place _ judged p)
+    falls c.loop-found.place.bytes c.answer_line.new.place.bytes c.in-Ok-Some.found.size (next_bytes c.loop-found.place _ c.in-Ok-Some.found.size _ judged) p.some (fits_accepted c.next_line.new.reader c.in-Ok-Some.found c.loop-found.place _ judged p)
 
 pub loop-found-preserved : goal.loop-found-preserved
 loop-found-preserved g c =
     let e = c.in-Ok-Some.ensures in
     let going = going_filled c.next_line.new.reader c.loop-found.invariant.going e.given e.once e.short e.gathered in
-    let judged = rw c.bytes.ensures.value at c.in-Ok.ensures.judged in
+    let done = c.in-Ok.ensures.done in
+    let judged = rw c.bytes.ensures.value at done.accepted in
     let p = passes_accepted c.next_line.new.reader c.enough_if-enough.result c.in-Ok-Some.found c.loop-found.place _ c.loop-found.invariant.place.counts.within c.enough_if-enough.ensures.value judged (rw c.in-Ok-Some.field-0-is at e.fetched).0 in
     record {
-      going = going_act going c.loop-found.invariant.place e.end c.in-Ok-Some.found p _ judged c.pass.new.self c.pass.ensures.bytes c.pass.ensures.ended (rw c.world.ensures at c.in-Ok-act.ensures.acted)
-          (takes_with _ _ _ _ _ (event_of c.in-Ok.step c.judge_line.new.command) (λ nothing same. c.in-Ok-act.ensures.same nothing ∙ same) (rw c.world.ensures at c.in-Ok-act.ensures.takes));
+      going = going_act going c.loop-found.invariant.place e.end c.in-Ok-Some.found p _ judged c.pass.new.self c.pass.ensures.bytes c.pass.ensures.ended done.acted
+          (takes_with _ _ _ _ _ done.event (λ nothing same. done.still nothing ∙ same) done.takes_after);
       place = c.in-Ok.ensures.place;
       end = λ is. e.end (sym c.pass.ensures.ended ∙ is);
       source = e.quiet_source (λ is. cc (is)) ∙ c.loop-found.invariant.source;
-      sink = c.in-Ok-act.ensures.quiet (λ is. cc (is)) ∙ e.quiet_sink (λ is. cc (is)) ∙ c.loop-found.invariant.sink;
+      sink = c.in-Ok.ensures.quiet (λ is. cc (is)) ∙ e.quiet_sink (λ is. cc (is)) ∙ c.loop-found.invariant.sink;
     }
-
-pub returns-in-Err-act-clause-ran : goal.returns-in-Err-act-clause-ran
-returns-in-Err-act-clause-ran g c =
-    let e = c.in-Ok-Some.ensures in
-    let going = going_filled c.next_line.new.reader c.loop-found.invariant.going e.given e.once e.short e.gathered in
-    let judged = rw c.bytes.ensures.value at c.in-Ok.ensures.judged in
-    let p = passes_accepted c.next_line.new.reader c.enough_if-enough.result c.in-Ok-Some.found c.loop-found.place _ c.loop-found.invariant.place.counts.within c.enough_if-enough.ensures.value judged (rw c.in-Ok-Some.field-0-is at e.fetched).0 in
-    rw c.stop-in-Err-act.ensures.is (ran_stopped going c.loop-found.invariant.place e.end c.in-Ok-Some.found p _ judged (g.E.Engine.faults c.act.new.engine) (event_of c.in-Ok.step c.judge_line.new.command) c.in-Err-act.halt refl (rw c.world.ensures at c.in-Err-act.ensures.acted))
 
 pub returns-in-Ok-None-clause-unopened : goal.returns-in-Ok-None-clause-unopened
 returns-in-Ok-None-clause-unopened g c = λ i tells none.
@@ -105,16 +92,14 @@ returns-in-Err-clause-unread g c = λ i b tells gave none stopped.
     let part = rw (c.stop.ensures.read (cc (stopped))) at e.fetched in
     (going.idle_before (unread going c.loop-found.invariant.place e.end c.enough_if-enough.result part.0 part.1 i b tells gave none)).1
 
-pub returns-in-Err-judge_line-clause-unopened : goal.returns-in-Err-judge_line-clause-unopened
-returns-in-Err-judge_line-clause-unopened g c = λ i tells none.
+pub returns-in-Err-answer_line-clause-unopened : goal.returns-in-Err-answer_line-clause-unopened
+returns-in-Err-answer_line-clause-unopened g c = λ i tells none.
     let e = c.in-Ok-Some.ensures in
     let going = going_filled c.next_line.new.reader c.loop-found.invariant.going e.given e.once e.short e.gathered in
-    (going.idle_before (unopened going c.loop-found.invariant.place e.end i tells none)).1
-
-pub returns-in-Err-act-clause-unopened : goal.returns-in-Err-act-clause-unopened
-returns-in-Err-act-clause-unopened g c = λ i tells none.
-    let e = c.in-Ok-Some.ensures in
-    let going = going_filled c.next_line.new.reader c.loop-found.invariant.going e.given e.once e.short e.gathered in
-    let judged = rw c.bytes.ensures.value at c.in-Ok.ensures.judged in
-    let p = passes_accepted c.next_line.new.reader c.enough_if-enough.result c.in-Ok-Some.found c.loop-found.place _ c.loop-found.invariant.place.counts.within c.enough_if-enough.ensures.value judged (rw c.in-Ok-Some.field-0-is at e.fetched).0 in
-    absurd (stopped_opened going c.loop-found.invariant.place e.end c.in-Ok-Some.found p _ judged _ _ _ _ (event_of c.in-Ok.step c.judge_line.new.command) c.in-Err-act.halt refl (rw c.world.ensures at c.in-Err-act.ensures.acted) i tells none)
+    elim c.in-Err-answer_line.ensures.stopped [
+      | inl r ↦ r.still.0 ∙ (going.idle_before (unopened going c.loop-found.invariant.place e.end i tells none)).1
+      | inr h ↦
+          let judged = rw c.bytes.ensures.value at h.accepted in
+          let p = passes_accepted c.next_line.new.reader c.enough_if-enough.result c.in-Ok-Some.found c.loop-found.place _ c.loop-found.invariant.place.counts.within c.enough_if-enough.ensures.value judged (rw c.in-Ok-Some.field-0-is at e.fetched).0 in
+          absurd (stopped_opened going c.loop-found.invariant.place e.end c.in-Ok-Some.found p _ judged _ _ _ _ h.event h.halt refl h.acted i tells none)
+    ]

@@ -1,4 +1,5 @@
 use Rattle.std.proofs.Common.{length, sym, ap, ◌∙◌, arith, Some}
+use Rattle.std.proofs.lemmas.List.{length-append}
 use Rattle.std.proofs.lemmas.Option.{slice_get-get_or}
 use Rattle.std.proofs.lemmas.Result.{err_from_is_err_and}
 use Rattle.replay_run.proofs.Accounts.{accounts_cut, accounts_more}
@@ -18,4 +19,21 @@ loop-area-preserved g c = record {
       accounts_more s c.args.world.now.areas c.loop-area.area c.index-areas-area.result c.account.result at (c.account.ensures s stood) c.args.buffer.now.pending
       (c.loop-area.invariant.gathered s stood reached) (rw (c.as_bytes.ensures.is, c.account_text-line.ensures.is) at c.in_ok-give.ensures.gathers.whole);
   quiet = c.in_ok-give.ensures.cause.quiet ∙ c.loop-area.invariant.quiet;
+  room = c.in_ok-give.ensures.room ∙ c.loop-area.invariant.room;
+  few =
+      let all = ap length c.in_ok-give.ensures.gathers.whole.all in
+      omega (arith, all, length-append c.loop-area.buffer.pending c.as_bytes.result.now, length-append c.in_ok-give.ensures.gathers.whole.given c.give.new.buffer.pending, ap length c.as_bytes.ensures.is, c.account_text-line.ensures.short, c.loop-area.invariant.few);
 }
+
+pub returns-in_err-give-clause-fits : goal.returns-in_err-give-clause-fits
+returns-in_err-give-clause-fits g c = λ room.
+    let ok = c.in_err-give.ensures.fits
+    (omega (arith, room.room, c.loop-area.invariant.few, c.loop-area.invariant.room, ap length c.as_bytes.ensures.is, c.account_text-line.ensures.short, c.requires.few, c.loop-area-test.true, ap length c.as_slice-areas.ensures))
+    (omega (arith, c.loop-area.invariant.quiet, room.few)) in
+    absurd (cc (ok))
+
+pub returns-in_err-give-clause-room : goal.returns-in_err-give-clause-room
+returns-in_err-give-clause-room g c = c.in_err-give.ensures.room ∙ c.loop-area.invariant.room
+
+pub returns-clause-room : goal.returns-clause-room
+returns-clause-room g c = c.loop-area.invariant.room

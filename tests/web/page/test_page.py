@@ -1,0 +1,447 @@
+"""The page web/lispm.html in headless Chromium, opened from a disk: sessions, steps by keys, edits, exercises, files, links,
+prints, the lecture view, and windows and letters of several sizes."""
+import os
+import re
+import shutil
+import sys
+import tempfile
+import time
+import unittest
+from typing import Any, List
+
+import drawing
+import support
+from support import TOP, parsed, sessions
+
+sys.path.insert(0, os.path.join(TOP, "tests", "stepper"))
+import chromium  # noqa: E402
+from chromium import Chromium  # noqa: E402
+
+CHROMIUM = chromium.find()
+PAGE = os.path.join(TOP, "web", "lispm.html")
+LEAST_MODULE = 50_000
+has_page = os.path.isfile(PAGE) and os.path.getsize(PAGE) > LEAST_MODULE
+SECONDS = 20
+DRAWN = "document.body.dataset.drawn"
+REPLIES = "document.getElementById('replies').textContent"
+CATCH = """window.errors = []; window.saved = [];
+addEventListener('error', event => errors.push(String(event.message)));
+addEventListener('unhandledrejection', event => errors.push(String(event.reason)));
+const create = URL.createObjectURL.bind(URL);
+URL.createObjectURL = blob => { if (/svg|png/.test(blob.type)) blob.arrayBuffer().then(data => saved.push({type: blob.type, bytes: [...new Uint8Array(data)]})); return create(blob); };"""
+KEYS = {" ": 32, "PageDown": 34, "PageUp": 33, "ArrowRight": 39, "ArrowLeft": 37, "Home": 36, "End": 35, "Escape": 27, "Tab": 9, "Enter": 13}
+
+
+def path_of(name: str) -> str:
+    return next(path for found, path in sessions().items() if found == name)
+
+
+def lesson(number: int) -> str:
+    return next(path for name, path in sessions().items() if name.startswith(f"tour/{number:02}-"))
+
+
+@unittest.skipUnless(CHROMIUM and has_page, "Chromium or web/lispm.html isn't there")
+class Page(unittest.TestCase):
+    more: List[str] = []
+
+    @classmethod
+    def setUpClass(cls):
+        if CHROMIUM and has_page:
+            cls.browser = Chromium(CHROMIUM, cls.more)
+            cls.browser.call("Page.enable")
+            cls.browser.call("Page.addScriptToEvaluateOnNewDocument", source=CATCH)
+
+    @classmethod
+    def tearDownClass(cls):
+        if CHROMIUM and has_page:
+            cls.browser.__exit__()
+
+    def tearDown(self):
+        self.assertEqual(self.value("errors"), [])
+
+    def value(self, expression: str) -> Any:
+        return self.browser.value(expression)
+
+    def until(self, expression: str, why: str = "") -> Any:
+        """Waits until an expression is true."""
+        end = time.monotonic() + SECONDS
+        while time.monotonic() < end:
+            found = self.value(expression)
+            if found:
+                return found
+            time.sleep(0.02)
+        self.fail(f"{why or expression} isn't so after {SECONDS} seconds")
+
+    def open(self, hash_: str = "", width: int = 1280, height: int = 800, page: str = PAGE) -> None:
+        self.browser.call("Emulation.setDeviceMetricsOverride", width=width, height=height, deviceScaleFactor=1, mobile=False)
+        self.browser.call("Page.navigate", url="about:blank")
+        self.browser.call("Page.navigate", url=f"file://{page}{hash_}")
+        self.until("document.body && document.body.dataset.ready === 'yes' && document.body.dataset.drawn", f"{hash_} is drawn")
+
+    def at_step(self, number: int) -> None:
+        self.until(f"({DRAWN}).endsWith(' {number}')", f"step {number}")
+
+    def press(self, key: str) -> None:
+        given = {"key": key, "code": "Space" if key == " " else key, "windowsVirtualKeyCode": KEYS[key]}
+        self.browser.call("Input.dispatchKeyEvent", type="rawKeyDown", **given)
+        self.browser.call("Input.dispatchKeyEvent", type="keyUp", **given)
+
+    def type_at(self, line: int, text: str) -> None:
+        """Replaces a line of the editor, from 0, as a reader does."""
+        self.value(f"""(() => {{ const area = document.getElementById('text'), lines = area.value.split('\\n');
+            const from = lines.slice(0, {line}).join('\\n').length + ({line} ? 1 : 0);
+            area.focus(); area.setSelectionRange(from, from + lines[{line}].length); }})()""")
+        self.browser.call("Input.insertText", text=text)
+
+    def click(self, id_: str) -> None:
+        self.value(f"document.getElementById('{id_}').click()")
+
+    def shown(self, id_: str) -> str:
+        return self.value(f"document.getElementById('{id_}').textContent")
+
+
+class Sessions(Page):
+    def test_every_session_is_answered_as_the_program_answers(self):
+        names = self.value("(() => [...document.querySelectorAll('#choice option')].map(one => one.value))()") if self.open() is None else []
+        self.assertGreaterEqual(len(names), 1 + 14 + 10 + 3)
+        for name in [name for name in names if name]:
+            self.open(f"#session={name}")
+            self.assertEqual((name, self.shown("refusal"), self.value("document.getElementById('refusal').hidden")), (name, "", True))
+
+    @support.needs_both
+    def test_replies_and_memory_of_each_step(self):
+        for name, path in (("lesson/7", lesson(7)), ("collection", path_of("collection")), ("lists", path_of("lists"))):
+            trace = parsed(path)
+            self.open(f"#session={name}")
+            for number in range(len(trace.commands) + 1):
+                self.at_step(number)
+                text = support.inside_text(trace, number)
+                machine = support.machine_of(text)
+                svg = self.value("new XMLSerializer().serializeToString(document.querySelector('#regions svg'))")
+                found = drawing.read(svg)
+                self.assertEqual(sorted(found.words), sorted(at for region in machine.regions for at in region.words), f"{name} {number}")
+                self.assertEqual(drawing.wrong(found), [], f"{name} {number}")
+                if number:
+                    self.assertEqual(self.shown("command"), trace.commands[number - 1].text)
+                    self.assertEqual(self.shown("reply"), support.last_reply(text, trace, number))
+                if number < len(trace.commands):
+                    self.press("ArrowRight")
+
+    def test_comments_are_captions(self):
+        self.open("#session=lesson/7")
+        self.assertIn("How can objects move", self.shown("caption"))
+        self.press("End")
+        self.at_step(len(parsed(lesson(7)).commands))
+        self.assertNotIn("How can objects move", self.shown("caption"))
+
+    def test_what_changed_is_marked(self):
+        self.open("#session=collection&step=6")
+        self.at_step(6)
+        changed = self.value("[...document.querySelectorAll('#regions .word')].filter(one => one.querySelector('.d-changed')).map(one => one.dataset.address)")
+        self.assertEqual(changed, ["2", "4096", "4097"])
+        self.assertIn("read barrier moved 1 object", self.shown("events"))
+
+    def test_generational_events(self):
+        self.open("#session=levels")
+        told = set()
+        for _ in parsed(path_of("levels")).commands:
+            before = self.value(DRAWN)
+            self.press("ArrowRight")
+            self.until(f"{DRAWN} !== '{before}'")
+            told.add(self.shown("events"))
+        self.assertIn("promoted from level 1 to level 2", " ".join(told))
+        self.open("#session=references")
+        told = set()
+        for _ in parsed(path_of("references")).commands:
+            before = self.value(DRAWN)
+            self.press("ArrowRight")
+            self.until(f"{DRAWN} !== '{before}'")
+            told.add(self.shown("events"))
+        self.assertRegex(" ".join(told), "Page 16 is tagged")
+        self.assertRegex(" ".join(told), "is evicted; its row")
+
+
+class Keys(Page):
+    def test_keys_of_a_keyboard_and_a_clicker(self):
+        self.open("#session=collection")
+        last = len(parsed(path_of("collection")).commands)
+        for key, step in (("ArrowRight", 1), (" ", 2), ("PageDown", 3), ("PageUp", 2), ("ArrowLeft", 1), ("End", last), ("ArrowRight", last), ("Home", 0), ("ArrowLeft", 0)):
+            self.press(key)
+            self.at_step(step)
+            self.assertEqual(self.shown("place"), f"step {step} of {last}")
+
+    def test_the_focus_is_kept(self):
+        self.open("#session=collection")
+        self.value("document.getElementById('on').focus()")
+        self.click("last")
+        self.press("ArrowRight")
+        self.assertEqual(self.value("document.activeElement.id"), "on")
+
+    def test_all_is_reached_by_tab(self):
+        self.open("#session=lesson/1")
+        reached = set()
+        for _ in range(40):
+            self.press("Tab")
+            reached.add(self.value("document.activeElement.id"))
+        self.assertLessEqual({"choice", "first", "slider", "on", "lecture", "quiz", "svg", "png", "printing", "link", "text", "answer-1"}, reached)
+
+    def test_everything_has_a_name(self):
+        self.open("#session=lesson/1")
+        nameless = self.value("""[...document.querySelectorAll('button, input, select, textarea, section:not([hidden]):not(#side):not(#print)')].filter(one =>
+            !(one.getAttribute('aria-label') || one.getAttribute('aria-labelledby') || one.textContent.trim() || one.labels?.length)).map(one => one.id || one.outerHTML)""")
+        self.assertEqual(nameless, [])
+        self.assertEqual(self.value("[...document.querySelectorAll('main svg')].filter(one => one.getAttribute('role') !== 'img' || !one.getAttribute('aria-label')).length"), 0)
+
+
+class Editing(Page):
+    def line_of(self, text: str) -> int:
+        return self.value("document.getElementById('text').value.split('\\n')").index(text)
+
+    def test_a_change_shows(self):
+        self.open("#session=lesson/1")
+        self.type_at(self.line_of("set 1 -7"), "set 1 42")
+        self.until(f"({REPLIES}).includes('42')", "the reply 42")
+        self.assertEqual(self.value("document.getElementById('choice').value"), "")
+        self.assertTrue(self.value("location.hash").startswith("#text="))
+
+    def test_the_step_follows_the_caret(self):
+        self.open("#session=lesson/1")
+        self.type_at(self.line_of("set 1 -7"), "set 1 42")
+        self.at_step(2)
+
+    def test_a_refused_line_is_marked_at_its_word(self):
+        for line, reason, word in (("cons 2 nowhere 0 1", "no area", "nowhere"), ("conz 2 work 0 1", "unknown command", "conz"), ("cons 2 work 0 99", "no register", "99"),
+                                   ("cons 2 work 0", "wrong count", ""), ("cons 2 work  0 1", "bad line", "  ")):
+            self.open("#session=lesson/1")
+            at = self.line_of("cons 2 work 0 1")
+            self.type_at(at, line)
+            self.until("!document.getElementById('refusal').hidden", reason)
+            self.assertIn(f"Line {at + 1} is refused: {reason}", self.shown("refusal"))
+            letter = self.value("parseFloat(getComputedStyle(document.getElementById('editor')).getPropertyValue('--letter'))")
+            mark = self.value("(() => { const mark = document.querySelector('.mark.refused').getBoundingClientRect(), paper = document.getElementById('paper').getBoundingClientRect(); return [mark.left - paper.left - 6, mark.width]; })()")
+            self.assertAlmostEqual(mark[0] / letter, line.index(word) if word else len(line), delta=0.3, msg=line)
+            self.assertAlmostEqual(mark[1] / letter, max(1, len(word)), delta=0.3, msg=line)
+
+    def test_a_refused_line_keeps_the_steps_before_it(self):
+        self.open("#session=lesson/1")
+        self.type_at(self.line_of("cons 2 work 0 1"), "conz")
+        self.until("document.getElementById('place').textContent === 'step 2 of 2'", "two steps")
+
+    def test_a_key_shows_at_once(self):
+        """A keystroke in a session of 60 commands shows in under 100 ms."""
+        commands = "".join(f"set {at % 8} {at}\ncons {(at + 1) % 8} work {at % 8} {(at + 2) % 8}\n" for at in range(30))
+        text = f"lispm-world 1\nspace 16 32 8 1 2\narea work dynamic 400\ntrace\n{commands}end\n"
+        self.open("#text=" + text.replace("\n", "%0A").replace(" ", "+"))
+        times = []
+        for number in range(5):
+            times.append(self.browser.call("Runtime.evaluate", awaitPromise=True, returnByValue=True, expression=f"""new Promise(resolve => {{
+                const area = document.getElementById('text'), before = {DRAWN}, from = performance.now();
+                area.value = area.value.replace(/set 5 [0-9]+/, 'set 5 {number + 100}'); area.setSelectionRange(area.value.indexOf('end'), area.value.indexOf('end')); area.dispatchEvent(new Event('input'));
+                const look = () => {DRAWN} === before ? setTimeout(look, 1) : resolve(performance.now() - from); look(); }})""")["result"]["value"])
+        self.assertLess(min(times), 100, times)
+
+    def test_a_long_session_can_be_stopped(self):
+        commands = "set 0 1\\n"
+        self.open("#session=lesson/1")
+        self.value(f"""(() => {{ const area = document.getElementById('text'); area.value = 'lispm-world 1\\nspace 16 32 8 1 2\\narea work dynamic 400\\ntrace\\n' + '{commands}'.repeat(100000) + 'end\\n';
+            area.dispatchEvent(new Event('input')); }})()""")
+        self.until("!document.getElementById('stop').hidden", "the button that stops")
+        self.click("stop")
+        self.until("document.getElementById('progress').textContent.startsWith('stopped after') || document.getElementById('place').textContent.endsWith('of 100000')", "it is stopped")
+
+    def test_a_long_session_is_answered(self):
+        self.open("#session=lesson/1")
+        self.value("""(() => { const area = document.getElementById('text'); area.value = 'lispm-world 1\\nspace 16 32 8 1 2\\narea work dynamic 400\\ntrace\\n' + 'set 0 1\\n'.repeat(100000) + 'end\\n';
+            area.setSelectionRange(0, 0); area.dispatchEvent(new Event('input')); })()""")
+        self.until("document.getElementById('place').textContent.endsWith('of 100000')", "100,000 replies")
+
+
+class Lessons(Page):
+    def solution(self, number: int, task: int) -> str:
+        with open(os.path.join(TOP, "tests", "tour", "solutions", f"{number:02}-{task}")) as file:
+            return file.read()
+
+    def answer(self, task: int, text: str) -> str:
+        self.value(f"(() => {{ const area = document.getElementById('answer-{task}'); area.value = {text!r}; area.closest('section').querySelector('button').click(); }})()")
+        verdict = f"document.querySelectorAll('.task')[{task - 1}].querySelector('.verdict')"
+        self.until(f"{verdict} !== null", "a verdict")
+        found = self.value(f"{verdict}.textContent")
+        self.value(f"document.querySelectorAll('.task')[{task - 1}].querySelector('.result').replaceChildren()")
+        return found
+
+    def test_exercises_are_judged(self):
+        for number in range(1, 15):
+            self.open(f"#session=lesson/{number}")
+            for task in (1, 2, 3):
+                self.assertEqual(self.answer(task, self.solution(number, task)), "Right.", f"{number}-{task}")
+                self.assertTrue(self.answer(task, "").startswith("Not yet."), f"{number}-{task}")
+
+    def test_why_an_answer_is_wrong(self):
+        self.open("#session=lesson/1")
+        self.assertIn("The machine refuses `conz`: unknown command", self.answer(2, "conz\n"))
+        self.assertIn("There are 5 commands; at most 4", self.answer(3, "set 7 1\n" + self.solution(1, 3)))
+
+    def test_the_quiz_hides_replies_and_judges(self):
+        self.open("#session=lesson/7&step=3")
+        self.click("quiz")
+        self.press("ArrowRight")
+        self.until("document.querySelector('#asked input') !== null", "a question")
+        self.assertEqual((self.shown("reply"), self.shown("command")), ("", "flip full"))
+        self.assertNotIn("flipped", self.value(REPLIES))
+        self.value("(() => { const field = document.querySelector('#asked input'); field.value = 'flipped 0'; field.form.requestSubmit(); })()")
+        self.until("document.getElementById('score').textContent.startsWith('right')", "a right answer")
+        self.assertEqual(self.shown("reply"), "flipped 0")
+
+
+class Files(Page):
+    def saved(self, kind: str) -> bytes:
+        found = self.until(f"saved.length && saved[saved.length - 1].type.includes('{kind}') && saved[saved.length - 1].bytes", f"a file of {kind}")
+        return bytes(found)
+
+    def test_svg_and_png_of_a_step(self):
+        self.open("#session=collection&step=6")
+        self.at_step(6)
+        self.browser.call("Browser.setDownloadBehavior", behavior="deny")
+        self.click("svg")
+        svg = self.saved("svg").decode()
+        self.assertTrue(svg.startswith("<svg "))
+        self.assertEqual(sorted((arrow.holders[0], arrow.target) for arrow in drawing.read(svg).arrows if arrow.holders)[:3], [("2", 4096), ("r1", 4096), ("r1", 4096)])
+        self.assertNotIn("var(", svg)
+        self.click("png")
+        self.assertTrue(self.saved("png").startswith(b"\x89PNG"))
+
+    def test_a_link_has_the_session(self):
+        text = "; Mine.\nlispm-world 1\nspace 16 32 8 1 2\narea work dynamic 9\ntrace\nset 0 5\nset 1 6\ncons 2 work 0 1\nend\n"
+        self.open("#text=" + text.replace("\n", "%0A").replace(" ", "+").replace(";", "%3B") + "&step=3")
+        self.at_step(3)
+        self.assertEqual((self.value("document.getElementById('text').value"), self.shown("reply")), (text, "ok"))
+        link = self.value("location.hash")
+        self.open(link)
+        self.at_step(3)
+        self.assertEqual(self.value("document.getElementById('text').value"), text)
+
+    def test_a_link_to_a_lesson_in_the_lecture_view(self):
+        self.open("#session=lesson/10&step=4&view=lecture")
+        self.at_step(4)
+        self.assertTrue(self.value("document.body.classList.contains('lecture')"))
+        self.press("Escape")
+        self.assertFalse(self.value("document.body.classList.contains('lecture')"))
+
+    def test_each_step_is_a_page_of_the_print(self):
+        self.open("#session=collection")
+        self.value("window.print = () => { window.printed = true; }")
+        self.click("printing")
+        self.until("window.printed", "the print")
+        steps = len(parsed(path_of("collection")).commands) + 1
+        self.assertEqual(self.value("document.querySelectorAll('#print .sheet').length"), steps)
+        import base64
+        pdf = base64.b64decode(self.browser.call("Page.printToPDF", printBackground=True, preferCSSPageSize=True)["data"])
+        self.assertEqual(len(re.findall(rb"/Type\s*/Page\b", pdf)), steps)
+
+    def test_nothing_is_fetched(self):
+        with open(PAGE, encoding="utf-8") as file:
+            page = file.read()
+        self.assertEqual(set(re.findall(r"https?://[^\"'`\s]+", page)) - {"http://www.w3.org/2000/svg"}, set())
+        self.assertLess(len(page), 2_500_000)
+        self.open()
+        self.assertEqual(self.value("performance.getEntriesByType('resource').filter(one => !/^(blob|data):/.test(one.name)).map(one => one.name)"), [])
+
+
+class Sizes(Page):
+    def width(self) -> int:
+        return self.value("document.documentElement.scrollWidth")
+
+    def test_no_window_scrolls_sideways(self):
+        for width, height in ((320, 640), (420, 800), (1280, 720), (3840, 2160)):
+            for name in ("lesson/7", "collection", "lesson/3"):
+                self.open(f"#session={name}&step=6", width, height)
+                self.assertLessEqual(self.width(), width, f"{name} at {width}")
+
+    def test_letters_of_a_narrow_window_can_be_read(self):
+        self.open("#session=lesson/7&step=6", 320, 640)
+        scale = self.value("(() => { const svg = document.querySelector('#regions svg'); return svg.getBoundingClientRect().width / svg.viewBox.baseVal.width; })()")
+        self.assertGreater(scale * 12, 8)
+        self.assertLessEqual(self.value("document.getElementById('regions').scrollWidth - document.getElementById('regions').clientWidth"), 1)
+
+    def test_the_lecture_view_fills_its_window(self):
+        for width, height in ((1280, 720), (853, 480), (3840, 2160), (1024, 768)):
+            self.open("#session=lesson/7&step=6&view=lecture", width, height)
+            box = self.value("(() => { const box = document.querySelector('main').getBoundingClientRect(); return [box.width, box.height]; })()")
+            self.assertGreater(max(box[0] / width, box[1] / height), 0.98)
+            self.assertAlmostEqual(box[0] / box[1], 16 / 9, delta=0.02)
+            self.assertEqual(self.value("[document.documentElement.scrollWidth, document.documentElement.scrollHeight]"), [width, height])
+            letters = self.value("(() => { const svg = document.querySelector('#regions svg'), box = svg.viewBox.baseVal; const font = parseFloat(document.getElementById('letters').textContent.match(/font:([0-9.]+)px/)[1]); return font * Math.min(svg.clientWidth / box.width, svg.clientHeight / box.height); })()")
+            self.assertGreater(letters / box[1], 0.016)
+
+    def test_nothing_jumps_from_step_to_step(self):
+        for view in ("", "&view=lecture"):
+            self.open(f"#session=lesson/7{view}")
+            self.until("document.body.dataset.planned", "all steps are looked at")
+            time.sleep(0.2)
+            places = set()
+            for step in range(8):
+                self.at_step(step)
+                places.add(tuple(self.value("""(() => { const svg = document.querySelector('#regions svg').getBoundingClientRect(), box = document.querySelector('#regions [data-region="0"] rect').getBoundingClientRect();
+                    return [svg.width, svg.height, box.left - svg.left, box.top - svg.top].map(Math.round); })()""")) if step > 1 else ("", ))
+                self.press("PageDown")
+            self.assertEqual(len(places), 2, places)
+
+    def test_dark_and_light(self):
+        ground = "getComputedStyle(document.body).backgroundColor"
+        self.browser.call("Emulation.setEmulatedMedia", features=[{"name": "prefers-color-scheme", "value": "dark"}])
+        self.open("#session=lesson/7&step=6")
+        self.assertEqual(self.value(ground), "rgb(22, 24, 28)")
+        self.assertEqual(self.value("getComputedStyle(document.querySelector('#regions .d-ground')).fill"), "rgb(22, 24, 28)")
+        self.click("theme")
+        self.assertEqual(self.value(ground), "rgb(255, 255, 255)")
+        self.browser.call("Emulation.setEmulatedMedia", features=[])
+
+    def test_a_heap_of_thousands_draws_fast(self):
+        """A step of a world with 5,000 objects draws in under 200 ms, and has a map of the heap."""
+        lists = "".join("list 1 work " + " ".join(["0"] * 100) + "\ncons 2 work 1 2\n" for _ in range(50))
+        text = f"lispm-world 1\nspace 64 64 8 1 2\narea work dynamic 20000\ntrace\nset 0 7\n{lists}flip full\nscavenge 4000\nend\n"
+        self.open("#text=" + text.replace("\n", "%0A").replace(" ", "+") + "&step=101")
+        self.at_step(101)
+        time.sleep(2)
+        times = []
+        for key, step in (("PageDown", 102), ("PageDown", 103), ("PageUp", 102), ("PageDown", 103)):
+            start = self.value("performance.now()")
+            self.press(key)
+            self.at_step(step)
+            times.append(self.value("performance.now()") - start)
+        self.assertLess(min(times), 200, times)
+        self.assertGreater(self.value("document.querySelectorAll('#heap path').length"), 2)
+        self.assertFalse(self.value("document.getElementById('map').hidden"))
+
+
+class LargeLetters(Page):
+    more = ["--blink-settings=minimumFontSize=24"]
+
+    def test_a_least_size_of_24(self):
+        for width in (320, 1280):
+            self.open("#session=lesson/7&step=6", width, 900)
+            self.assertLessEqual(self.value("document.documentElement.scrollWidth"), width)
+            overlaps = self.value("""(() => { const lines = parseFloat(getComputedStyle(document.getElementById('editor')).getPropertyValue('--line')); return lines; })()""")
+            self.assertGreaterEqual(overlaps, 24)
+            wide = self.value("""[...document.querySelectorAll('#regions .word, #regions .register')].filter(cell => { const box = cell.querySelector('rect').getBoundingClientRect();
+                return [...cell.querySelectorAll('text')].some(one => { const text = one.getBoundingClientRect(); return text.left < box.left - 2 || text.right > box.right + 2; }); }).length""")
+            self.assertEqual(wide, 0)
+
+
+@unittest.skipUnless(CHROMIUM and has_page, "Chromium or web/lispm.html isn't there")
+class NoModule(Page):
+    def test_one_sentence(self):
+        with tempfile.TemporaryDirectory() as folder:
+            path = os.path.join(folder, "page.html")
+            shutil.copy(PAGE, path)
+            with open(path, encoding="utf-8") as file:
+                page = file.read()
+            with open(path, "w", encoding="utf-8") as file:
+                file.write(re.sub(r'(<script type="text/plain" id="module">).*?(</script>)', r"\1AAAA\2", page, flags=re.S))
+            self.browser.call("Page.navigate", url=f"file://{path}")
+            self.until("document.getElementById('cannot') && !document.getElementById('cannot').hidden", "the sentence")
+            self.assertEqual(self.shown("cannot").count("."), 1)
+
+
+if __name__ == "__main__":
+    unittest.main()
