@@ -225,12 +225,12 @@ class Bounds:
         known, run, masks = self.known, self.collection, self.all_masks()
         sure = {name for name, mask in masks.items() if mask < GONE and name not in run.may}
         needed = known.led_to([(ANYWHERE, sure)], run.may)[0]
-        after, found = dict(masks), {}
+        after, found, bits = dict(masks), {}, self.doomed_bits(run.what)
         charges: Dict[Tuple[int, int, int], int] = {}           # by area, and by the mask before and after
         for name, mask in masks.items():
             one, new = known.objects[name], mask
             if name in run.may:
-                case = mask, one.area, name in run.must, name in needed, name in run.bound
+                case = mask, bits[one.area], name in run.must, name in needed, name in run.bound
                 if case not in found:
                     found[case] = self.mask_after(*case)
                 new = after[name] = found[case]
@@ -240,10 +240,10 @@ class Bounds:
         self.count_totals(charges)
         self.collection = None
 
-    def mask_after(self, mask: int, area: int, is_doomed: bool, is_needed: bool, is_bound: bool) -> int:
-        """Where a name of an area may be after the reclaim that may be condemned, or is doomed to if it is held."""
+    def mask_after(self, mask: int, bits: int, is_doomed: bool, is_needed: bool, is_bound: bool) -> int:
+        """Where a name may be after the reclaim that may be condemned at the levels of these bits, and is if it is doomed
+        and held."""
         run, known = self.collection, self.known
-        bits = self.doomed_bits(run.what)[area]
         stays = mask & ~bits if is_doomed else mask
         moved = 0
         for level in range(7):
