@@ -15,6 +15,7 @@ import words
 
 # The kits with which .ci/run has passed.
 KITS = ("rattle-kit-13b", "rattle-kit-13f")
+KIT = " or ".join(KITS)
 # Statuses of this script's own: no program, a trial without an answer, stopped by ctrl-C. A program has 0 to 8.
 REFUSED, NO_PROGRAM, NO_ANSWER, STOPPED = 7, 69, 70, 130
 # The seconds that a run of a trial has, if the run isn't the whole trial.
@@ -86,7 +87,7 @@ def identity(name: str) -> str:
     """The version, the commit, whether the program is proved, and the kit, in two lines."""
     if not is_checkout():
         return text_of("identity", name)
-    kit = told_by(["rt", "version"]) or f"without the command rt ({' or '.join(KITS)})"
+    kit = told_by(["rt", "version"]) or f"without the command rt ({KIT})"
     return f"{name} {text_of('VERSION').strip()}{commit()}, {state_of(name)}\n{kit}\n"
 
 
@@ -118,7 +119,7 @@ def has_rt(name: str) -> bool:
 
     if shutil.which("rt"):
         return True
-    say(name, f"needs the command rt ({' or '.join(KITS)}), see README")
+    say(name, f"needs the command rt ({KIT}), see README")
     return False
 
 

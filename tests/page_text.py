@@ -181,7 +181,7 @@ def paths_missing(page: str) -> Tuple[int, List[Wrong]]:
     for number, line in prose.page_lines(prose.read(page)):
         for path, other in re.findall(r"`([\w./-]+)`(?: of `(\w+)`)?", line):
             is_path = TOPS.match(path) or (folder.startswith("crates/") and PARTS.match(path))
-            if is_path and not re.search(r"[A-Z]{4}\b(?!\.md)", path):
+            if is_path and not re.search(r"[A-Z]{4}\b(?!\.md)|\.wasm$", path):
                 starts = ["", folder, f"crates/{other}"]
                 places = [os.path.join(prose.TOP, start, path + end) for start in starts for end in ("", ".antt", ".rt", ".edit")]
                 count += 1

@@ -13,6 +13,7 @@ from typing import Callable, Dict, Iterator, List, NamedTuple, Tuple
 
 TOP = os.path.dirname(os.path.dirname(os.path.realpath(__file__)))
 SKIPPED = {".git", "__pycache__", "out", "node_modules"}
+MADE = {os.path.join("web", "lispm.html")}      # made from files that are read
 # Each group of files: what its passages are, and patterns of the paths that belong to it. A path belongs to the first group that has it.
 GROUPS: Dict[str, Tuple[str, ...]] = {
     "readmes": ("crates/*/README.md",),
@@ -47,8 +48,8 @@ def joined(path: str, lines: Lines) -> Iterator[Passage]:
 
 
 def without_code(text: str) -> str:
-    """The text with one backquote for each piece of code, and without the targets of links; line feeds stay."""
-    plain = re.sub(r"`[^`]*`", lambda code: "`" + "\n" * code.group().count("\n"), text)
+    """The text with one backquote for each piece of code or comment, and without the targets of links; line feeds stay."""
+    plain = re.sub(r"`[^`]*`|<!--.*?-->", lambda code: "`" + "\n" * code.group().count("\n"), text)
     return re.sub(r"\]\([^)\s]*\)", "]", plain)
 
 
@@ -163,7 +164,7 @@ def paths() -> Iterator[Tuple[str, str]]:
         folders[:] = sorted(set(folders) - SKIPPED)
         for name in sorted(names):
             path = os.path.relpath(os.path.join(folder, name), TOP)
-            if group_of(path):
+            if group_of(path) and path not in MADE:
                 yield group_of(path), path
 
 

@@ -14,9 +14,9 @@ struct tried { u64 ok; void *at; };
 #define MOST (65535 * PAGE)
 
 extern u8 __heap_base;
-static u64 top;                     /* where unused memory begins; 0 before the first block is taken */
+static u64 top;                     /* the address of unused memory; 0 before the first block is taken */
 static void *lists[33];             /* for each class the first block that is free */
-static u8 nothing[16];              /* where the pointer of a failed call leads */
+static u8 nothing[16];              /* what the pointer of a failed call points to */
 
 static int class_of(u64 size) {
     int class = 4;

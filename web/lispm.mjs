@@ -36,8 +36,8 @@ function waiting(call) {
   for (;;) {
     try {
       return call();
-    } catch (fault) {
-      if (fault.code !== "EAGAIN") throw fault;
+    } catch (error) {
+      if (error.code !== "EAGAIN") throw error;
       pause();
     }
   }
@@ -46,8 +46,8 @@ function waiting(call) {
 function write(bytes) {
   try {
     for (let at = 0; at < bytes.length; ) at += waiting(() => writeSync(1, bytes, at));
-  } catch (fault) {
-    throw new WriteFailed(fault.message);
+  } catch (error) {
+    throw new WriteFailed(error.message);
   }
 }
 
@@ -58,9 +58,9 @@ let source = 0;
 function read() {
   try {
     return chunk.subarray(0, waiting(() => readSync(source, chunk)));
-  } catch (fault) {
-    if (fault.code === "EOF") return chunk.subarray(0, 0);
-    throw new ReadFailed(fault.message);
+  } catch (error) {
+    if (error.code === "EOF") return chunk.subarray(0, 0);
+    throw new ReadFailed(error.message);
   }
 }
 
@@ -160,8 +160,8 @@ function withoutFile(given) {
   if (given.length < 2 || /^--[^=]*$/.test(given[given.length - 2]) || !isFile(last)) return given;
   try {
     source = openSync(last);
-  } catch (fault) {
-    throw new ReadFailed(fault.message);
+  } catch (error) {
+    throw new ReadFailed(error.message);
   }
   return given.slice(0, -1);
 }
@@ -178,14 +178,14 @@ function version(machine) {
   return textAnswer(DONE, `lispm ${machine.version()}, compiled for WebAssembly\n${build}`);
 }
 
-// The status of a call, also where standard input or output fails, or the module stops.
+// The status of a call, also if standard input or output fails, or the module stops.
 function guarded(call) {
   try {
     return call();
-  } catch (fault) {
-    if (fault instanceof WriteFailed) return WRITE_FAILED;
-    if (fault instanceof ReadFailed) return guarded(() => textAnswer(READ_FAILED, "error: read failed\n"));
-    say(`the module stopped: ${fault.message}`);
+  } catch (error) {
+    if (error instanceof WriteFailed) return WRITE_FAILED;
+    if (error instanceof ReadFailed) return guarded(() => textAnswer(READ_FAILED, "error: read failed\n"));
+    say(`the module stopped: ${error.message}`);
     return STOPPED;
   }
 }
@@ -201,8 +201,8 @@ async function main(given) {
     const machine = await load();
     const isVersion = first === "--version" || first === "-V";
     return guarded(() => (isVersion ? version(machine) : answer(machine, given)));
-  } catch (fault) {
-    say(`web/lispm.wasm can't be loaded: ${fault.message}`);
+  } catch (error) {
+    say(`web/lispm.wasm can't be loaded: ${error.message}`);
     return MISSING;
   }
 }

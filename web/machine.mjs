@@ -17,8 +17,8 @@ class NoRoom extends Error {}
 function orNoMemory(answer) {
   try {
     return answer();
-  } catch (fault) {
-    if (!(fault instanceof NoRoom)) throw fault;
+  } catch (error) {
+    if (!(error instanceof NoRoom)) throw error;
     return { status: NO_MEMORY, output: bytesOf("error: no memory\n") };
   }
 }

@@ -39,7 +39,7 @@ def sources(name: str) -> Iterator[str]:
 
 
 def rlib(name: str) -> str:
-    """Where the built library of a crate is."""
+    """The path of the built library of a crate."""
     return os.path.join(TOP, "crates", name, "out", "rlib", f"{name}.rlib")
 
 
@@ -76,10 +76,14 @@ def told(command: List[str]) -> str:
     return (ended.stdout.splitlines() or ["unknown"])[0].strip()
 
 
+def tools() -> Dict[str, str]:
+    """The kit and the version of wasm-opt that are here."""
+    return {"kit": told(["rt", "version"]), "lowered by": told(["wasm-opt", "--version"])}
+
+
 def build_text(name: str, module: str) -> str:
     """The text of web/BUILD for a module that was made now."""
-    facts = {"commit": told(["git", "log", "-1", "--format=%H %cs"]), "kit": told(["rt", "version"]),
-             "lowered by": told(["wasm-opt", "--version"]), "sources": f"sha256 {sum_of_sources(name)}",
+    facts = {"commit": told(["git", "log", "-1", "--format=%H %cs"]), **tools(), "sources": f"sha256 {sum_of_sources(name)}",
              "lispm.wasm": f"sha256 {sum_of_file(module)}"}
     return "".join(f"{fact}: {value}\n" for fact, value in facts.items())
 

@@ -28,7 +28,7 @@
 #include <string.h>
 
 /* The version of this header; lispm_version() is that of the library. major * 1000000 + minor * 1000 + patch. */
-#define LISPM_VERSION 3000
+#define LISPM_VERSION 4000
 
 /* The most bytes that the text of a line may have; a longer one is refused with `line too long`. */
 #define LISPM_LONGEST_LINE 32768
@@ -46,7 +46,7 @@ enum {
     LISPM_EMPTY = 9,        /* the seat has no session: it was never opened, or was closed */
     LISPM_SMALL = 10,       /* `output` has no room for the `*needed` bytes of the answer; nothing was written */
     LISPM_FEED = 11,        /* the text has a line feed; nothing was done, and the session may go on */
-    LISPM_ENDED = 12        /* a line after an lispm_end that returned LISPM_DONE */
+    LISPM_ENDED = 12        /* a line, or a second lispm_end, after an lispm_end that returned LISPM_DONE */
 };
 
 /* A place for one session. Zeroed memory is an empty seat. */
@@ -118,7 +118,7 @@ static inline uint8_t lispm_again(lispm_seat *seat, void *output, size_t room, s
 
 /* Ends the input after the lines so far. The answer is empty if the last line was `end`, and the error line of an input
  * that ends too early if not. Returns LISPM_DONE, LISPM_REFUSED, LISPM_SMALL, or the status that stopped the session. After
- * LISPM_DONE a further line returns LISPM_ENDED, and the session can only be closed, or opened again. */
+ * LISPM_DONE a further line or lispm_end returns LISPM_ENDED; then the session can only be closed, or the seat opened again. */
 static inline uint8_t lispm_end(lispm_seat *seat, void *output, size_t room, size_t *needed)
 {
     return lispm_raw_end(seat, room > 0 ? output : lispm_some_byte(), room, needed);

@@ -76,7 +76,7 @@ class Library:
         self._version = function(library.lispm_raw_version, [], ctypes.c_uint32)
 
     def version(self) -> Tuple[int, int, int]:
-        """The version of the library, such as (0, 3, 0)."""
+        """The version of the library, such as (0, 4, 0)."""
         number = self._version()
         return number // 1_000_000, number // 1000 % 1000, number % 1000
 

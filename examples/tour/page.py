@@ -88,7 +88,8 @@ def lesson_page(lesson: Lesson, others: List[Lesson], lispm: str) -> str:
     run, folder = f"examples/tour/run {lesson.number}", os.path.basename(lesson.folder)
     lines = [f"# {heading(lesson)}", "", way_line(lesson, others), "", f"*{lesson.question}*", "",
              f"About {reading_minutes(lesson)} minutes to read, and {exercise_minutes()} for the exercises. `{run}` shows this lesson in "
-             f"a terminal; its session is [examples/tour/{folder}/session](../../examples/tour/{folder}/session).", "", "## Session", ""]
+             f"a terminal; its session is [examples/tour/{folder}/session](../../examples/tour/{folder}/session). In a browser it is at "
+             f"`web/lispm.html#session=lesson/{lesson.number}` ([the page](../../web/lispm.html)), step by step, with its exercises.", "", "## Session", ""]
     lines += [f"    {line}".rstrip() for line in session_lines(lesson, lispm)]
     lines += ["", "## Picture", "", f"![{alt_text(lesson)}](../{picture_name(lesson)})", "", "## What to see", "", see_text(lesson, others),
               "", "## Exercises", ""]

@@ -150,6 +150,8 @@ static void lines_after_the_end(void)
     CHECK(lispm_end(&seat, output, ROOM, &needed) == LISPM_DONE && needed == 0);
     CHECK(answers(&seat, "stats", LISPM_ENDED, ""));
     CHECK(answers(&seat, "", LISPM_ENDED, ""));
+    CHECK(lispm_end(&seat, output, ROOM, &needed) == LISPM_ENDED && needed == 0);
+    CHECK(lispm_again(&seat, output, ROOM, &needed) == LISPM_DONE && needed == 0);
     lispm_close(&seat);
 }
 

@@ -84,7 +84,7 @@ class Library(Tree):
         self.prove_below()
         self.assert_refused_with("lispm_c is NOT PROVED, see crates/lispm_c/out/library.log", RATTLE_FAILS="1")
         self.without_rt()
-        self.assert_refused_with("needs the command rt (rattle-kit-13f), see README", 69)
+        self.assert_refused_with("needs the command rt (rattle-kit-13b or rattle-kit-13f), see README", 69)
         self.write("crates.txt", "low:\n")
         self.assert_refused_with("there is no crate lispm_c")
 

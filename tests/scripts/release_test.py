@@ -44,7 +44,7 @@ class Release(Tree):
                      "share/doc/lispm/LICENSE-APACHE", "share/doc/lispm/examples/library/Makefile",
                      "share/doc/lispm/examples/drivers/c/collector.c", "share/doc/lispm/examples/session.in", "README"):
             self.assertTrue(os.path.isfile(os.path.join(top, name)), name)
-        for name, text in (("VERSION", self.read("VERSION")), ("KIT", "rattle-kit-test\n"), ("COMMIT", "no commit\n")):
+        for name, text in (("VERSION", self.read("VERSION")), ("KIT", "rattle-kit-13f\n"), ("COMMIT", "no commit\n")):
             with open(os.path.join(top, name)) as file:
                 self.assertEqual(file.read(), text)
 

@@ -1,6 +1,7 @@
 """Starting a program: built, stale, missing, or on trial."""
 import os
 import pty
+import shutil
 import signal
 import subprocess
 import time
@@ -214,6 +215,22 @@ class Trial(Tree):
             self.write("crates/low/src/main.rt", kit)
             ended = self.run_words("bin/lispm", "--trial", "replay", data=self.INPUT, RT_KIT=kit)
             self.assertEqual("this is rattle-kit-9, and .ci/run has passed with rattle-kit-13b and" in ended.err, is_told)
+
+    def test_tools_have_trials(self) -> None:
+        """Pictures, the stepper, objects, accounts and the tour run what the sources compile to, once for all of them."""
+        self.write("empty", self.INPUT)
+        for tool, names in (("picture", ["lispm_inside"]), ("stepper", ["lispm_inside"]), ("objects", ["lispm_inside"]),
+                            ("accounts", ["lispm", "lispm_inside"])):
+            shutil.rmtree(self.path(".cache"), ignore_errors=True)
+            before = len(self.calls())
+            for _ in range(2):
+                self.assertNotEqual(self.run_words(f"tools/{tool}", "--trial", self.path("empty")).status, 69)
+            self.assertEqual([line.partition(":")[0] for line in self.calls()[before:]], names, tool)
+        ended = self.run_words("examples/tour/run", "--trial", "1")
+        self.assertIn("trial: replay", ended.out)
+        self.without_rt()
+        ended = self.run_words("tools/picture", "--trial", self.path("examples/identity"))
+        self.assertEqual((ended.status, ended.err.splitlines()[-1]), (69, "picture: --trial needs the kit, see README"))
 
     def test_a_trial_has_a_limit_of_input(self) -> None:
         """More than the first trial reads is told, and not cut."""

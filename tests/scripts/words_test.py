@@ -1,10 +1,12 @@
 """Words: which are refused and why, and that help and the version come at once."""
 import os
 import random
+import resource
 import socket
 import subprocess
 import sys
 import unittest.mock
+from typing import List, Tuple
 
 from tree import TOP, Tree
 
@@ -42,6 +44,21 @@ CAUSES = [
 DRAWN = ["replay", "exercise", "print", "compile", "why", "census", "--", "-", "", "-n", "--object", "--number", "--count", "--object=0",
          "--object=4294967295", "--object=4294967296", "--number=7", "--count=3", "--count=1000001", "--count=", "--object==1", "0", "7",
          "01", "+1", "-1", "1_0", "1 ", "\u0663", "--other", "--other=1", "--=1", "--Object=1", "--object 1", "REPLAY", "-object=1", "---"]
+# Arguments that aren't UTF-8, as a shell can give them.
+NOT_UTF8 = [[b"replay\xff"], [b"replay", b"\xc3"], [b"why", b"--object=\xff"], [b"--fail", b"\x80"], [b"\xed\xa0\x80"]]
+
+
+def built_program(name: str) -> str:
+    """The path of a program that is named, or else built here."""
+    return os.environ.get(name.upper()) or os.path.join(TOP, "crates", name, "out", name)
+
+
+def run_within(quarters: int, command: List[str]) -> Tuple[int, bytes]:
+    """The status and the output of a command that may take only so many quarters of a megabyte."""
+    most = quarters << 18
+    ended = subprocess.run(command, stdin=subprocess.DEVNULL, stdout=subprocess.PIPE, stderr=subprocess.DEVNULL,
+                           preexec_fn=lambda: resource.setrlimit(resource.RLIMIT_AS, (most, most)))
+    return ended.returncode, ended.stdout
 
 
 def drawn_words() -> list:
@@ -141,11 +158,37 @@ class Words(Tree):
                 self.assertEqual(ended.returncode, 1)
                 self.assertNotIn(b"Traceback", ended.stderr)
 
+    def built(self, name: str) -> str:
+        """A built program; without one the test is left out."""
+        program = built_program(name)
+        if not os.access(program, os.X_OK):
+            self.skipTest(f"{name} isn't built")
+        return program
+
+    def test_words_that_are_not_utf8(self) -> None:
+        """Each program refuses them as it refuses other words."""
+        for name in ("lispm", "lispm_bands", "lispm_inside"):
+            program = self.built(name)
+            for given in NOT_UTF8:
+                ended = subprocess.run([os.fsencode(program), *given], stdin=subprocess.DEVNULL, stdout=subprocess.PIPE,
+                                       stderr=subprocess.PIPE)
+                self.assertEqual((ended.returncode, ended.stdout, ended.stderr), (7, b"error: usage\n", b""), (name, given))
+
+    def test_no_memory_for_the_words(self) -> None:
+        """With a little less memory than suffices to refuse long arguments, each program says that memory ran out."""
+        for name in ("lispm", "lispm_bands", "lispm_inside"):
+            command = [self.built(name), *["x" * 120_000] * 12]
+            short, enough = 0, 1024
+            while enough - short > 1:
+                middle = (short + enough) // 2
+                short, enough = (short, middle) if run_within(middle, command) == (7, b"error: usage\n") else (middle, enough)
+            self.assertLess(enough, 1024, name)
+            for quarters in range(enough - 4, enough):
+                self.assertEqual(run_within(quarters, command), (5, b"error: no memory\n"), (name, quarters))
+
     def test_words_are_the_programs(self) -> None:
         """words.py accepts exactly the words that the built program accepts."""
-        program = os.environ.get("LISPM") or os.path.join(TOP, "crates", "lispm", "out", "lispm")
-        if not os.access(program, os.X_OK):
-            self.skipTest("lispm isn't built")
+        program = self.built("lispm")
         accepted = 0
         for given in drawn_words():
             ended = subprocess.run([program, *given], cwd=self.top, stdin=subprocess.DEVNULL, stdout=subprocess.PIPE)

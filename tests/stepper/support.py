@@ -1,24 +1,19 @@
-"""What the tests of accounts, plot and stepper share: runs of a tool, the programs, and what they say of a session."""
-import json
+"""What the tests of accounts and plot share: runs of a tool, the programs, and their answers about a session."""
 import os
-import re
 import subprocess
 import sys
 import unittest
-from typing import Dict, List, NamedTuple
+from typing import List, NamedTuple
 
 HERE = os.path.dirname(os.path.realpath(__file__))
 TOP = os.path.dirname(os.path.dirname(HERE))
 sys.path[:0] = [os.path.join(TOP, "tools"), HERE]
-import chromium  # noqa: E402
 from lib import answers, program, session  # noqa: E402
 
 LISPM, INSIDE = program.place("lispm", None), program.place("lispm_inside", None)
-CHROMIUM = chromium.find()
 has_lispm, has_inside = program.is_there("lispm", None), program.is_there("lispm_inside", None)
 needs_lispm = unittest.skipUnless(has_lispm, "lispm isn't built")
 needs_inside = unittest.skipUnless(has_lispm and has_inside, "lispm_inside, or lispm, isn't built")
-needs_chromium = unittest.skipUnless(CHROMIUM, "Chromium isn't there: apt-get install chromium")
 
 
 class Ended(NamedTuple):
@@ -52,16 +47,3 @@ def inside_lines(trace: session.Session, number: int) -> List[str]:
     """The lines of the machine behind a command, as lispm_inside writes them."""
     lines = program.run(INSIDE, [], trace.cut(number).text()).output.decode().splitlines()
     return lines[lines.index("lispm-inside 1"):]
-
-
-def stepper(path: str) -> bytes:
-    """The page of a session."""
-    ended = tool("stepper", path)
-    if ended.status:
-        raise AssertionError(ended.errors)
-    return ended.output
-
-
-def data_of(page: bytes) -> Dict:
-    """The data of a page."""
-    return json.loads(re.search(rb'<script type="application/json" id="data">(.*?)</script>', page, re.S).group(1))

@@ -8,8 +8,8 @@ import unittest
 from support import example, has_inside, inside_lines, needs_inside, needs_lispm, parsed, replies, tool
 
 COLLECTION = example("collection")
-HEAD = "number,line,command,reply,phase,left,written,read,work,work quota\n"
-ROWS = HEAD + "1,6,set 0 1,ok,not-flipped,0,0,0,0,4\n2,7,flip full,flipped 0,more,8,0,0,0,4\n"
+HEAD = "number,line,command,reply,phase,left,written,read,scanned,reached,work,work quota\n"
+ROWS = HEAD + "1,6,set 0 1,ok,not-flipped,0,0,0,0,0,0,4\n2,7,flip full,flipped 0,more,8,0,0,0,0,0,4\n"
 
 
 def rows(*words: str) -> list:
@@ -55,11 +55,28 @@ class Accounts(unittest.TestCase):
             calls.add((row["written"], row["read"]))
         self.assertGreater(len(calls), 1)
 
+    @needs_inside
+    def test_pauses_and_what_is_reached(self):
+        found = rows(COLLECTION)
+        self.assertEqual([int(row["scanned"]) for row in found], [0] * 7 + [3, 7, 0, 0, 0])
+        self.assertEqual([int(row["reached"]) for row in found], [0, 2, 2, 2, 2, 2, 2, 2, 2, 2, 2, 4])
+
+    @needs_inside
+    def test_units_are_all_scanned(self):
+        """Units at the flip and words placed during a collection are scanned, each once."""
+        for name in ("capacity", "levels", "collection"):
+            trace, found = parsed(example(name)), rows(example(name))
+            for row in found:
+                words = row["command"].split(" ")
+                if words[0] == "scavenge" and row["reply"] == "more":
+                    self.assertEqual(row["scanned"], words[1], f"{name}: {row['command']}")
+            self.assertEqual(len(found), len(trace.commands))
+
     @needs_lispm
     def test_columns_are_empty_without_the_machine(self):
         found = tool("accounts", COLLECTION, LISPM_INSIDE="/nowhere/inside").output
         self.assertEqual(found, tool("accounts", "--no-machine", COLLECTION).output)
-        self.assertIn(b"\n5,14,flip full,flipped 0,more,,,,4,4\n", found)
+        self.assertIn(b"\n5,14,flip full,flipped 0,more,,,,,,4,4\n", found)
 
     @needs_lispm
     def test_mistakes(self):
@@ -81,7 +98,7 @@ class Plot(unittest.TestCase):
 
     def test_a_drawing_has_its_curves(self):
         drawing = self.drawn("a.svg", ROWS.encode()).decode()
-        self.assertEqual([label for label in ("work", "quota of work", "units left", "written", "read") if f"<!-- {label} -->" not in drawing], [])
+        self.assertEqual([label for label in ("work", "quota of work", "left to scan", "words reached by registers", "written", "read") if f"<!-- {label} -->" not in drawing], [])
 
     def test_a_collection_is_a_band(self):
         one = self.drawn("a.svg", ROWS.encode()).decode()
@@ -90,14 +107,14 @@ class Plot(unittest.TestCase):
         self.assertEqual(bands, [3, 0])
 
     def test_a_png(self):
-        self.assertTrue(self.drawn("a.png", ROWS.replace("0,0,0,", ",,,").encode()).startswith(b"\x89PNG"))
+        self.assertTrue(self.drawn("a.png", ROWS.replace("0,0,0,0,0,", ",,,,,").encode()).startswith(b"\x89PNG"))
 
     @needs_lispm
     def test_what_accounts_writes(self):
         self.assertIn(b"</svg>", self.drawn("a.svg", tool("accounts", *([] if has_inside else ["--no-machine"]), example("capacity")).output))
 
     def test_mistakes(self):
-        wanted = {("-o", "a.gif"): "plot: a.gif: want a name that ends in .svg, .png or .pdf\n",
+        wanted = {("-o", "a.gif"): "plot: a.gif: the name has to end in .svg, .png or .pdf\n",
                   ("-o", "/no/folder/a.svg"): "plot: /no/folder/a.svg: No such file or directory\n",
                   ("/no/file",): "plot: /no/file: No such file or directory\n"}
         for words, cause in wanted.items():

@@ -52,7 +52,7 @@ class Collection(unittest.TestCase):
         self.assertIn("4097 second 1", kept(6))
 
     def test_the_scan_leaves_fewer_units(self):
-        left = [int(re.search("([0-9]+) units left", kept(number)).group(1)) for number in (6, 8)]
+        left = [int(re.search("([0-9]+) units to scan", kept(number)).group(1)) for number in (6, 8)]
         self.assertLess(left[1], left[0])
         words = [len(re.findall(r"^ .*[0-9] (?:normal|second) .*to scan", kept(number), re.M)) for number in (6, 8)]
         self.assertLess(words[1], words[0])
@@ -74,7 +74,7 @@ class Forms(unittest.TestCase):
     def test_a_drawing_has_its_text(self):
         drawing = picture("-T", "svg", "--after", "6", SESSION)
         self.assertTrue(drawing.startswith("<svg "))
-        self.assertIn("<desc>behind command 6: car 3 1 -&gt; 1", drawing)
+        self.assertIn("<desc>after command 6: car 3 1 -&gt; 1", drawing)
         self.assertEqual(drawing.count("marker-end"), 2)
 
     @needs_inside

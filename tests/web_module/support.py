@@ -24,7 +24,7 @@ class Answer(NamedTuple):
 
 
 class Case(NamedTuple):
-    """Arguments of the program lispm, its input, and what should come of them."""
+    """Arguments of the program lispm, its input, and the right answer."""
     name: str
     given: List[str]
     data: bytes

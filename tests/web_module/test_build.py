@@ -35,6 +35,9 @@ class Build(unittest.TestCase):
             self.skipTest(age())
         if not HAS_TOOLS:
             self.skipTest("rt or wasm-opt isn't there")
+        for fact, found in made_from.tools().items():
+            if found != made_from.read_build()[fact]:
+                self.skipTest(f"{fact}: {found}, and the module was made with {made_from.read_build()[fact]}")
         missing = [name for name in made_from.below(made_from.CRATE) if not made_from.is_built(name)]
         if missing:
             self.skipTest(f"{len(missing)} crates below {made_from.CRATE} aren't built")

@@ -58,7 +58,7 @@ class Calls(WithModule):
         self.assertEqual(self.module.answer("full", [], SMALLEST), Answer(5, b"error: no memory\n"))
 
     def test_inside(self):
-        """The replies, and behind them the machine; a page call that fails."""
+        """The replies, and after them the machine; a page call that fails."""
         found = self.module.answer("inside", [], SMALLEST)
         self.assertEqual((found.status, found.output[:17]), (0, b"ok\nok\n5\nlispm-ins"))
         data = SMALLEST.replace(b"car 2 1", b"page-out 32\ncar 2 1")

@@ -1,4 +1,4 @@
-"""The module in the place of a program that isn't built: what runs it, and that it is said."""
+"""The module in the place of a program that isn't built: what runs it, and that this is reported."""
 import os
 import shutil
 import subprocess
@@ -69,7 +69,7 @@ class InPlace(unittest.TestCase):
             self.assertNotIn(SAID, said)
 
     def test_without_node(self):
-        """It is said what can be done."""
+        """The error says what to do."""
         path = os.path.join(self.top, "commands", "node")
         os.rename(path, path + ".away")
         try:

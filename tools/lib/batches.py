@@ -10,7 +10,7 @@ import json
 import os
 import subprocess
 import time
-from typing import Any, Dict, Iterable, List, NamedTuple, Optional
+from typing import Any, Dict, Iterable, List, NamedTuple, Optional, Set
 
 from . import driving, sources, tool
 
@@ -75,7 +75,7 @@ def what_runs(inputs: sources.Inputs, driver: List[str], program: List[str]) -> 
 def run(batch: Batch, inputs: sources.Inputs, driver: List[str], seconds: float, longest: float = LONGEST) -> Line:
     """Runs a batch; its line has the faults by the numbers of their inputs. It ends when it has lasted too long."""
     faults: List[Line] = []
-    relaxed: Dict[str, int] = {}
+    relaxed: Dict[str, List[int]] = {}
     program = driving.resolved(driver, seconds)
     told = what_runs(inputs, driver, program)
     began, number, collected = time.monotonic(), batch.first, time.monotonic()
@@ -92,7 +92,7 @@ def run(batch: Batch, inputs: sources.Inputs, driver: List[str], seconds: float,
         if found.fault is not None:
             faults.append({"number": number, **found.fault._asdict()})
         for word in found.relaxed:
-            relaxed[word] = relaxed.get(word, 0) + 1
+            relaxed.setdefault(word, []).append(number)
     lasted = round(time.monotonic() - began, 3)
     return {"first": batch.first, "last": number, **told, "seconds": lasted, "relaxed": relaxed, "faults": faults}
 
@@ -100,11 +100,11 @@ def run(batch: Batch, inputs: sources.Inputs, driver: List[str], seconds: float,
 # ----------------------------------------------------------------- the tally
 
 class Tally(NamedTuple):
-    """The batches that were run, the faults by the numbers of their inputs, how many inputs were judged with each of the
+    """The batches that were run, the faults by the numbers of their inputs, the inputs that were judged with each of the
     judge's relaxations, the seconds of all batches, and what they were of."""
     done: List[Batch]
     faults: Dict[int, driving.Fault]
-    relaxed: Dict[str, int]
+    relaxed: Dict[str, Set[int]]
     seconds: List[float]
     what: List[Line]
 
@@ -156,7 +156,7 @@ def add(found: Tally, batch: Batch, told: Line) -> None:
     found.what.append(told)
     found.done.append(batch)
     found.seconds.append(told.get("seconds", 0.0))
-    for word, count in told.get("relaxed", {}).items():
-        found.relaxed[word] = found.relaxed.get(word, 0) + count
+    for word, numbers in told.get("relaxed", {}).items():
+        found.relaxed.setdefault(word, set()).update(numbers)
     for fault in told["faults"]:
         found.faults[fault["number"]] = driving.Fault(*(fault[name] for name in driving.Fault._fields))

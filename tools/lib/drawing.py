@@ -119,15 +119,16 @@ class Draw:
     def __init__(self, number: int):
         self.state = number
 
+    def below(self, count: int) -> int:
+        """A number below this one. Most of the time of drawing is spent here."""
+        self.state = state = self.state + 0x9E3779B97F4A7C15 & 0xFFFFFFFFFFFFFFFF
+        mixed = (state ^ state >> 30) * 0xBF58476D1CE4E5B9 & 0xFFFFFFFFFFFFFFFF
+        mixed = (mixed ^ mixed >> 27) * 0x94D049BB133111EB & 0xFFFFFFFFFFFFFFFF
+        return (mixed ^ mixed >> 31) * count >> 64
+
     def word(self) -> int:
         """64 bits."""
-        self.state = (self.state + 0x9E3779B97F4A7C15) % 2**64
-        mixed = (self.state ^ self.state >> 30) * 0xBF58476D1CE4E5B9 % 2**64
-        mixed = (mixed ^ mixed >> 27) * 0x94D049BB133111EB % 2**64
-        return mixed ^ mixed >> 31
-
-    def below(self, count: int) -> int:
-        return self.word() * count >> 64
+        return self.below(1 << 64)
 
     def between(self, low: int, high: int) -> int:
         """A number from low to high, both among them."""

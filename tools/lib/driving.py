@@ -78,19 +78,35 @@ def checksum(words: List[str]) -> str:
 
 def run(driver: List[str], data: bytes, seconds: float = SECONDS) -> Ended:
     """Runs a driver on an input for at most so many seconds; then it is ended with all that it started."""
-    with tempfile.TemporaryFile() as source:
+    with file_in_memory() as source:
         source.write(data)
         source.seek(0)
         process = start(driver, source)
     deadline = time.monotonic() + seconds
     try:
         output = read_until(process.stdout, deadline)
-        status = process.wait(max(0.0, deadline - time.monotonic()))
-        return Ended(status, output)
+        return Ended(wait_until(process, deadline), output)
     except subprocess.TimeoutExpired as late:
         return Ended(-signal.SIGKILL, late.output or b"", True)
     finally:
         end(process)
+
+
+def file_in_memory() -> IO[bytes]:
+    """A file without a name."""
+    return os.fdopen(os.memfd_create("input"), "w+b") if hasattr(os, "memfd_create") else tempfile.TemporaryFile()
+
+
+def wait_until(process: "subprocess.Popen[bytes]", deadline: float) -> int:
+    """The status of a process; late at the deadline. On Linux the wait costs no time, while `wait` would look now and then."""
+    left = max(0.0, deadline - time.monotonic())
+    try:
+        watched = os.pidfd_open(process.pid)
+    except (AttributeError, OSError):
+        return process.wait(left)
+    select.select([watched], [], [], left)
+    os.close(watched)
+    return process.wait(0)
 
 
 def start(driver: List[str], source: IO[bytes]) -> "subprocess.Popen[bytes]":

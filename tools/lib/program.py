@@ -47,8 +47,8 @@ def tell_of_node(name: str) -> None:
 
 
 def place(name: str, path: Optional[str]) -> str:
-    """Where a program should be: at `path`, else where LISPM or LISPM_INSIDE says, else where bin/build puts it, or what
-    runs in its place on node."""
+    """The path of a program: `path`, else the one that LISPM or LISPM_INSIDE names, else the built one, or what runs in its
+    place on node."""
     built = os.path.join(TOP, "crates", name, "out", name)
     return path or os.environ.get(name.upper()) or on_node(name) or built
 

@@ -15,7 +15,7 @@ FIRST = b"sexpr-world 1"
 PIECE = re.compile(r"[)\]}]|[^ \n()\[\]{}=]*[(\[{=]|[^ \n()\[\]{}=]+")
 CLOSING = {"(": ")", "[": "]", "{": "}"}
 MOST_FIELDS, MOST_CODE = 2047, 65535
-WOULD_DO = ("no register", "register twice", "no area", "bad number", "label twice", "bad form")
+EXPECTED = ("no register", "register twice", "no area", "bad number", "label twice", "bad form")
 A_PIECE = ("a piece is root, end-sexpr, a dot, nil, an integer, #K=, #K#, a closing bracket, or an opening bracket with the name "
            "of an area before it, such as {area}( for a list, {area}[ for a compact one or {area}{{ for a block")
 AN_EXPRESSION = "nil, an integer, #K# or a form"
@@ -30,7 +30,7 @@ class Piece(NamedTuple):
 
 class Found(NamedTuple):
     """The verdict: the status, and if it isn't 0 the line, the reason, the column and the width of what is at fault (no
-    column if it is a line of the header or the end), and what would do in its place."""
+    column if it is a line of the header or the end), and what is expected in its place."""
     status: int
     line: int = 0
     reason: str = ""
@@ -145,7 +145,7 @@ class Reader:
         self.wanted = "expression" if self.forms else "root"
 
     def hint(self, reason: str) -> str:
-        """What would do in the place of a piece that is refused."""
+        """What is expected in the place of a piece that is refused."""
         hints = {"bad token": A_PIECE.format(area=self.areas[0]), "bad form": self.may_come(),
                  "no register": f"a register, 0 to {self.registers - 1}", "register twice": "a register without a root before",
                  "no area": f"an area: {', '.join(self.areas)}", "bad number": f"a code, 0 to {MOST_CODE}",

@@ -65,14 +65,14 @@ def condemned_text(condemned: str) -> str:
 
 
 def phase_text(machine: Machine) -> str:
-    """Which collection runs, and how much of it is left."""
+    """Which collection runs, and how much of it remains."""
     if machine.phase == "idle":
         return "no collection runs"
     what = condemned_text(machine.condemned)
     if machine.phase == "over":
-        return f"collection of {what}: over, nothing left to scan"
+        return f"collection of {what}: finished, nothing to scan; a reclaim may free the old regions"
     where = "" if machine.next is None else f", next is {machine.next[0]} {machine.next[1]}"
-    return f"collection of {what}: {machine.left} unit{'s' * (machine.left != 1)} left{where}"
+    return f"collection of {what}: {machine.left} unit{'s' * (machine.left != 1)} to scan{where}"
 
 
 def chosen(words: List[int], most: int) -> List[Optional[int]]:

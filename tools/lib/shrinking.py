@@ -71,7 +71,8 @@ class Shrinker:
             before = self.parts
             self.drop_lines("commands")
             self.drop_lines("roots")
-            for step in (fewer_objects, fewer_values, one_area, plain_space, fewer_registers, smaller_words):
+            self.drop_objects()
+            for step in (fewer_values, one_area, plain_space, fewer_registers, smaller_words):
                 while self.first_of(step(self.parts)):
                     pass
         return self.parts
@@ -85,6 +86,17 @@ class Shrinker:
                 lines = getattr(self.parts, name)
                 if not self.keeps(self.parts._replace(**{name: lines[:at] + lines[at + size:]})):
                     at += size
+            size //= 2
+
+
+    def drop_objects(self) -> None:
+        """The same for the lines of objects, from the last: what refers to an object that is left out is nil."""
+        size = len(self.parts.objects)
+        while size > 0:
+            at = len(self.parts.objects)
+            while at > 0:
+                at = max(0, at - size)
+                self.keeps(without_lines(self.parts, at, at + size))
             size //= 2
 
 
@@ -134,13 +146,11 @@ def count_of(line: str) -> int:
     return len(line.split(" ")) - 2 if line.startswith("run ") else 1
 
 
-def fewer_objects(parts: Parts) -> Iterator[Parts]:
-    """Leaves out an object line: what refers to its objects is nil."""
-    first = sum(map(count_of, parts.objects))
-    for at in reversed(range(len(parts.objects))):
-        first -= count_of(parts.objects[at])
-        gone = range(first, first + count_of(parts.objects[at]))
-        yield without(parts._replace(objects=parts.objects[:at] + parts.objects[at + 1:]), gone)
+def without_lines(parts: Parts, start: int, end: int) -> Parts:
+    """Leaves out these lines of objects: what refers to their objects is nil."""
+    first = sum(map(count_of, parts.objects[:start]))
+    gone = range(first, first + sum(map(count_of, parts.objects[start:end])))
+    return without(parts._replace(objects=parts.objects[:start] + parts.objects[end:]), gone)
 
 
 def without(parts: Parts, gone: range) -> Parts:
@@ -154,14 +164,17 @@ def without(parts: Parts, gone: range) -> Parts:
 
 
 def fewer_values(parts: Parts) -> Iterator[Parts]:
-    """Leaves out a value of a block, or an item of a list."""
+    """Leaves out values of a block, or items of a list: many at once first, then one."""
     for name, word, fewest in (("objects", "block", 3), ("commands", "list", 4)):
         lines = getattr(parts, name)
         for at, line in enumerate(lines):
             words = line.split(" ")
-            for place in range(3, len(words)) if words[0] == word and len(words) > fewest else ():
-                shorter = " ".join(words[:place] + words[place + 1:])
-                yield parts._replace(**{name: lines[:at] + [shorter] + lines[at + 1:]})
+            count = len(words) - fewest if words[0] == word else 0
+            while count > 0:
+                for place in range(3, len(words) - count + 1, count):
+                    shorter = " ".join(words[:place] + words[place + count:])
+                    yield parts._replace(**{name: lines[:at] + [shorter] + lines[at + 1:]})
+                count //= 2
 
 
 def one_area(parts: Parts) -> Iterator[Parts]:

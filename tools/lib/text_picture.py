@@ -14,7 +14,7 @@ def heading(moment: Moment) -> str:
     if not moment.command:
         return "before the first command"
     more = "" if len(moment.reply) <= 1 else f" and {len(moment.reply) - 1} more lines"
-    return f"behind command {moment.number}: {moment.command} -> {moment.reply[0] if moment.reply else ''}{more}"
+    return f"after command {moment.number}: {moment.command} -> {moment.reply[0] if moment.reply else ''}{more}"
 
 
 def region_head(region: Region, areas: List[str]) -> str:

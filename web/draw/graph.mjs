@@ -11,21 +11,28 @@ export const MOST_OBJECTS = 40, MOST_FIELDS = 12;
 
 // ------------------------------------------------------------------ nodes: objects, and runs of cells that are one box
 
-/** The objects that are drawn: those near registers first, then those that no register leads to. */
-function chosen(found, most) {
-  const kept = new Map(), work = found.roots.map(root => root.to).filter(to => to !== undefined);
-  for (let at = 0; at < work.length && kept.size < most; at++) {
-    const object = found.objects.get(work[at]);
-    if (!object || kept.has(work[at])) continue;
-    kept.set(work[at], object);
-    for (const field of object.fields) if (field.to !== undefined) work.push(field.to);
-  }
-  for (const object of found.objects.values()) if (kept.size < most && !object.held) kept.set(object.address, object);
-  return kept;
-}
-
 /** A cell goes on the run of the cell in the word before it. */
 const goesOn = (before, object) => before?.kind === "cell" && object.kind === "cell" && before.fields[1].to === object.address && before.address + 1 === object.address && before.held === object.held;
+
+/** The objects that are drawn: those near registers first, then those that no register leads to. A run of cells counts once. */
+function chosen(found, most) {
+  const kept = new Map(), work = found.roots.map(root => root.to).filter(to => to !== undefined);
+  let count = 0;
+  const keep = object => {
+    const isFree = goesOn(kept.get(object.address - 1), object);
+    if (!isFree && count >= most) return false;
+    if (!isFree) count++;
+    kept.set(object.address, object);
+    return true;
+  };
+  for (let at = 0; at < work.length; at++) {
+    const object = found.objects.get(work[at]);
+    if (!object || kept.has(work[at]) || !keep(object)) continue;
+    for (const field of object.fields) if (field.to !== undefined) work.push(field.to);
+  }
+  for (const object of found.objects.values()) if (!object.held && !kept.has(object.address)) keep(object);
+  return kept;
+}
 
 /** Nodes by their first addresses, each with its objects, and the node of each address. */
 function nodesOf(objects) {
@@ -50,7 +57,7 @@ function targetsIn(node) {
 
 const targetsOf = node => node.targets;
 
-/** The objects in an order in which each comes before those to which it refers, except over circles. */
+/** The objects in an order in which each is before those to which it refers, except over circles. */
 function inOrder(objects, roots) {
   const seen = new Set(), done = [], work = [...objects.keys()].reverse().concat(roots.reverse()).map(key => ({ key, entered: false }));
   while (work.length) {
@@ -121,13 +128,21 @@ function registerBoxes(roots, spots, owner) {
 
 // ------------------------------------------------------------------ boxes
 
-/** The cells of a box: {text, at, to, colour, width in characters}. A cell of a compact list has no word for its cdr. */
-function cellsOf(node) {
+/** The cells of a box: {text, at, to, colour, width in characters}. A cell of a compact list has no word for its cdr. A
+ * reference to an object that isn't drawn is its address. */
+function cellsOf(node, owner) {
   const all = node.kind === "cell" ? node.members.map(member => ({ ...member.fields[0], colour: member.colour })) : node.fields;
-  const cells = all.slice(0, MOST_FIELDS).map(field => ({ ...field, shown: field.to !== undefined ? "\u2022" : cut(field.text) }));
+  const cells = all.slice(0, MOST_FIELDS).map(field => ({ ...field, shown: shownOf(field, owner) }));
   if (node.kind === "block") cells.unshift({ shown: `block ${node.code}`, at: node.address, head: true });
+  const cdr = node.kind === "cell" ? node.members[node.members.length - 1].fields[1].to : undefined;
+  if (all.length <= MOST_FIELDS && cdr !== undefined && !owner.has(cdr)) cells.push({ shown: `\u2192 ${cdr}`, at: null });
   if (all.length > MOST_FIELDS) cells.push({ shown: `\u2026 ${all.length - MOST_FIELDS} more`, at: null });
   return cells.map(cell => ({ ...cell, characters: Math.max(LEAST, cell.shown.length + 1.5) }));
+}
+
+function shownOf(field, owner) {
+  if (field.to === undefined) return cut(field.text);
+  return owner.has(field.to) ? "\u2022" : `\u2192 ${field.to}`;
 }
 
 const cut = words => words.length > LONGEST ? words.slice(0, LONGEST - 1) + "\u2026" : words;
@@ -146,7 +161,7 @@ export function graphOf(found, given = {}) {
   const objects = chosen(found, view.most), { nodes, owner } = nodesOf(objects), roots = found.roots.map(root => owner.get(root.to)).filter(to => to !== undefined);
   const order = inOrder(nodes, [...roots]), columns = columnsOf(nodes, order);
   const rows = rowsOf(nodes, [...roots, ...order], columns), spots = new Map(order.map(key => [key, { column: columns.get(key), row: rows.get(key) }]));
-  const boxes = order.map(key => ({ node: nodes.get(key), cells: cellsOf(nodes.get(key)), label: labelOf(nodes.get(key), view.areas), ...spots.get(key) }));
+  const boxes = order.map(key => ({ node: nodes.get(key), cells: cellsOf(nodes.get(key), owner), label: labelOf(nodes.get(key), view.areas), ...spots.get(key) }));
   const registers = registerBoxes(found.roots, spots, owner).map(box => ({ ...box, shown: box.list.map(root => "r" + root.number).join(" ") }));
   const graph = { view, boxes, registers, byKey: new Map(boxes.map(box => [box.node.address, box])), owner, more: found.objects.size - objects.size,
     rowCount: Math.max(1, ...[...spots.values(), ...registers].map(spot => spot.row + 1)) };
@@ -154,7 +169,7 @@ export function graphOf(found, given = {}) {
   return graph;
 }
 
-/** Where an arrow leaves a cell: at the right edge of the last one if its target is in the next column, else below. */
+/** The port by which an arrow leaves a cell: at the right edge of the last one if its target is in the next column, else below. */
 function portOut(box, index, target, font) {
   const dx = sum(box.cells.slice(0, index + 1).map(cell => cell.characters)) * CHARACTER * font, half = box.cells[index].characters / 2 * CHARACTER * font;
   const isLast = index === box.cells.length - 1, place = { column: box.column, row: box.row };
@@ -162,7 +177,7 @@ function portOut(box, index, target, font) {
   return { ...place, side: "right", dx, dy: heightOf(target.row === box.row ? "straight" : "out", font) };
 }
 
-/** Where an object is: its box's place, and the cell of the box in which it begins. */
+/** The place of an object: that of its box, and the cell of the box in which it begins. */
 function targetOf(graph, address) {
   const box = graph.byKey.get(graph.owner.get(address));
   if (!box) return null;
@@ -171,7 +186,7 @@ function targetOf(graph, address) {
 }
 
 const heightOf = (port, font) => (LABEL + PORTS[port] * BOX) * font;
-/** Where an arrow arrives: at the left edge of a box, or below a cell that isn't its first. */
+/** The port by which an arrow arrives: at the left edge of a box, or below a cell that isn't its first. */
 function portInto({ box, column, row, index }, isStraight, font) {
   if (index === 0) return { column, row, side: "left", dx: 0, dy: heightOf(isStraight ? "straight" : "into", font) };
   const before = sum(box.cells.slice(0, index).map(cell => cell.characters));
@@ -200,7 +215,7 @@ function waysOf(graph) {
   return ways;
 }
 
-/** Where the arrow of a cdr that a cell's code says leaves: at the right edge, or below, beside the arrow of the car. */
+/** The port of the arrow of a cdr that a cell's code gives: at the right edge, or below, beside the arrow of the car. */
 function nextPort(box, target, font) {
   const width = sum(box.cells.map(cell => cell.characters)) * CHARACTER * font, place = { column: box.column, row: box.row };
   if (target.column === box.column + 1 && target.index === 0 && box.cells[box.cells.length - 1].to === undefined) return { ...place, side: "right", dx: width, dy: heightOf("out", font) };

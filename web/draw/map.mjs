@@ -67,11 +67,12 @@ function regionPieces(machine, region, objects, areas, unit, gap, font) {
 const legend = (used, font) => Object.keys(STATES).filter(state => used.has(state))
   .map(state => rect(0, -0.8 * font, font, font, "d-frame", { style: `fill:${STATES[state]}` }) + text(1.5 * font, 0, NAMES[state]));
 
-/** The map's pieces: {pieces, width, height}. Old regions come first, so that from-space is beside to-space. */
+/** The map's pieces: {pieces, width, height}. Old regions are first, so that from-space is beside to-space. */
 export function mapOf(machine, found, given = {}) {
   const { font, areas, width: most, unit, gap } = { font: 12, areas: [], width: 900, unit: 3, gap: 4, ...given };
   const objects = byRegion(found), regions = [...machine.regions].sort((one, other) => Number(other.old) - Number(one.old) || one.number - other.number);
-  const step = Math.max(PAGES * (SIDE * unit + gap), 30 * 0.61 * font) + 2 * font, across = Math.max(1, Math.floor(most / step));
+  const longest = Math.max(...regions.flatMap(region => regionHead(machine, region, areas)).map(line => line.length), 1);
+  const step = Math.max(PAGES * (SIDE * unit + gap), longest * 0.61 * font) + 2 * font, across = Math.max(1, Math.floor(most / step));
   const pieces = [], used = new Set();
   let y = 3 * font, tallest = 0;
   regions.forEach((region, at) => {

@@ -39,7 +39,7 @@ function registerRows(machine, before) {
     .filter(row => isDrawn(row.word, row.number));
 }
 
-/** What is said of the registers that have no row. */
+/** A line for the registers that have no row. */
 function restText(machine, rows) {
   const others = machine.registers.length - rows.length, shown = new Set(rows.map(row => row.number));
   const left = machine.registers.filter((word, number) => word.left && !shown.has(number)).length;
@@ -74,7 +74,7 @@ export function layoutOf(machine, before, given = {}) {
 
 // ------------------------------------------------------------------ arrows
 
-/** Where each drawn address lies: its column, its row and its place in the column. Folded words lie in their fold. */
+/** The place of each drawn address: its column, its row and its place in the column. Folded words lie in their fold. */
 function placesOf(layout) {
   const places = new Map();
   for (const column of layout.columns)
@@ -116,7 +116,7 @@ function waysOf(layout) {
   return ways;
 }
 
-/** The height of a port in its row of the grid, and its distance from the left for the lanes' order. */
+/** The height of a port in its row of the grid, and its distance from its column's edge for the lanes' order. */
 function setHeight(port, font) {
   port.dy = (port.heads * 1.4 + 0.4 + (port.index + PORTS[port.side][port.part]) * ROW) * font;
   port.dx = port.side === "right" ? 1e5 : 0;

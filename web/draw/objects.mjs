@@ -1,9 +1,9 @@
-// The objects that the words of a machine show, what refers to them, and how far a collection has come with each.
+// The objects that the words of a machine show, what refers to them, and its colour in a collection.
 
 import { start, wordAt } from "./inside.mjs";
 import { content, final, movedWords } from "./words.mjs";
 
-/** How many words what begins at this place of a region has: an object, or what an object left behind with a forward. */
+/** How many words what begins at this place of a region has: an object, or the words of one that has moved, with their forward. */
 function lengthAt(machine, region, place) {
   const word = region.words[place];
   if (word.tag === "header") return 1 + (word.payload & 2047);
@@ -17,7 +17,7 @@ function fieldAt(machine, address) {
   return { at: address, text: word.isReference ? "" : content(word), to: word.isReference ? final(machine, word.to) : undefined, left: word.left };
 }
 
-/** The cdr that a cell's code tells: no word holds it. */
+/** The cdr that a cell's code gives: no word holds it. */
 function cdrOfCode(machine, address, word) {
   return { at: null, text: "nil", to: word.code === "next" ? final(machine, address + 1) : undefined, left: false };
 }

@@ -5,7 +5,7 @@ import { element, group, rect, text } from "./svg.mjs";
 const LINES = ["#0072b2", "#d55e00", "#009e73", "#cc79a7"], BAND = "d-pale";
 const TICKS = 4;
 
-/** A round step, 1, 2 or 5 times a power of ten, so that about so many fit into a range. */
+/** A round step, 1, 2 or 5 times a power of ten, so that about `count` of them fit into a range. */
 export function roundStep(most, count = TICKS) {
   const rough = Math.max(1, most / count), power = 10 ** Math.floor(Math.log10(rough));
   return power * [1, 2, 5, 10].find(times => times * power >= rough);
@@ -61,8 +61,8 @@ export function plotOf(rows, areas, quotas, given = {}) {
   const { font, width: wide, current } = { font: 12, width: 800, current: 0, ...given }, left = 5 * font, width = Math.max(12 * font, wide - left - 14 * font);
   const plot = { left, width, font, rows, current }, tall = 9 * font, low = 5 * font, gap = 2.6 * font;
   const accounts = areas.map((name, area) => ({ name, values: rows.map(row => row.charged[area]) }));
-  const strips = [{ title: "words charged", series: accounts, height: tall }, { title: "words reached by registers (residency)", series: [{ name: "reached", values: rows.map(row => row.reached) }], height: low },
-    { title: "units scanned by a command (pause)", series: [{ name: "scanned", values: rows.map(row => row.scanned), kind: "bars" }], height: low }];
+  const strips = [{ title: "words charged", series: accounts, height: tall }, { title: "words reached (residency)", series: [{ name: "reached", values: rows.map(row => row.reached) }], height: low },
+    { title: "units scanned (pause)", series: [{ name: "scanned", values: rows.map(row => row.scanned), kind: "bars" }], height: low }];
   let top = 2 * font;
   const pieces = strips.map(one => {
     const piece = strip(plot, { ...one, top });
@@ -83,7 +83,7 @@ export function scanned(before, machine, command, rate) {
   return Math.max(0, Math.min(pays, before.left + placed));
 }
 
-/** The charge of an allocation whose arguments say it. */
+/** The charge of an allocation, if its arguments give it. */
 function chargeOf(head, words) {
   if (head === "cons") return 2;
   if (head === "list") return 3 * (words.length - 2);

@@ -59,7 +59,7 @@ function freeLane(lanes, { low, high }) {
   return lanes.length - 1;
 }
 
-/** Gives each way its lanes, and says how many lanes each channel has: {gutter: Map, bus: Map}. Short spans come first. */
+/** Gives each way its lanes, and says how many lanes each channel has: {gutter: Map, bus: Map}. Short spans are first. */
 export function assignLanes(ways) {
   const counts = { gutter: new Map(), bus: new Map() }, uses = new Map();
   for (const way of ways) {
@@ -93,7 +93,7 @@ export function mergeLanes(...all) {
   return merged;
 }
 
-/** Where columns, rows and channels lie, from their sizes: lefts, tops, and the first lane of each gutter and bus. */
+/** The places of columns, rows and channels, from their sizes: lefts, tops, and the first lane of each gutter and bus. */
 export function place(widths, heights, lanes, sizes) {
   const { lane, gutterPad, busPad, margin } = sizes;
   const along = (boxes, kind, first, pad) => {

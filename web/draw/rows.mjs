@@ -1,4 +1,4 @@
-// Which words of a region are drawn, and what is said beside them.
+// Which words of a region are drawn, and the notes beside them.
 
 import { PAGE, start } from "./inside.mjs";
 import { content, stale } from "./words.mjs";
@@ -50,7 +50,7 @@ function allocates(machine, region) {
   return !region.old && same.length === 1;
 }
 
-/** The text of a row, in three pieces: its address, what it holds, and what is said of it. */
+/** The text of a row, in three pieces: its address, what it holds, and a note. */
 export function rowTexts(machine, row, gone) {
   if (row.end !== undefined) return { address: String(row.end), code: "", content: "", note: "\u25c0 allocation" };
   if (row.from !== undefined) return { address: "", code: "", content: `\u2026 ${row.to - row.from + 1} words, ${row.from} to ${row.to}`, note: "" };

@@ -2,7 +2,7 @@
 
 import { regionOf, start, wordAt } from "./inside.mjs";
 
-/** What a word holds: a number, nil, where it leads, or a header's code and number of fields. */
+/** What a word holds: a number, nil, the address that it names, or a header's code and number of fields. */
 export function content(word) {
   if (word.tag === "number") return String(word.number);
   if (word.tag === "header") return `header ${word.payload >> 11}, ${counted(word.payload & 2047, "field")}`;
@@ -14,7 +14,7 @@ export function counted(count, one, many = one + "s") {
   return `${count} ${count === 1 ? one : many}`;
 }
 
-/** Where forwards lead from an address. */
+/** The address to which forwards lead from this one. */
 export function final(machine, address) {
   let word = wordAt(machine, address);
   while (word?.isForward) {

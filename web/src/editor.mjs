@@ -1,6 +1,7 @@
 // The editor: the session's text with its replies beside it, the line of the step, and the word at which a line is refused.
 
 import { at, fill, element } from "./dom.mjs";
+import { unpasted } from "./session.mjs";
 
 const LINE = 1.45, COUNT = 20;      // the height of a line by that of a letter; letters of the probe
 
@@ -20,11 +21,21 @@ export class Editor {
   constructor(onText, onLine) {
     this.area = at("text");
     this.area.addEventListener("input", () => onText(this.area.value));
+    this.area.addEventListener("paste", event => this.paste(event, onText));
     const moved = () => onLine(this.caretLine());
     this.area.addEventListener("keyup", event => { if (/^(Arrow|Page|Home|End)/.test(event.key)) moved(); });
     this.area.addEventListener("click", moved);
     this.area.addEventListener("scroll", () => this.follow());
     this.marks = { step: -1, refused: null };
+  }
+
+  /** A session from a page of docs/ is taken without its indent and its replies. */
+  paste(event, onText) {
+    const given = event.clipboardData?.getData("text/plain") ?? "", text = unpasted(given);
+    if (text === given) return;
+    event.preventDefault();
+    this.area.setRangeText(text, this.area.selectionStart, this.area.selectionEnd, "end");
+    onText(this.area.value);
   }
 
   caretLine() {

@@ -83,7 +83,7 @@ function tagEvents(before, now) {
   const on = now.residents.filter(({ page, tagged: is }) => is && !tagged.get(page)).map(({ page }) => page);
   const stored = on.filter(page => !out.has(page) || out.get(page) === "-"), brought = on.filter(page => out.has(page) && out.get(page) !== "-");
   if (stored.length) found.push(event(`Page${stored.length > 1 ? "s" : ""} ${listed(stored)} tagged (card marking).`, "An address of level 1 or more was stored there, so a flip of levels will scan the page."));
-  if (brought.length) found.push(event(`Page${brought.length > 1 ? "s" : ""} ${listed(brought)} tagged on coming in.`, "A page that has a row in the table of references comes in with its tag."));
+  if (brought.length) found.push(event(`Page${brought.length > 1 ? "s" : ""} ${listed(brought)} tagged on coming in.`, "A page that has a row in the table of references is tagged when it is read in."));
   const off = now.residents.filter(({ page, tagged: is }) => !is && tagged.get(page) && !isFreed(page)).map(({ page }) => page);
   if (off.length) found.push(event(`Page${off.length > 1 ? "s" : ""} ${listed(off)} not tagged any more.`, "The scan has gone over the page, and no address of level 1 or more is on it."));
   return found;

@@ -12,12 +12,13 @@ import { showLesson } from "./lesson.mjs";
 import * as panes from "./panes.mjs";
 import { sentenceOf, spanOf } from "./refused.mjs";
 import { OPENING, sentences } from "./rules.mjs";
-import { Quiz, showCaption, showCommand, showQuestion, showRule } from "./said.mjs";
+import { Quiz, showCaption, showCommand, showDumped, showQuestion, showRule } from "./said.mjs";
 import { common, commandAt, parse, prefix } from "./session.mjs";
 import * as share from "./share.mjs";
 
 const LONG = 2000;          // commands from which a change waits a while before it is run
 const WAIT = 400;           // milliseconds
+const MOST_SLOTS = 4;       // regions of a session up to which each has a place of its own in the drawing
 const TALL = 1.9;           // width by height of a drawing, below which it is beside the objects in the lecture view
 const LEAST_PLOTTED = 12;   // steps from which the curves are shown
 const MOST_PLANNED = 260;   // steps whose sizes are looked at before, so that nothing moves from step to step
@@ -32,15 +33,18 @@ let editor, waiting;
 
 const repliesOf = number => number ? page.replies[page.session.commands[number - 1].place] ?? [] : [];
 
-/** Takes a text. What its first commands showed before is kept. */
-function setText(text, step) {
-  const session = parse(text), same = common(page.session, session);
+/** Takes a text, and shows a step of it: its number, or a function of the session. What its first commands showed is kept. */
+function setText(text, wanted) {
+  const session = parse(text), step = typeof wanted === "function" ? wanted(session) : wanted, same = common(page.session, session);
   session.inputs.forEach((input, place) => { input.place = place; });
   for (const number of page.machines.keys()) if (number > same) page.machines.delete(number);
   page.session = session;
   page.quiz = null;
   page.planned = null;
   page.rows = null;
+  page.isLarge = false;
+  document.body.classList.remove("large");
+  delete document.body.dataset.planned;
   at("quiz").setAttribute("aria-pressed", "false");
   editor.set(text);
   clearTimeout(waiting);
@@ -136,15 +140,18 @@ async function plan() {
     machines.push(machine);
   }
   const slots = memory.slotsOf(machines), sizes = new Map();
+  page.rows = last >= LEAST_PLOTTED ? machines.map((machine, number) => plotRow(machine, machines[number - 1], number)) : null;
+  page.isLarge = machines.some(machine => panes.wordsOf(machine) >= panes.MAP_FROM);
+  document.body.classList.toggle("large", page.isLarge);
+  document.body.dataset.planned = String(page.run);
+  if (slots.length > MOST_SLOTS || page.isLarge) return draw();
   const sizesOf = way => {
     const name = JSON.stringify(way);
     if (!sizes.has(name)) sizes.set(name, memory.mergeSizes(machines.map((machine, at) => memory.layoutOf(machine, machines[at - 1], { ...view(), ...way, slots }).sizes)));
     return sizes.get(name);
   };
   page.planned = { slots, sizesOf };
-  document.body.dataset.planned = String(page.run);
   document.body.dataset.shape = shapeOf(sizesOf({ across: Math.min(4, slots.length || 1) }));
-  page.rows = last >= LEAST_PLOTTED ? machines.map((machine, number) => plotRow(machine, machines[number - 1], number)) : null;
   draw();
 }
 
@@ -164,7 +171,7 @@ function plotRow(machine, before, number) {
 
 // ------------------------------------------------------------------ what is shown
 
-const view = () => ({ areas: page.session.areas, font: page.font, most: page.isLecture ? 14 : 24 });
+const view = () => ({ areas: page.session.areas, font: page.font, most: page.isLarge ? 12 : page.isLecture ? 14 : 24 });
 
 /** Shows a step. */
 function show(wanted) {
@@ -194,7 +201,7 @@ function showSaid() {
 const isAsking = () => Boolean(page.quiz?.asks(page.step));
 const isHidden = input => Boolean(page.quiz && input.command >= page.step && page.quiz.asks(input.command));
 
-/** Draws the machine of the step. While the quiz asks, what came before is shown. */
+/** Draws the machine of the step. While the quiz asks, the machine before the command is shown. */
 async function draw() {
   const mine = ++page.shown, { step, session } = page, isAsked = isAsking();
   if (page.last < 0) return nothing();
@@ -202,8 +209,8 @@ async function draw() {
   const [machine, before] = await Promise.all([machineAt(number), machineAt(number - 1)]).catch(() => [null, null]);
   if (mine !== page.shown || session !== page.session) return;
   if (!machine) return nothing();
-  const options = { ...view(), fits: page.isLecture, planned: page.planned, isBeside: page.isBeside, mostObjects: page.isLecture ? 24 : 40 };
-  panes.showMemory(machine, before, { ...options, width: widthOf("memory") });
+  const options = { ...view(), fits: page.isLecture, isLarge: page.isLarge, planned: page.planned, isBeside: page.isBeside, mostObjects: page.isLecture ? 24 : 40 };
+  panes.showMemory(machine, before, { ...options, width: widthOf("memory"), height: at("regions").clientHeight });
   panes.showGraph(machine, before, { ...options, width: widthOf("graph") });
   panes.showPlot(page.rows, session.areas, { ...options, fits: false, width: widthOf("graph"), current: step });
   panes.showAccounts(machine, before, session.areas);
@@ -211,6 +218,7 @@ async function draw() {
   const input = session.commands[step - 1];
   if (isAsked) showQuestion(input.text, given => answered(step, given));
   else showRule(input?.text, repliesOf(step)[0], before, machine);
+  await showDumped(isAsked ? [] : session.marks[step], repliesOf(step), engine);
   document.body.dataset.drawn = `${page.run} ${step}`;
 }
 
@@ -335,7 +343,7 @@ async function copyLink() {
 const keys = { ArrowRight: () => page.step + 1, ArrowLeft: () => page.step - 1, PageDown: () => page.step + 1, PageUp: () => page.step - 1,
   " ": () => page.step + 1, Home: () => 0, End: () => page.last };
 
-/** Keys step, unless the focus is where they have a meaning of their own. */
+/** Keys step, unless the focused part of the page uses them itself. */
 function onKey(event) {
   if (event.altKey || event.ctrlKey || event.metaKey) return;
   if (event.key === "Escape" && page.isLecture) return setLecture(false);
@@ -382,7 +390,7 @@ function nextTheme() {
 
 async function begin() {
   document.head.append(element("style", { id: "letters" }));
-  editor = new Editor(text => { page.name = ""; at("choice").value = ""; setText(text, commandAt(parse(text), editor.caretLine())); },
+  editor = new Editor(text => { page.name = ""; at("choice").value = ""; setText(text, session => commandAt(session, editor.caretLine())); },
     line => show(Math.min(page.last, commandAt(page.session, line))));
   setFont(letterSize());
   fillChoice();
@@ -390,7 +398,8 @@ async function begin() {
   const cause = await engine.ready;
   if (cause) {
     at("cannot").hidden = false;
-    at("cannot").textContent = `This browser can't run the machine, since it doesn't load WebAssembly in a worker (${cause}); a browser of the last years does.`;
+    at("cannot").textContent = "This browser can't load the machine, which is WebAssembly in a worker; a newer one can.";
+    at("cannot").title = cause;
     return;
   }
   at("version").textContent = (await engine.version()).version;

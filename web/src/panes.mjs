@@ -16,15 +16,25 @@ export const MAP_FROM = 400;     // words from which the map of the heap is show
 /** The layouts that are tried, the widest first. */
 const WAYS = [{ across: 4 }, { across: 3 }, { across: 2 }, { across: 1 }, { across: 1, stacked: true }];
 
-/** The widest layout of a machine that fits a width: {layout, pieces, width, height}. */
-function fitting(machine, before, view, width, planned) {
-  let found = null;
-  for (const way of WAYS) {
-    if (way.across > Math.max(1, planned?.slots?.length ?? machine.regions.length) && way.across > 1) continue;
-    const layout = memory.layoutOf(machine, before, { ...view, ...way, slots: planned?.slots });
-    const sizes = planned?.sizesOf?.(way) ?? layout.sizes;
-    found = { way, layout, ...memory.piecesOf(layout, sizes) };
-    if (found.width * NEARLY <= width) break;
+/** A layout of a machine: {layout, pieces, width, height}. */
+function laidOut(machine, before, view, way, planned) {
+  const layout = memory.layoutOf(machine, before, { ...view, ...way, slots: planned?.slots });
+  return { ...memory.piecesOf(layout, planned?.sizesOf(way) ?? layout.sizes) };
+}
+
+/** The layouts to try: no more regions side by side than there are. */
+function ways(machine, planned) {
+  const count = Math.max(1, planned?.slots.length ?? machine.regions.length);
+  return WAYS.filter(way => way.across <= count);
+}
+
+/** The layout that fits a pane: the widest one, or, if it is scaled to its pane, the one with the largest letters. */
+function fitting(machine, before, view, { width, height, fits, planned }) {
+  let found = null, best = 0;
+  for (const way of ways(machine, planned)) {
+    const one = laidOut(machine, before, view, way, planned), scale = Math.min(width / one.width, height / one.height);
+    if (!fits && one.width * NEARLY <= width) return one;
+    if (!fits || scale > best) [found, best] = [one, scale];
   }
   return found;
 }
@@ -37,7 +47,7 @@ export function told(machine, areas) {
 
 function drawMemory(holder, machine, before, options) {
   const view = { areas: options.areas, font: options.font, most: options.most };
-  const { pieces, width, height } = fitting(machine, before, view, options.width, options.planned);
+  const { pieces, width, height } = fitting(machine, before, view, options);
   const svg = showDrawing(holder, drawing(width, height, "Memory", "", pieces, { inPage: true, font: options.font }), told(machine, options.areas));
   size(svg, width, options);
 }
@@ -82,14 +92,17 @@ export function showGraph(machine, before, options) {
   const { pieces, width, height } = graph.piecesOf(graph.graphOf(found, { areas: options.areas, font: options.font, changed, most: options.mostObjects }));
   const said = `${counted(found.objects.size, "object")}, ${counted(found.roots.filter(root => root.to !== undefined).length, "register")} with a reference`;
   size(showDrawing(at("drawing"), drawing(width, height, "Objects", "", pieces, { inPage: true, font: options.font }), said), width, options);
-  const words = machine.regions.reduce((sum, region) => sum + region.used, 0);
-  at("map").hidden = words < MAP_FROM;
-  if (words >= MAP_FROM) showMap(machine, found, options);
+  const isLarge = options.isLarge || wordsOf(machine) >= MAP_FROM;
+  at("map").hidden = !isLarge;
+  if (isLarge) showMap(machine, found, options);
 }
+
+/** How many words of the heap are used. */
+export const wordsOf = machine => machine.regions.reduce((sum, region) => sum + region.used, 0);
 
 function showMap(machine, found, options) {
   const { pieces, width, height } = mapOf(machine, found, { font: options.font, areas: options.areas, width: options.width });
-  size(showDrawing(at("heap"), drawing(width, height, "The whole heap", "", pieces, { inPage: true, font: options.font }), "each word of the heap as a point, page by page"), width, { ...options, fits: false });
+  size(showDrawing(at("heap"), drawing(width, height, "The whole heap", "", pieces, { inPage: true, font: options.font }), "each word of the heap as a point, page by page"), width, options);
 }
 
 /** The curves of the whole session, if there are any. */

@@ -49,7 +49,7 @@ function tests(reason, world, head) {
 
 const isTooGreat = word => /^-?[0-9]+$/.test(word) && (Number(word) > 2147483647 || Number(word) < -2147483648);
 
-/** Where the words of a line begin and end. */
+/** The words of a line with their beginnings and ends. */
 function pieces(line) {
   return [...line.matchAll(/[^ ]+/g)].map(found => ({ text: found[0], from: found.index, to: found.index + found[0].length }));
 }

@@ -1,10 +1,11 @@
-// What is said of a step: its caption, the command, its reply, the rule, and the events. In a quiz the reply is asked first.
+// The texts of a step: its caption, the command, its reply, the rule, and the events. In a quiz the reply is asked first.
 
 import { events } from "./events.mjs";
 import { OPENING, sentences } from "./rules.mjs";
 import { at, element, fill } from "./dom.mjs";
 
 const MOST_LINES = 40;
+const LONG = 26;        // characters from which a command is written smaller in the lecture view
 
 /** The comments before a command, or the nearest ones before those: {parts, isEarlier}. */
 export function captionOf(session, step) {
@@ -23,6 +24,7 @@ export function showCaption(session, step) {
 
 export function showCommand(command, replies) {
   at("command").textContent = command ?? "before the first command";
+  at("command").className = (command ?? "").length > LONG ? "long" : "";
   const shown = replies.slice(0, MOST_LINES), more = replies.length > MOST_LINES ? [`\u2026 ${replies.length - MOST_LINES} more lines`] : [];
   at("reply").textContent = [...shown, ...more].join("\n");
 }
@@ -68,4 +70,15 @@ export function showQuestion(command, onAnswer) {
   const form = element("form", { onsubmit: event => { event.preventDefault(); onAnswer(field.value); } }, field, " ", element("button", { type: "submit" }, "Answer"));
   fill("asked", form);
   field.focus();
+}
+
+/** What `lispm census` and `lispm why` write about a dump, if the session's comments request it. */
+export async function showDumped(marks, dump, engine) {
+  const said = [];
+  for (const mark of marks ?? []) {
+    const [mode, object] = mark.split(" "), { output } = await engine.run(object ? [mode, "--object", object] : [mode], dump.join("\n") + "\n");
+    said.push(`$ lispm ${mode}${object ? ` --object ${object}` : ""} <DUMP\n${output}`);
+  }
+  at("dumped").hidden = !said.length;
+  at("dumped").textContent = said.join("\n");
 }

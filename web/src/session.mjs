@@ -1,4 +1,4 @@
-// A session as a value: its world, its commands, its comments, and where each line is in the text.
+// A session as a value: its world, its commands, its comments, and the place of each line in the text.
 //
 // A line that begins with `;` is a comment, and what follows `;` on a line of a commented session is a remark; the machine
 // reads neither. Comments before a command are its caption, except marks, which only say what the tour shows there.
@@ -8,14 +8,16 @@ const REMARK = / *;.*$/;
 
 const words = line => line.replace(/^;+ ?/, "").trim();
 
-/** The parts of a text: `header` and `commands` with their lines from 0, `captions` by the command that they precede. */
+/** The parts of a text: `header` and `commands` with their lines from 0, `captions` by the command that they precede, and
+ * what `marks` request of a dump by the command that wrote it. */
 export function parse(text) {
-  const lines = text.split("\n"), inputs = [], captions = [];
+  const lines = text.split("\n"), inputs = [], captions = {}, marks = {};
   if (lines[lines.length - 1] === "") lines.pop();
   let isTrace = false, isOver = false, comments = [], commands = 0;
   lines.forEach((line, at) => {
     if (line.startsWith(";") || (line.trim() === "" && lines.some(other => other.startsWith(";")))) {
       if (!MARK.test(words(line))) comments.push(words(line));
+      else if (/^(census|why)/.test(words(line))) (marks[commands] ??= []).push(words(line));
       return;
     }
     const input = { at, text: line.includes(";") ? line.replace(REMARK, "") : line, asked: /; \?$/.test(line) };
@@ -33,7 +35,7 @@ export function parse(text) {
   });
   if (comments.length) captions.ending = caption(comments);
   const header = inputs.slice(0, 1 + inputs.findIndex(input => input.text === "trace"));
-  return { text, lines, inputs, header, commands: inputs.filter(input => input.command), captions, areas: areasOf(header), isWhole: isOver };
+  return { text, lines, inputs, header, commands: inputs.filter(input => input.command), captions, marks, areas: areasOf(header), isWhole: isOver };
 }
 
 /** Comments as paragraphs. */
@@ -65,4 +67,12 @@ export function common(one, other) {
   let count = 0;
   while (count < one.commands.length && count < other.commands.length && one.commands[count].text === other.commands[count].text) count++;
   return count;
+}
+
+/** A session as it is on a page of docs/, with an indent, replies beside its commands and blank lines, as a session to run. */
+export function unpasted(text) {
+  const indent = /^( *)lispm-world [12]\b/m.exec(text)?.[1];
+  if (indent === undefined || (!indent && !/^[^\s;].*? {3,}[^\s;]/m.test(text))) return text;
+  return text.split("\n").filter(line => line.startsWith(indent) || !line.trim()).map(line => line.slice(indent.length))
+    .filter(line => !line.startsWith("  ")).map(line => line.startsWith(";") ? line : line.replace(/ {2,}\S.*$/, "").trimEnd() || ";").join("\n").replace(/(\n;)*$/, "\n");
 }

@@ -1,4 +1,4 @@
-// Links, files and prints of what the page shows. A link has the session's text behind `#`, so no server gets it.
+// Links, files and prints of what the page shows. A link has the session's text after `#`, so no server gets it.
 
 import * as graph from "../draw/graph.mjs";
 import * as memory from "../draw/memory.mjs";

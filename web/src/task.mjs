@@ -1,5 +1,5 @@
-// Exercises: a world and a trace in which something is left to the reader, and what has to come (examples/tour/tasks.py has the
-// form of their files). An answer is run, and judged by what comes.
+// Exercises: a world and a trace in which the reader supplies commands or predicts replies (examples/tour/tasks.py has the
+// form of their files). An answer is run, and judged by what is replied.
 
 const BETWEEN = " | ", YOURS = "your commands";
 
@@ -43,7 +43,7 @@ export const conditions = task => [...comments(task, "at most ").map(words => `a
 export const shownLines = task => task.items.filter(item => !item.isComment || item.text === YOURS)
   .map(item => item.isComment ? `; ${YOURS}` : item.beside === null ? item.text : `${item.text.padEnd(24)} ${item.beside === "?" ? "; ?" : item.beside}`);
 
-/** What the reader predicts: the replies of commands, and the rest of lines of the machine, in words if the exercise says so. */
+/** What the reader predicts: the replies of commands, and the rest of lines of the machine, in words if the exercise has them. */
 export function asked(task) {
   const found = task.items.filter(item => !item.isComment && item.beside === "?").map(item => item.text);
   task.items.forEach(({ text, isComment }, at) => {

@@ -150,7 +150,7 @@ static void want_quota(uint32_t area, uint32_t wanted)
     charged[area] += wanted;
 }
 
-/* The values that stand in an object line. */
+/* The values of an object line. */
 static struct {
     struct part list[MOST_FIELDS];
     uint32_t count;

@@ -56,6 +56,11 @@ class Drawing(NamedTuple):
     def cells(self) -> List[Box]:
         return [*self.words.values(), *self.registers.values(), *self.folds.values()]
 
+    def text_of(self, address: str) -> str:
+        """The texts in the cell of a word."""
+        box = self.words[int(address)]
+        return " ".join(words for words, place in self.texts if box.top <= place.bottom <= box.bottom and box.left <= (place.left + place.right) / 2 <= box.right)
+
     def box_of(self, address: int) -> List[Box]:
         """The boxes at which an arrow to an address may end."""
         if address in self.words:
@@ -105,22 +110,25 @@ def points_of(element: ElementTree.Element) -> List[Point]:
     return found
 
 
-def text_box(element: ElementTree.Element) -> Box:
-    width = CHARACTER * len(element.text or "")
+def text_box(element: ElementTree.Element, scale: float) -> Box:
+    width = CHARACTER * scale * len(element.text or "")
     x, base = number(element, "x"), number(element, "y")
     left = {"end": x - width, "middle": x - width / 2}.get(element.get("text-anchor", ""), x)
-    return Box(left, base - LETTER, left + width, base)
+    return Box(left, base - LETTER * scale, left + width, base)
 
 
-def read(svg: str) -> Drawing:
+def read(svg: str, moment: int = -1, scale: float = 1) -> Drawing:
+    """The cells, texts and arrows of a drawing, or of one of its moments; `scale` is 1 for letters of 12 pixels."""
     root = ElementTree.fromstring(svg)
     moved(root)
+    if moment >= 0:
+        root = [one for one in root.iter(SVG + "g") if one.get("class") == "moment"][moment]
     groups = list(root.iter(SVG + "g"))
     words = {int(one.get("data-address", "")): cell_of(one) for one in groups if one.get("data-address")}
     registers = {int(number): cell_of(one) for one in groups for number in numbers_of(one)}
     folds = {(int(one.get("data-from", "")), int(one.get("data-to", ""))): cell_of(one) for one in groups if one.get("data-from")}
     objects = {int(one.get("data-object", "")): cell_of(one) for one in groups if one.get("data-object")}
-    texts = [(one.text or "", text_box(one)) for one in root.iter(SVG + "text")]
+    texts = [(one.text or "", text_box(one, scale)) for one in root.iter(SVG + "text")]
     arrows = [Arrow(one.get("data-holder", "").split(), int(one.get("data-target", "-1")), points_of(one))
               for one in root.iter(SVG + "path") if "d-arrow" in one.get("class", "").split()]
     return Drawing(words, registers, folds, objects, texts, arrows)

@@ -6,7 +6,7 @@ Which references there are is read from lispm_inside's text, and the drawn SVG i
 import random
 import re
 import unittest
-from typing import Dict, List, Tuple
+from typing import Any, Dict, List, Tuple
 
 import drawing
 import support
@@ -15,6 +15,8 @@ from support import has_inside, memory_of, needs_both, needs_node, objects_of, s
 
 from lib import inside
 
+# Ways in which regions are laid out.
+WAYS: List[Dict[str, Any]] = [{}, {"across": 1}, {"across": 2}, {"across": 4}, {"stacked": True}, {"font": 24}]
 MOST_WORDS, MOST_REGIONS, MOST_OBJECTS = 24, 12, 40
 SMALL = """lispm-inside 1
 space 16 32 3 1 2
@@ -111,12 +113,24 @@ class Generated(unittest.TestCase):
     """Machines with random words: more arrows than any session has."""
 
     def test_memory(self):
-        found = [generated(seed) for seed in range(40)]
-        for step, svg in zip(found, drawn([memory_of(step) for step in found])):
-            machine, read = machine_of(step), drawing.read(svg)
+        found = [generated(seed) for seed in range(60)]
+        for step, svg in zip(found, drawn([memory_of(step, **WAYS[step.number % len(WAYS)]) for step in found])):
+            scale = WAYS[step.number % len(WAYS)].get("font", 12) / 12
+            machine, read = machine_of(step), drawing.read(svg, scale=scale)
             self.assertEqual(drawn_references(read), held_references(machine, read), step.number)
             self.assertEqual(drawing.wrong(read), [], step.number)
             self.assertEqual((missing_words(machine, read), unfolded(machine, read)), ([], []), step.number)
+
+    def test_moments_side_by_side(self):
+        """Two moments in one drawing: each reference of each has its arrow, and none runs into the other."""
+        for seed in range(10):
+            steps_ = [generated(seed), generated(seed + 100)]
+            moments = [{"number": step.number, "command": "", "reply": [], "output": step.output} for step in steps_]
+            svg = drawn([{"what": "memory", "moments": moments, "areas": ["work"], "pages": False, "beside": True}])[0]
+            for index, step in enumerate(steps_):
+                read = drawing.read(svg, index)
+                self.assertEqual(drawn_references(read), held_references(machine_of(step), read), seed)
+                self.assertEqual(drawing.wrong(read), [], seed)
 
 
 @needs_node
@@ -137,7 +151,7 @@ def generated_objects(seed: int) -> Step:
     """Pairs, cells in runs, and blocks, whose fields refer to any of them."""
     draw = random.Random(seed)
     words: List = []        # the cdr code of each word, or a header with its number of fields
-    starts: List[Tuple[int, int]] = []      # where objects begin, and the tag of references to them
+    starts: List[Tuple[int, int]] = []      # the beginnings of objects, and the tag of references to them
     for _ in range(draw.randint(1, 9)):
         kind, count = draw.choice(("pair", "run", "run", "block")), draw.randint(1, 5)
         starts += [(len(words) + at, 2) for at in range(count if kind == "run" else 1)] if kind != "block" else [(len(words), 3)]
@@ -162,7 +176,7 @@ class EveryStep(unittest.TestCase):
         cls.steps: Dict[str, List[Step]] = {name: steps(path) for name, path in sessions().items()} if has_inside else {}
 
     def each(self, draws):
-        """Where each moment is, its machine, and its drawing."""
+        """Each moment: its name, its machine, and its drawing."""
         for name, found in self.steps.items():
             for step, svg in zip(found, drawn([draws(step) for step in found])):
                 yield f"{name} after command {step.number}", machine_of(step), drawing.read(svg)
@@ -184,8 +198,14 @@ class EveryStep(unittest.TestCase):
             self.assertEqual(drawing.wrong(found), [], where)
             wanted = [(holder, to) for holder, to in graph_references(machine, found) if to in found.words]
             self.assertEqual(drawn_references(as_graph(found)), wanted, where)
+            self.assertEqual([arrow for arrow in wanted_only(machine, found) if f"\u2192 {arrow[1]}" not in found.text_of(arrow[0])], [], where)
             if len(found.objects) < MOST_OBJECTS:
                 self.assertEqual([to for to in reached(machine) if to not in found.words], [], where)
+
+
+def wanted_only(machine: inside.Machine, found: Drawing) -> List[Tuple[str, int]]:
+    """References of drawn fields to objects that aren't drawn: their addresses are written."""
+    return [(holder, to) for holder, to in graph_references(machine, found) if to not in found.words and not holder.startswith("r")]
 
 
 def reached(machine: inside.Machine) -> List[int]:

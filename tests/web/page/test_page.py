@@ -1,34 +1,33 @@
 """The page web/lispm.html in headless Chromium, opened from a disk: sessions, steps by keys, edits, exercises, files, links,
 prints, the lecture view, and windows and letters of several sizes."""
+import base64
 import os
 import re
 import shutil
-import sys
 import tempfile
 import time
 import unittest
 from typing import Any, List
 
+import chromium
 import drawing
 import support
+from chromium import Chromium
 from support import TOP, parsed, sessions
 
-sys.path.insert(0, os.path.join(TOP, "tests", "stepper"))
-import chromium  # noqa: E402
-from chromium import Chromium  # noqa: E402
 
 CHROMIUM = chromium.find()
 PAGE = os.path.join(TOP, "web", "lispm.html")
 LEAST_MODULE = 50_000
 has_page = os.path.isfile(PAGE) and os.path.getsize(PAGE) > LEAST_MODULE
 SECONDS = 20
-DRAWN = "document.body.dataset.drawn"
+START = "lispm-world 1\nspace 16 32 8 1 2\narea work dynamic 400\ntrace\n"
 REPLIES = "document.getElementById('replies').textContent"
-CATCH = """window.errors = []; window.saved = [];
-addEventListener('error', event => errors.push(String(event.message)));
-addEventListener('unhandledrejection', event => errors.push(String(event.reason)));
-const create = URL.createObjectURL.bind(URL);
-URL.createObjectURL = blob => { if (/svg|png/.test(blob.type)) blob.arrayBuffer().then(data => saved.push({type: blob.type, bytes: [...new Uint8Array(data)]})); return create(blob); };"""
+with open(os.path.join(support.HERE, "looks.js")) as looks:
+    LOOKS = looks.read()
+# A line in the place of one of lesson 1, the reason of its refusal, and the word that is marked.
+REFUSED = (("cons 2 nowhere 0 1", "no area", "nowhere"), ("conz 2 work 0 1", "unknown command", "conz"),
+           ("cons 2 work 0 99", "no register", "99"), ("cons 2 work 0", "wrong count", ""), ("cons 2 work  0 1", "bad line", "  "))
 KEYS = {" ": 32, "PageDown": 34, "PageUp": 33, "ArrowRight": 39, "ArrowLeft": 37, "Home": 36, "End": 35, "Escape": 27, "Tab": 9, "Enter": 13}
 
 
@@ -49,7 +48,7 @@ class Page(unittest.TestCase):
         if CHROMIUM and has_page:
             cls.browser = Chromium(CHROMIUM, cls.more)
             cls.browser.call("Page.enable")
-            cls.browser.call("Page.addScriptToEvaluateOnNewDocument", source=CATCH)
+            cls.browser.call("Page.addScriptToEvaluateOnNewDocument", source=LOOKS)
 
     @classmethod
     def tearDownClass(cls):
@@ -76,10 +75,10 @@ class Page(unittest.TestCase):
         self.browser.call("Emulation.setDeviceMetricsOverride", width=width, height=height, deviceScaleFactor=1, mobile=False)
         self.browser.call("Page.navigate", url="about:blank")
         self.browser.call("Page.navigate", url=f"file://{page}{hash_}")
-        self.until("document.body && document.body.dataset.ready === 'yes' && document.body.dataset.drawn", f"{hash_} is drawn")
+        self.until("document.body?.dataset.ready === 'yes' && look.step()", f"{hash_} is drawn")
 
     def at_step(self, number: int) -> None:
-        self.until(f"({DRAWN}).endsWith(' {number}')", f"step {number}")
+        self.until(f"(look.step() || '').endsWith(' {number}')", f"step {number}")
 
     def press(self, key: str) -> None:
         given = {"key": key, "code": "Space" if key == " " else key, "windowsVirtualKeyCode": KEYS[key]}
@@ -88,9 +87,7 @@ class Page(unittest.TestCase):
 
     def type_at(self, line: int, text: str) -> None:
         """Replaces a line of the editor, from 0, as a reader does."""
-        self.value(f"""(() => {{ const area = document.getElementById('text'), lines = area.value.split('\\n');
-            const from = lines.slice(0, {line}).join('\\n').length + ({line} ? 1 : 0);
-            area.focus(); area.setSelectionRange(from, from + lines[{line}].length); }})()""")
+        self.value(f"look.select({line})")
         self.browser.call("Input.insertText", text=text)
 
     def click(self, id_: str) -> None:
@@ -102,9 +99,10 @@ class Page(unittest.TestCase):
 
 class Sessions(Page):
     def test_every_session_is_answered_as_the_program_answers(self):
-        names = self.value("(() => [...document.querySelectorAll('#choice option')].map(one => one.value))()") if self.open() is None else []
-        self.assertGreaterEqual(len(names), 1 + 14 + 10 + 3)
-        for name in [name for name in names if name]:
+        self.open()
+        names = self.value("look.sessions()")
+        self.assertGreaterEqual(len(names), 14 + 10 + 3)
+        for name in names:
             self.open(f"#session={name}")
             self.assertEqual((name, self.shown("refusal"), self.value("document.getElementById('refusal').hidden")), (name, "", True))
 
@@ -117,10 +115,11 @@ class Sessions(Page):
                 self.at_step(number)
                 text = support.inside_text(trace, number)
                 machine = support.machine_of(text)
-                svg = self.value("new XMLSerializer().serializeToString(document.querySelector('#regions svg'))")
-                found = drawing.read(svg)
+                found = drawing.read(self.value("look.memory()"))
                 self.assertEqual(sorted(found.words), sorted(at for region in machine.regions for at in region.words), f"{name} {number}")
                 self.assertEqual(drawing.wrong(found), [], f"{name} {number}")
+                accounts = [f"{trace.areas[area.number]} {area.charged} of {area.quota}" for area in machine.areas]
+                self.assertEqual(self.value("look.accounts()"), accounts)
                 if number:
                     self.assertEqual(self.shown("command"), trace.commands[number - 1].text)
                     self.assertEqual(self.shown("reply"), support.last_reply(text, trace, number))
@@ -134,38 +133,48 @@ class Sessions(Page):
         self.at_step(len(parsed(lesson(7)).commands))
         self.assertNotIn("How can objects move", self.shown("caption"))
 
+    def test_what_is_asked_of_a_dump(self):
+        trace = parsed(lesson(14))
+        dump = next(command.number for command in trace.commands if command.text == "dump")
+        self.open(f"#session=lesson/14&step={dump}")
+        self.at_step(dump)
+        self.assertRegex(self.shown("dumped"), r"lispm census <DUMP\n(.*\n)*end-census")
+        self.press("ArrowLeft")
+        self.at_step(dump - 1)
+        self.assertEqual(self.shown("dumped"), "")
+
     def test_what_changed_is_marked(self):
         self.open("#session=collection&step=6")
         self.at_step(6)
-        changed = self.value("[...document.querySelectorAll('#regions .word')].filter(one => one.querySelector('.d-changed')).map(one => one.dataset.address)")
-        self.assertEqual(changed, ["2", "4096", "4097"])
+        self.assertEqual(self.value("look.changed()"), ["2", "4096", "4097"])
         self.assertIn("read barrier moved 1 object", self.shown("events"))
 
+    def events_of(self, name: str) -> str:
+        """The events of all steps of a session."""
+        self.open(f"#session={name}")
+        told = []
+        for step in range(1, len(parsed(path_of(name)).commands) + 1):
+            self.press("ArrowRight")
+            self.at_step(step)
+            told.append(self.shown("events"))
+        return " ".join(told)
+
     def test_generational_events(self):
-        self.open("#session=levels")
-        told = set()
-        for _ in parsed(path_of("levels")).commands:
-            before = self.value(DRAWN)
-            self.press("ArrowRight")
-            self.until(f"{DRAWN} !== '{before}'")
-            told.add(self.shown("events"))
-        self.assertIn("promoted from level 1 to level 2", " ".join(told))
-        self.open("#session=references")
-        told = set()
-        for _ in parsed(path_of("references")).commands:
-            before = self.value(DRAWN)
-            self.press("ArrowRight")
-            self.until(f"{DRAWN} !== '{before}'")
-            told.add(self.shown("events"))
-        self.assertRegex(" ".join(told), "Page 16 is tagged")
-        self.assertRegex(" ".join(told), "is evicted; its row")
+        told = self.events_of("levels")
+        self.assertIn("promoted from level 1 to level 2", told)
+        self.assertIn("from-space", told)
+        told = self.events_of("references")
+        self.assertIn("Page 16 is tagged", told)
+        self.assertIn("is evicted; its row", told)
 
 
 class Keys(Page):
     def test_keys_of_a_keyboard_and_a_clicker(self):
         self.open("#session=collection")
         last = len(parsed(path_of("collection")).commands)
-        for key, step in (("ArrowRight", 1), (" ", 2), ("PageDown", 3), ("PageUp", 2), ("ArrowLeft", 1), ("End", last), ("ArrowRight", last), ("Home", 0), ("ArrowLeft", 0)):
+        steps = (("ArrowRight", 1), (" ", 2), ("PageDown", 3), ("PageUp", 2), ("ArrowLeft", 1), ("End", last), ("ArrowRight", last),
+                 ("Home", 0), ("ArrowLeft", 0))
+        for key, step in steps:
             self.press(key)
             self.at_step(step)
             self.assertEqual(self.shown("place"), f"step {step} of {last}")
@@ -187,10 +196,7 @@ class Keys(Page):
 
     def test_everything_has_a_name(self):
         self.open("#session=lesson/1")
-        nameless = self.value("""[...document.querySelectorAll('button, input, select, textarea, section:not([hidden]):not(#side):not(#print)')].filter(one =>
-            !(one.getAttribute('aria-label') || one.getAttribute('aria-labelledby') || one.textContent.trim() || one.labels?.length)).map(one => one.id || one.outerHTML)""")
-        self.assertEqual(nameless, [])
-        self.assertEqual(self.value("[...document.querySelectorAll('main svg')].filter(one => one.getAttribute('role') !== 'img' || !one.getAttribute('aria-label')).length"), 0)
+        self.assertEqual((self.value("look.nameless()"), self.value("look.drawingsWithoutName()")), ([], 0))
 
 
 class Editing(Page):
@@ -210,17 +216,15 @@ class Editing(Page):
         self.at_step(2)
 
     def test_a_refused_line_is_marked_at_its_word(self):
-        for line, reason, word in (("cons 2 nowhere 0 1", "no area", "nowhere"), ("conz 2 work 0 1", "unknown command", "conz"), ("cons 2 work 0 99", "no register", "99"),
-                                   ("cons 2 work 0", "wrong count", ""), ("cons 2 work  0 1", "bad line", "  ")):
+        for line, reason, word in REFUSED:
             self.open("#session=lesson/1")
             at = self.line_of("cons 2 work 0 1")
             self.type_at(at, line)
             self.until("!document.getElementById('refusal').hidden", reason)
             self.assertIn(f"Line {at + 1} is refused: {reason}", self.shown("refusal"))
-            letter = self.value("parseFloat(getComputedStyle(document.getElementById('editor')).getPropertyValue('--letter'))")
-            mark = self.value("(() => { const mark = document.querySelector('.mark.refused').getBoundingClientRect(), paper = document.getElementById('paper').getBoundingClientRect(); return [mark.left - paper.left - 6, mark.width]; })()")
-            self.assertAlmostEqual(mark[0] / letter, line.index(word) if word else len(line), delta=0.3, msg=line)
-            self.assertAlmostEqual(mark[1] / letter, max(1, len(word)), delta=0.3, msg=line)
+            begin, width = self.value("look.refused()")
+            self.assertAlmostEqual(begin, line.index(word) if word else len(line), delta=0.3, msg=line)
+            self.assertAlmostEqual(width, max(1, len(word)), delta=0.3, msg=line)
 
     def test_a_refused_line_keeps_the_steps_before_it(self):
         self.open("#session=lesson/1")
@@ -232,28 +236,21 @@ class Editing(Page):
         commands = "".join(f"set {at % 8} {at}\ncons {(at + 1) % 8} work {at % 8} {(at + 2) % 8}\n" for at in range(30))
         text = f"lispm-world 1\nspace 16 32 8 1 2\narea work dynamic 400\ntrace\n{commands}end\n"
         self.open("#text=" + text.replace("\n", "%0A").replace(" ", "+"))
-        times = []
-        for number in range(5):
-            times.append(self.browser.call("Runtime.evaluate", awaitPromise=True, returnByValue=True, expression=f"""new Promise(resolve => {{
-                const area = document.getElementById('text'), before = {DRAWN}, from = performance.now();
-                area.value = area.value.replace(/set 5 [0-9]+/, 'set 5 {number + 100}'); area.setSelectionRange(area.value.indexOf('end'), area.value.indexOf('end')); area.dispatchEvent(new Event('input'));
-                const look = () => {DRAWN} === before ? setTimeout(look, 1) : resolve(performance.now() - from); look(); }})""")["result"]["value"])
+        given = {"awaitPromise": True, "returnByValue": True}
+        times = [self.browser.call("Runtime.evaluate", expression=f"look.keystroke({number})", **given)["result"]["value"] for number in range(100, 105)]
         self.assertLess(min(times), 100, times)
-
-    def test_a_long_session_can_be_stopped(self):
-        commands = "set 0 1\\n"
-        self.open("#session=lesson/1")
-        self.value(f"""(() => {{ const area = document.getElementById('text'); area.value = 'lispm-world 1\\nspace 16 32 8 1 2\\narea work dynamic 400\\ntrace\\n' + '{commands}'.repeat(100000) + 'end\\n';
-            area.dispatchEvent(new Event('input')); }})()""")
-        self.until("!document.getElementById('stop').hidden", "the button that stops")
-        self.click("stop")
-        self.until("document.getElementById('progress').textContent.startsWith('stopped after') || document.getElementById('place').textContent.endsWith('of 100000')", "it is stopped")
 
     def test_a_long_session_is_answered(self):
         self.open("#session=lesson/1")
-        self.value("""(() => { const area = document.getElementById('text'); area.value = 'lispm-world 1\\nspace 16 32 8 1 2\\narea work dynamic 400\\ntrace\\n' + 'set 0 1\\n'.repeat(100000) + 'end\\n';
-            area.setSelectionRange(0, 0); area.dispatchEvent(new Event('input')); })()""")
+        self.value(f"look.edit({START!r} + 'set 0 1\\n'.repeat(100000) + 'end\\n')")
         self.until("document.getElementById('place').textContent.endsWith('of 100000')", "100,000 replies")
+
+    def test_a_long_session_can_be_stopped(self):
+        self.open("#session=lesson/1")
+        self.value(f"look.edit({START!r} + 'set 0 1\\n'.repeat(300000) + 'end\\n')")
+        self.until("!document.getElementById('stop').hidden", "the button that stops")
+        self.click("stop")
+        self.until("document.getElementById('progress').textContent.startsWith('stopped after')", "it is stopped")
 
 
 class Lessons(Page):
@@ -262,12 +259,8 @@ class Lessons(Page):
             return file.read()
 
     def answer(self, task: int, text: str) -> str:
-        self.value(f"(() => {{ const area = document.getElementById('answer-{task}'); area.value = {text!r}; area.closest('section').querySelector('button').click(); }})()")
-        verdict = f"document.querySelectorAll('.task')[{task - 1}].querySelector('.verdict')"
-        self.until(f"{verdict} !== null", "a verdict")
-        found = self.value(f"{verdict}.textContent")
-        self.value(f"document.querySelectorAll('.task')[{task - 1}].querySelector('.result').replaceChildren()")
-        return found
+        self.value(f"look.answer({task}, {text!r})")
+        return self.until(f"look.verdict({task})", "a verdict")
 
     def test_exercises_are_judged(self):
         for number in range(1, 15):
@@ -288,7 +281,7 @@ class Lessons(Page):
         self.until("document.querySelector('#asked input') !== null", "a question")
         self.assertEqual((self.shown("reply"), self.shown("command")), ("", "flip full"))
         self.assertNotIn("flipped", self.value(REPLIES))
-        self.value("(() => { const field = document.querySelector('#asked input'); field.value = 'flipped 0'; field.form.requestSubmit(); })()")
+        self.value("look.ask('flipped 0')")
         self.until("document.getElementById('score').textContent.startsWith('right')", "a right answer")
         self.assertEqual(self.shown("reply"), "flipped 0")
 
@@ -305,7 +298,8 @@ class Files(Page):
         self.click("svg")
         svg = self.saved("svg").decode()
         self.assertTrue(svg.startswith("<svg "))
-        self.assertEqual(sorted((arrow.holders[0], arrow.target) for arrow in drawing.read(svg).arrows if arrow.holders)[:3], [("2", 4096), ("r1", 4096), ("r1", 4096)])
+        arrows = sorted((arrow.holders[0], arrow.target) for arrow in drawing.read(svg).arrows)
+        self.assertEqual(arrows, [("2", 4096), ("r1", 4096), ("r1", 4096)])
         self.assertNotIn("var(", svg)
         self.click("png")
         self.assertTrue(self.saved("png").startswith(b"\x89PNG"))
@@ -334,7 +328,6 @@ class Files(Page):
         self.until("window.printed", "the print")
         steps = len(parsed(path_of("collection")).commands) + 1
         self.assertEqual(self.value("document.querySelectorAll('#print .sheet').length"), steps)
-        import base64
         pdf = base64.b64decode(self.browser.call("Page.printToPDF", printBackground=True, preferCSSPageSize=True)["data"])
         self.assertEqual(len(re.findall(rb"/Type\s*/Page\b", pdf)), steps)
 
@@ -344,7 +337,7 @@ class Files(Page):
         self.assertEqual(set(re.findall(r"https?://[^\"'`\s]+", page)) - {"http://www.w3.org/2000/svg"}, set())
         self.assertLess(len(page), 2_500_000)
         self.open()
-        self.assertEqual(self.value("performance.getEntriesByType('resource').filter(one => !/^(blob|data):/.test(one.name)).map(one => one.name)"), [])
+        self.assertEqual(self.value("look.fetched()"), [])
 
 
 class Sizes(Page):
@@ -359,19 +352,17 @@ class Sizes(Page):
 
     def test_letters_of_a_narrow_window_can_be_read(self):
         self.open("#session=lesson/7&step=6", 320, 640)
-        scale = self.value("(() => { const svg = document.querySelector('#regions svg'); return svg.getBoundingClientRect().width / svg.viewBox.baseVal.width; })()")
-        self.assertGreater(scale * 12, 8)
-        self.assertLessEqual(self.value("document.getElementById('regions').scrollWidth - document.getElementById('regions').clientWidth"), 1)
+        self.assertGreater(self.value("look.letters()"), 8)
+        self.assertLessEqual(self.value("look.sideways()"), 1)
 
     def test_the_lecture_view_fills_its_window(self):
         for width, height in ((1280, 720), (853, 480), (3840, 2160), (1024, 768)):
             self.open("#session=lesson/7&step=6&view=lecture", width, height)
-            box = self.value("(() => { const box = document.querySelector('main').getBoundingClientRect(); return [box.width, box.height]; })()")
+            box = self.value("look.main()")
             self.assertGreater(max(box[0] / width, box[1] / height), 0.98)
             self.assertAlmostEqual(box[0] / box[1], 16 / 9, delta=0.02)
-            self.assertEqual(self.value("[document.documentElement.scrollWidth, document.documentElement.scrollHeight]"), [width, height])
-            letters = self.value("(() => { const svg = document.querySelector('#regions svg'), box = svg.viewBox.baseVal; const font = parseFloat(document.getElementById('letters').textContent.match(/font:([0-9.]+)px/)[1]); return font * Math.min(svg.clientWidth / box.width, svg.clientHeight / box.height); })()")
-            self.assertGreater(letters / box[1], 0.016)
+            self.assertEqual(self.value("look.page()"), [width, height])
+            self.assertGreater(self.value("look.letters()") / box[1], 0.016)
 
     def test_nothing_jumps_from_step_to_step(self):
         for view in ("", "&view=lecture"):
@@ -381,8 +372,7 @@ class Sizes(Page):
             places = set()
             for step in range(8):
                 self.at_step(step)
-                places.add(tuple(self.value("""(() => { const svg = document.querySelector('#regions svg').getBoundingClientRect(), box = document.querySelector('#regions [data-region="0"] rect').getBoundingClientRect();
-                    return [svg.width, svg.height, box.left - svg.left, box.top - svg.top].map(Math.round); })()""")) if step > 1 else ("", ))
+                places.add(tuple(self.value("look.place()")) if step > 1 else ())
                 self.press("PageDown")
             self.assertEqual(len(places), 2, places)
 
@@ -421,11 +411,8 @@ class LargeLetters(Page):
         for width in (320, 1280):
             self.open("#session=lesson/7&step=6", width, 900)
             self.assertLessEqual(self.value("document.documentElement.scrollWidth"), width)
-            overlaps = self.value("""(() => { const lines = parseFloat(getComputedStyle(document.getElementById('editor')).getPropertyValue('--line')); return lines; })()""")
-            self.assertGreaterEqual(overlaps, 24)
-            wide = self.value("""[...document.querySelectorAll('#regions .word, #regions .register')].filter(cell => { const box = cell.querySelector('rect').getBoundingClientRect();
-                return [...cell.querySelectorAll('text')].some(one => { const text = one.getBoundingClientRect(); return text.left < box.left - 2 || text.right > box.right + 2; }); }).length""")
-            self.assertEqual(wide, 0)
+            self.assertGreaterEqual(self.value("look.line()"), 24)
+            self.assertEqual(self.value("look.tooNarrow()"), 0)
 
 
 @unittest.skipUnless(CHROMIUM and has_page, "Chromium or web/lispm.html isn't there")

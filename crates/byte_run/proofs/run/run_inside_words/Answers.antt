@@ -1,0 +1,9 @@
+use Rattle.std.proofs.Common.{◌-◌}
+use Rattle.inside_run.specs.Outcome.{fail_of}
+use Rattle.byte_run.proofs.Modes.{shows_of}
+use Rattle.byte_run.proofs.run.run_inside_words.Goals as goal
+
+pub returns : goal.returns
+returns c =
+    let e = c.run_inside.ensures in
+    shows_of (fail_of c.args.words.now) c.run_inside.new.machine (c.run_inside.new.machine.faults - c.idle-machine.result.faults) c.run_inside.result c.requires e.ran e.usage
