@@ -10,6 +10,7 @@ Replies = List[List[str]]
 PHASES = ("busy", "more", "done", "not-flipped", "not-done", "reclaimed", "flipped 0", "flipped 1")
 NEAR = (-3, -2, -1, 1, 2, 3, 4, 6)
 MOST_CHANGED = 10           # replies of one run
+WEIGHTS = (("stray", 25), ("stats", 12), ("set", 10), ("grow", 6), ("eq", 0), ("size", 0), ("get", 1), ("put", 4), ("part", 4))
 
 
 def changed_at(line: str, place: int, by: int) -> str:
@@ -44,7 +45,7 @@ def changes(answer: Answer, world: verdict.World) -> Replies:
 def of_short_input(number: int) -> Iterator[Tuple[bytes, Replies]]:
     """A run of a short input, then runs with one reply changed."""
     draw = random.Random(number)
-    data = drawing.drawn(number, drawing.What(count=draw.choice((20, 30, 36)), every=12))
+    data = drawing.drawn(number, drawing.What(count=draw.choice((20, 30, 40)), every=0, weights=WEIGHTS))
     answers = split(session.parse(data), free_run.output(data, number)).answers
     replies = [answer.lines for answer in answers]
     yield data, replies

@@ -57,7 +57,7 @@ class Drawn(unittest.TestCase):
             self.assertEqual(len(lines) - lines.index(b"trace") - 3, drawing.COUNT)
 
     def test_weights(self):
-        with with_files(b"# but for lists\nlist 0   # none\n\nsize 40\n") as (path,):
+        with with_files(b"# no lists\nlist 0   # none\n\nsize 40\n") as (path,):
             ended = run_tool("draw", "--number", "2", "--weights", path)
         trace = ended.output.split("\ntrace\n")[1].split("\n")
         counts = Counter(line.split(" ")[0] for line in trace)

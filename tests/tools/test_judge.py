@@ -4,6 +4,7 @@ import json
 import os
 import random
 import unittest
+from unittest import mock
 
 import exact
 import free_run
@@ -181,14 +182,18 @@ class ByBruteForce(unittest.TestCase):
         self.check_all(range(1, 40), True)
 
     def test_bounds_refuse_nothing_that_is_right(self):
-        most, explaining.MOST_HYPOTHESES = explaining.MOST_HYPOTHESES, 0
-        try:
+        with mock.patch.object(explaining, "MOST_HYPOTHESES", 0):
             self.check_all(range(40, 70), False)
-        finally:
-            explaining.MOST_HYPOTHESES = most
 
 
 class InBounds(unittest.TestCase):
+    def test_drawn_runs_are_right(self):
+        """With bounds wherever there is more than one hypothesis. Some of these runs go into bounds in a full flip."""
+        with mock.patch.object(explaining, "MOST_HYPOTHESES", 0):
+            for number in (10, 16, 64, 121, *range(200, 220)):
+                data = drawing.drawn(number, drawing.What())
+                self.assertIsNone(judge(data, free_run.output(data, number), 0).first, number)
+
     def test_wrong_phases_are_told(self):
         for mutant in itertools.islice(wrong_phases.mutants(400, 24), FORTY):
             self.assertTrue(wrong_phases.is_told(mutant), mutant)

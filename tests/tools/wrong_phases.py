@@ -115,7 +115,7 @@ def main() -> int:
     words.add_argument("--from", type=int, default=1, dest="first")
     given = words.parse_args()
     told = sum(is_told(mutant) for mutant, _ in zip(mutants(given.count, given.first), range(given.mutants)))
-    print(f"{given.count} commands, {given.mutants} wrong replies where there are only bounds: {told} told")
+    print(f"{given.count} commands, {given.mutants} wrong replies where there are only bounds: {told} refused")
     return 0 if 100 * told >= 99 * given.mutants else 1
 
 

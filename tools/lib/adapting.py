@@ -47,11 +47,11 @@ class Heap:
         return 0
 
     def scan(self, units: int, is_last: bool) -> bool:
-        """Does so much work of a collection, all of it if this is the last; answers whether it is over."""
+        """Does this much work of a collection, all of it if this is the last; answers whether it is finished."""
         return True
 
     def reclaim(self) -> None:
-        """A collection that is over ends."""
+        """A collection that is finished ends."""
 
     def charged(self, area: int) -> int:
         """For the grade space: the words that an area is charged."""

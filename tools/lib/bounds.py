@@ -2,14 +2,14 @@
 
 Of each name it is kept at which levels it may be held, and whether it may be gone; of each account, each level's total,
 the work owed and the work paid, the least and the greatest; and whether a collection runs, of which levels, and whether
-it is over. So no right reply is refused; and once the replies have told enough, bounds are a hypothesis again.
+it is over. So no right reply is refused; and once the replies have said enough, bounds become a hypothesis again.
 """
-from typing import Callable, Dict, FrozenSet, Iterator, List, Optional, Set, Tuple
+from typing import Any, Callable, Dict, FrozenSet, Iterator, List, Optional, Set, Tuple
 
 from . import collecting, sums
 from .groups import BUSY, FLIPPED, NOT_FLIPPED, Collection, Group, replies_in
 from .hypothesis import Hypothesis
-from .known import Class, Known
+from .known import ANYWHERE, Class, Known
 from .verdict import Command
 
 GONE = 128                      # a name may be held no more; the bits below are levels
@@ -108,7 +108,7 @@ class Bounds:
         return True
 
     def grew(self, area: int, charge: int, name: int, fields: int) -> bool:
-        """A block of so many fields grew; at which level its husk is may be unknown."""
+        """A block with this number of fields grew; the level of its husk may be unknown."""
         if not self.charge(area, charge):
             return False
         husk, (least, most) = fields + 1, self.husks
@@ -201,7 +201,7 @@ class Bounds:
         objects = known.objects
         may = frozenset(name for name, mask in masks.items() if mask & bits[objects[name].area])
         must = frozenset(name for name in may if not masks[name] & ~(bits[objects[name].area] | GONE))
-        run = LooseCollection(what, may, must, known.led_to([masks.keys() - must], may)[0])
+        run = LooseCollection(what, may, must, known.led_to([(ANYWHERE, masks.keys() - must)], may)[0])
         sure = sum(objects[name].charge for name in must if not masks[name] & GONE)
         unsure = min(sum(objects[name].charge for name in may),
                      sum(high for high, is_static in zip(self.high, known.statics) if not is_static))
@@ -223,57 +223,59 @@ class Bounds:
 
     def reclaim(self) -> None:
         known, run, masks = self.known, self.collection, self.all_masks()
-        sure = {name for name, mask in masks.items() if not mask & GONE and name not in run.may}
-        needed = known.led_to([sure], run.may)[0]
-        after = dict(masks)
-        for name in run.may:
-            mask = self.mask_after(name, masks[name], needed)
-            if mask in (0, GONE):
-                del after[name]
-            else:
-                after[name] = mask
-        self.settle_accounts(masks, after)
-        self.masks, self.collection = after, None
-        self.count_totals()
+        sure = {name for name, mask in masks.items() if mask < GONE and name not in run.may}
+        needed = known.led_to([(ANYWHERE, sure)], run.may)[0]
+        after, found, bits = dict(masks), {}, self.doomed_bits(run.what)
+        charges: Dict[Tuple[int, int, int], int] = {}           # by area, and by the mask before and after
+        for name, mask in masks.items():
+            one, new = known.objects[name], mask
+            if name in run.may:
+                case = mask, bits[one.area], name in run.must, name in needed, name in run.bound
+                if case not in found:
+                    found[case] = self.mask_after(*case)
+                new = after[name] = found[case]
+            charges[one.area, mask, new] = charges.get((one.area, mask, new), 0) + one.charge
+        self.masks = {name: mask for name, mask in after.items() if mask != GONE}
+        self.settle_accounts(charges)
+        self.count_totals(charges)
+        self.collection = None
 
-    def mask_after(self, name: int, mask: int, needed: FrozenSet[int]) -> int:
-        """Where a name that may be condemned may be after the reclaim."""
+    def mask_after(self, mask: int, bits: int, is_doomed: bool, is_needed: bool, is_bound: bool) -> int:
+        """Where a name may be after the reclaim that may be condemned at the levels of these bits, and is if it is doomed
+        and held."""
         run, known = self.collection, self.known
-        bits = self.doomed_bits(run.what)[known.objects[name].area]
-        stays = mask if name not in run.must else mask & ~bits
+        stays = mask & ~bits if is_doomed else mask
         moved = 0
         for level in range(7):
             if mask & bits & 1 << level:
                 moved |= 1 << known.survivor_level(run.what, level)
-        if name in needed:
+        if is_needed:
             return (stays | moved) & ~GONE
-        return (stays | moved | GONE) if name in run.bound else stays | GONE
+        return (stays | moved | GONE) if is_bound else stays | GONE
 
-    def settle_accounts(self, before: Masks, after: Masks) -> None:
+    def settle_accounts(self, charges: Dict[Tuple[int, int, int], int]) -> None:
         """A reclaim frees what is in no mask any more for certain, and perhaps what may be gone."""
-        known, run = self.known, self.collection
-        freed, at_most, least, most = ([0] * len(known.areas) for _ in range(4))
-        for name, old in before.items():
-            one, new = known.objects[name], after.get(name, GONE)
+        run, areas = self.collection, range(len(self.known.areas))
+        freed, at_most, least, most = ([0 for _ in areas] for _ in range(4))
+        for (area, old, new), charge in charges.items():
             if new & GONE:
-                at_most[one.area] += one.charge
-                freed[one.area] += one.charge * (new == GONE and not old & GONE)
+                at_most[area] += charge
+                freed[area] += charge * (new == GONE and not old & GONE)
             else:
-                least[one.area] += one.charge
-            most[one.area] += one.charge * (new != GONE)
+                least[area] += charge
+            most[area] += charge * (new != GONE)
         for side, totals in zip(self.husks, (least, most)):
             for (area, _), words in side.items():
                 totals[area] += words
-        for area in range(len(known.areas)):
+        for area in areas:
             self.low[area] = max(least[area], self.low[area] - at_most[area] - run.gone[1].get(area, 0))
             self.high[area] = min(most[area], self.high[area] - freed[area] - run.gone[0].get(area, 0))
 
-    def count_totals(self) -> None:
+    def count_totals(self, charges: Dict[Tuple[int, int, int], int]) -> None:
         """The totals of the levels by what the masks and the husks say."""
         self.least, self.most = ([0] * len(self.least) for _ in range(2))
-        for name, mask in self.masks.items():
-            charge = self.known.objects[name].charge
-            if not mask & (mask - 1):
+        for (_, _, mask), charge in charges.items():
+            if not mask & (mask - 1) and mask != GONE:
                 self.least[mask.bit_length() - 1] += charge
             for level in range(len(self.most)):
                 if mask >> level & 1:
@@ -283,6 +285,9 @@ class Bounds:
                 totals[level] += words
 
     # --------------------------------------------------------- silent steps
+
+    def is_quiet(self) -> bool:
+        return self.collection is not None and self.collection.over is False
 
     def reclaimed_if_over(self) -> List["Bounds"]:
         run = self.collection
@@ -335,20 +340,32 @@ def of(hypothesis: Hypothesis) -> Bounds:
     for group in hypothesis.groups:
         bounds.least[group.level] += sums.least(group.sums)
         bounds.most[group.level] += sums.greatest(group.sums)
-    most = dict(hypothesis.husks)
-    for group in hypothesis.groups:
-        if not group.names:
-            most[group.area, group.level] = most.get((group.area, group.level), 0) + sums.greatest(group.sums)
-    bounds.husks = dict(hypothesis.husks), most
-    bounds.collection = run and loose(hypothesis, run)
+    spared = [group for group in hypothesis.groups if run is None or not hypothesis.is_condemned(group)]
+    bounds.husks = with_charges(hypothesis.husks, spared, class_of)
+    bounds.collection = loose(hypothesis, run) if run is not None else None
     return bounds
+
+
+def class_of(group: Group) -> Class:
+    return group.area, group.level
+
+
+def with_charges(words: Dict[Any, int], groups: List[Group], key: Callable[[Group], Any]
+                 ) -> Tuple[Dict[Any, int], Dict[Any, int]]:
+    """The words by area and level, or by area, at least and at most with the charges of groups without names."""
+    least, most = dict(words), dict(words)
+    for group in groups:
+        if not group.names:
+            least[key(group)] = least.get(key(group), 0) + sums.least(group.sums)
+            most[key(group)] = most.get(key(group), 0) + sums.greatest(group.sums)
+    return least, most
 
 
 def loose(hypothesis: Hypothesis, run: Collection) -> LooseCollection:
     doomed = [group for group in hypothesis.groups if hypothesis.is_condemned(group)]
     condemned = frozenset().union(*run.classes.values(), *(group.names for group in doomed))
     found = LooseCollection(run.what, condemned, condemned, run.bound)
-    found.gone = run.gone, run.gone
+    found.gone = with_charges(run.gone, doomed, lambda group: group.area)
     least = sum(sums.least(group.sums) for group in doomed)
     found.owed, found.paid = (run.owed + least, hypothesis.most_owed()), (run.paid, run.paid)
     found.over = run.over
@@ -359,7 +376,7 @@ def joined(one: Bounds, other: Bounds) -> Bounds:
     """The bounds of both, which are in the same phase."""
     found = one.copy()
     ours, theirs = found.all_masks(), other.all_masks()
-    if ours is not theirs:
+    if ours is not theirs and ours != theirs:
         found.masks = {name: ours.get(name, GONE) | theirs.get(name, GONE) for name in ours.keys() | theirs.keys()}
     found.low, found.least = list(map(min, one.low, other.low)), list(map(min, one.least, other.least))
     found.high, found.most = list(map(max, one.high, other.high)), list(map(max, one.most, other.most))
@@ -382,7 +399,7 @@ def both(one: Tuple[dict, dict], other: Tuple[dict, dict]) -> Tuple[dict, dict]:
 
 
 def exact(bounds: Bounds) -> Optional[Hypothesis]:
-    """The hypothesis that these bounds are, if they tell enough: while a collection of everything runs, since then no
+    """The hypothesis that these bounds are, if they know enough: while a collection of everything runs, since then no
     level matters any more; and while none runs, if each name is at one level."""
     run = bounds.collection
     if run is not None:

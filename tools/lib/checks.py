@@ -1,9 +1,9 @@
 """Whether a reply is one that some run gives, for each kind of command.
 
 A check keeps the hypotheses on the run's free choices that explain the reply. If none does, it raises
-judged_lines.Wrong. What is told as wrong is wrong. What is accepted is a run, but for relaxations that are noted in
+judged_lines.Wrong. A reply that is refused is wrong. What is accepted is a run, up to the relaxations that are noted in
 `Known.relaxed`: `sums` (the charges of what a reclaim may have kept are followed area by area and level by level) and
-`bounds` (the hypotheses are so many that only bounds are kept, until replies tell enough).
+`bounds` (the hypotheses are too many, so only bounds are kept, until replies say enough).
 """
 from typing import Callable, Dict, List, Optional, Tuple
 

@@ -39,11 +39,12 @@ def flip(hypothesis: "Hypothesis", what: object, pages: int) -> None:
 def bound_by(hypothesis: "Hypothesis", what: object, condemned: FrozenSet[int]) -> Tuple[FrozenSet[int], Garbage, bool]:
     """The condemned names to which registers and what isn't condemned lead; what is held perhaps is taken to be held.
     And the garbage that isn't condemned, and whether what is held perhaps led to nothing more."""
-    known = hypothesis.known
-    spared = [group for group in hypothesis.groups if not known.is_condemned(group.area, group.level, what)]
-    doomed = [group for group in hypothesis.groups if group not in spared]
-    within = condemned | names_of(doomed) if doomed else condemned
-    bound, garbage = known.led_to(hypothesis.held.values(), within)
+    known, groups = hypothesis.known, hypothesis.groups
+    if not groups:
+        return (*known.led_to(hypothesis.held.items(), condemned), True)
+    spared = [group for group in groups if not known.is_condemned(group.area, group.level, what)]
+    within = condemned | names_of(group for group in groups if group not in spared)
+    bound, garbage = known.led_to(hypothesis.held.items(), within)
     more = known.garbage_leads_to(names_of(spared), within - bound) if spared else NONE
     return bound | more, garbage, not more
 
@@ -51,6 +52,8 @@ def bound_by(hypothesis: "Hypothesis", what: object, condemned: FrozenSet[int]) 
 def husks_gone(hypothesis: "Hypothesis", what: object) -> Dict[int, int]:
     """The words of the husks that are condemned, by area; the hypothesis keeps the others."""
     gone: Dict[int, int] = {}
+    if not hypothesis.husks:
+        return gone
     left: Dict[Class, int] = {}
     for (area, level), words in hypothesis.husks.items():
         if hypothesis.known.is_condemned(area, level, what):
@@ -66,12 +69,14 @@ def husks_gone(hypothesis: "Hypothesis", what: object) -> Dict[int, int]:
 
 def reclaim(hypothesis: "Hypothesis") -> None:
     """A collection ends. What is condemned and led to is kept; of the rest that is bound, a closed part may be."""
-    known, run, held = hypothesis.known, hypothesis.collection, hypothesis.held
-    new = frozenset(range(hypothesis.since, len(known.objects)))
-    needed = known.led_to([new, *held.values()], run.bound, run.garbage)[0] if run.bound else NONE
-    unneeded = run.bound - needed if run.bound else NONE
+    known, run = hypothesis.known, hypothesis.collection
     may: Classes = {}
-    hypothesis.held = dict(held)
+    needed = unneeded = NONE
+    if run.bound:
+        sources = [*known.made_since(hypothesis.since).items(), *hypothesis.held.items()]
+        needed = known.led_to(sources, run.bound, run.garbage)[0]
+        unneeded = run.bound - needed
+    hypothesis.held = dict(hypothesis.held)
     for key, names in run.classes.items():
         settle_class(hypothesis, key, names, needed, may, unneeded)
     for area, words in run.gone.items():
@@ -85,24 +90,27 @@ def reclaim(hypothesis: "Hypothesis") -> None:
         add_groups(hypothesis, may, run.is_exact and not names_of(doomed) & unneeded)
 
 
-def settle_class(hypothesis: "Hypothesis", key: Class, names: FrozenSet[int], needed: FrozenSet[int], may: Classes, unneeded: FrozenSet[int]) -> None:
+def settle_class(hypothesis: "Hypothesis", key: Class, names: FrozenSet[int], needed: FrozenSet[int], may: Classes,
+                 unneeded: FrozenSet[int]) -> None:
     """Of a condemned class what is needed stays, and what is bound without need may."""
     known, (area, level) = hypothesis.known, key
-    after = known.survivor_level(hypothesis.collection.what, level)
+    after = area, known.survivor_level(hypothesis.collection.what, level)
     stays = names & needed
-    left, kept = charges(known, names), charges(known, stays)
-    hypothesis.accounts[area] += kept - left
-    hypothesis.totals[level] -= left
-    hypothesis.totals[after] += kept
+    kept, freed = charges(known, stays), charges(known, names - stays)
+    hypothesis.accounts[area] -= freed
+    hypothesis.totals[level] -= kept + freed
+    hypothesis.totals[after[1]] += kept
     if stays:
-        hypothesis.held[area, after] = hypothesis.held.get((area, after), NONE) | stays
-    unsure = names & unneeded
-    if unsure:
-        may[area, after] = may.get((area, after), NONE) | unsure
+        hypothesis.held[after] = hypothesis.held.get(after, NONE) | stays
+    if unneeded:
+        unsure = names & unneeded
+        if unsure:
+            may[after] = may.get(after, NONE) | unsure
 
 
-def settle_doomed(hypothesis: "Hypothesis", what: object, groups: List[Group], needed: FrozenSet[int], may: Classes, unneeded: FrozenSet[int]) -> None:
-    """Condemned groups go, but for what is bound."""
+def settle_doomed(hypothesis: "Hypothesis", what: object, groups: List[Group], needed: FrozenSet[int], may: Classes,
+                  unneeded: FrozenSet[int]) -> None:
+    """Condemned groups go, except what is bound."""
     known = hypothesis.known
     for group in groups:
         key = group.area, known.survivor_level(what, group.level)
@@ -145,7 +153,7 @@ def sums_by_class(known: Known, may: Classes) -> Tuple[Dict[Class, int], bool]:
 
 
 def settle_groups(hypothesis: "Hypothesis", groups: List[Group]) -> None:
-    """The hypothesis takes these groups, but for those of which all or nothing is held."""
+    """The hypothesis takes these groups, except those of which all or nothing is held."""
     rest, run = [], hypothesis.collection
     for group in groups:
         full = charges(hypothesis.known, group.names)

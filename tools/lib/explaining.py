@@ -8,15 +8,19 @@ from .bounds import Bounds
 from .hypothesis import Hypothesis
 from .known import Known
 
-MOST_HYPOTHESES = 50
+MOST_HYPOTHESES = 32
 Explanation = Union[Hypothesis, Bounds]
 
 
 def after_silent_steps(known: Known, explanations: List[Explanation]) -> List[Explanation]:
     """The explanations after the silent steps before an allocation: a reclaim if a collection is over, then a flip of
     the full levels if none runs."""
-    found = few(known, [after for one in explanations for after in one.reclaimed_if_over()])
-    return few(known, [after for one in found for after in one.flipped_if_full()])
+    quiet = [one for one in explanations if one.is_quiet()]
+    if len(quiet) == len(explanations):
+        return explanations
+    others = [one for one in explanations if one not in quiet] if quiet else explanations
+    found = few(known, [after for one in others for after in one.reclaimed_if_over()])
+    return few(known, quiet + [after for one in found for after in one.flipped_if_full()])
 
 
 def few(known: Known, explanations: List[Explanation]) -> List[Explanation]:
@@ -41,7 +45,7 @@ def unlike(hypotheses: List[Hypothesis]) -> List[Hypothesis]:
 
 
 def exact_again(known: Known, explanations: List[Explanation]) -> List[Explanation]:
-    """The explanations after a reply that told that a collection begins or ends. Bounds that know enough are hypotheses
+    """The explanations after a reply that showed that a collection begins or ends. Bounds that know enough are hypotheses
     again."""
     found = few(known, explanations)
     return [bounds.exact(one) or one if isinstance(one, Bounds) else one for one in found]

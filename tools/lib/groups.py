@@ -1,5 +1,5 @@
-"""What a hypothesis leaves open, and the collection that it thinks of. Copies share them, so but for the counts of a
-collection they are never changed."""
+"""What a hypothesis leaves open, and the collection that it assumes. Copies share them, so except the counts of a
+collection nothing in them changes."""
 from typing import Dict, FrozenSet, Optional
 
 from .known import NO_GARBAGE, Class, Garbage
@@ -29,7 +29,7 @@ def level_in(classes: Dict[Class, FrozenSet[int]], name: int, area: int) -> Opti
 
 class Group:
     """Names of one area and level of which an unknown closed part is held, and the sums that it can have: exactly
-    these, or these at most. A group without names stands for charges alone."""
+    these, or these at most. A group without names has charges alone."""
     __slots__ = ("area", "level", "names", "sums", "is_exact")
 
     def __init__(self, area: int, level: int, names: FrozenSet[int], sums_there: int, is_exact: bool):
@@ -44,11 +44,13 @@ class Group:
 
 class Collection:
     """A collection that runs: what was flipped, the condemned names by area and level, those that are bound, the words
-    of condemned husks by area, the work owed for what is certain, and paid, whether it is over (None if it may be
-    either), and the names that were held but not led to at the flip, and to which bound names these lead: that stays. It is exact if nothing is bound by what is held perhaps."""
+    of condemned husks by area, the work owed for what is certain, and paid, and whether it is over (None if it may be
+    either). `garbage` has the names that were held at the flip but not led to by a register, and the bound names to
+    which these lead. The collection is exact if nothing is bound only by what is perhaps held."""
     __slots__ = ("what", "classes", "bound", "gone", "owed", "paid", "over", "garbage", "is_exact")
 
-    def __init__(self, what: object, classes: Dict[Class, FrozenSet[int]], bound: FrozenSet[int], gone: Dict[int, int], owed: int):
+    def __init__(self, what: object, classes: Dict[Class, FrozenSet[int]], bound: FrozenSet[int], gone: Dict[int, int],
+                 owed: int):
         self.what, self.classes, self.bound, self.gone, self.owed = what, classes, bound, gone, owed
         self.paid = 0
         self.garbage: Garbage = NO_GARBAGE

@@ -64,6 +64,16 @@ class Hypothesis:
         for group in groups:
             self.unsure[group.area] += sums.greatest(group.sums)
 
+    def is_quiet(self) -> bool:
+        """No silent step precedes an allocation."""
+        if self.collection is not None or self.groups:
+            return self.collection is not None and self.collection.over is False
+        totals = self.totals
+        for level, capacity in self.known.capacities:
+            if totals[level] >= capacity:
+                return False
+        return True
+
     def reclaimed_if_over(self) -> List["Hypothesis"]:
         """The hypotheses after a reclaim if a collection is over; if it may be, one for each."""
         return collecting.reclaimed_if_over(self)
@@ -132,7 +142,7 @@ class Hypothesis:
         return True
 
     def grew(self, area: int, charge: int, name: int, fields: int) -> bool:
-        """A block of so many fields grew. It is charged anew, and its old words stay as a husk."""
+        """A block with this number of fields grew. Its new charge is wanted, and its old words stay as a husk."""
         if not self.account_is_at_most(area, self.known.quotas[area] - charge):
             return False
         husk, run = fields + 1, self.collection

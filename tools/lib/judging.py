@@ -6,7 +6,9 @@
 Many replies are fixed by the definitions (docs/MEANING.md), some are free: how many pages a flip finds to scan, when a
 collection is over, and what a reclaim keeps of what nothing leads to any more. The input has no comments.
 """
-from typing import Dict, List, NamedTuple, Optional
+import gc
+from contextlib import contextmanager
+from typing import Dict, Iterator, List, NamedTuple, Optional
 
 from . import answers, verdict
 from .checks import Run
@@ -50,6 +52,23 @@ class Judged(NamedTuple):
 def judge(data: bytes, output: bytes, status: int, reference: Optional[bytes] = None, faults: int = 0) -> Judged:
     """Judges the output and the status of a run of this input, in which so many faults may come. The reference is an
     output that is known to be right."""
+    with no_cycles():
+        return judged(data, output, status, reference, faults)
+
+
+@contextmanager
+def no_cycles() -> Iterator[None]:
+    """Without searches for cycles of objects, which a tenth of the time would go to. The judge makes none."""
+    was_on = gc.isenabled()
+    gc.disable()
+    try:
+        yield
+    finally:
+        if was_on:
+            gc.enable()
+
+
+def judged(data: bytes, output: bytes, status: int, reference: Optional[bytes], faults: int) -> Judged:
     found = verdict.judge(data)
     replies, ends = Replies(output), []
     run = Run(found.world, replies, faults) if found.world is not None else None

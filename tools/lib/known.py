@@ -7,6 +7,8 @@ from .values import Ref, World
 
 Class = Tuple[int, int]              # an area and a level
 Garbage = Tuple[AbstractSet[int], AbstractSet[int]]
+NONE: FrozenSet[int] = frozenset()
+ANYWHERE: Class = (-1, 0)            # names of any class
 NO_GARBAGE: Garbage = (frozenset(), frozenset())
 
 
@@ -25,9 +27,11 @@ class Known:
         self.new_levels = [int(area.kind == "ephemeral") for area in self.areas]
         self.capacities = [(level, most) for level, most in enumerate(self.space.capacity, 1) if most]
         self.sums_found: dict = {}                                       # what closed_parts answered at this command
-        self.made_found: Dict[int, Dict[Class, FrozenSet[int]]] = {}     # what made_since answered for so many objects
+        self.made_found: Dict[int, Dict[Class, FrozenSet[int]]] = {}     # what made_since answered for this number of objects
         self.made_until = -1
         self.references: Dict[int, List[int]] = {}                       # those of garbage
+        self.static_garbage: Set[int] = set()
+        self.static_references: Set[int] = set()
         self.live: Set[int] = set()                                      # what registers lead to, at the command `live_at`
         self.live_at = -1
 
@@ -50,23 +54,36 @@ class Known:
             self.live, self.live_at = closure(self.objects, names_in(self.graph.registers)), self.number
         return self.live
 
-    def led_to(self, sources: Iterable[AbstractSet[int]], within: FrozenSet[int], known: Garbage = NO_GARBAGE
+    def led_to(self, sources: Iterable[Tuple[Class, AbstractSet[int]]], within: FrozenSet[int], known: Garbage = NO_GARBAGE
                ) -> Tuple[FrozenSet[int], Garbage]:
         """The names of `within` to which registers and the sources lead, which have all that is held but isn't in it.
         And the sources to which no register leads, with what they lead to; some of that may be known."""
         live, (old, led) = self.reached(), known
-        garbage: AbstractSet[int] = set().union(*[names - live for names in sources])
-        if len(garbage) > len(old):
-            led = led | self.garbage_leads_to(garbage - old, within - live)
+        garbage: Set[int] = set()
+        for (area, _), names in sources:
+            if area >= 0 and self.statics[area]:
+                self.add_static_garbage(names - live)
+            else:
+                garbage |= names - live
+        led = led | self.garbage_leads_to(garbage - old, within - live - led, self.static_references)
         return within & live | led, (garbage, led)
 
-    def garbage_leads_to(self, garbage: AbstractSet[int], within: AbstractSet[int]) -> Set[int]:
-        """The names of `within` to which the garbage leads. No register leads to these names."""
+    def add_static_garbage(self, names: AbstractSet[int]) -> None:
+        """Garbage of static areas stays for ever, and so does what it refers to."""
+        new = names - self.static_garbage
+        if new:
+            self.static_garbage |= new
+            self.static_references |= self.garbage_refers_to(new)
+
+    def garbage_leads_to(self, garbage: AbstractSet[int], within: AbstractSet[int], also: AbstractSet[int] = NONE) -> Set[int]:
+        """The names of `within` to which the garbage leads, or what it refers to also. No register leads to them."""
         found: Set[int] = set()
-        front: AbstractSet[int] = garbage if within else found
+        if not within:
+            return found
+        front = (self.garbage_refers_to(garbage) | also) & within
         while front:
-            front = (self.garbage_refers_to(front) & within) - found
             found |= front
+            front = (self.garbage_refers_to(front) & within) - found
         return found
 
     def garbage_refers_to(self, names: AbstractSet[int]) -> Set[int]:

@@ -216,7 +216,7 @@ class LargeTrace(Trace):
         return self.row(*(f"set {register} nil" for register in self.old(self.draw.choice((2, 8, 30)))))
 
     def fill(self) -> str:
-        """Garbage, so that a runtime's own collections come."""
+        """Garbage, so that a runtime's own collections run."""
         register = self.put_in("cons")
         conses = [f"cons {register} {self.area(2)} {self.any()} {self.any()}" for _ in range(self.draw.choice((100, 400, 700)))]
         return self.row(*conses)

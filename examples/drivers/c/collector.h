@@ -7,7 +7,7 @@
 /* The read barrier: if the word refers to an old object, the object moves; the word then has its new address. */
 void settle(address at);
 
-/* Moves an object; what stands after it in a list of cells moves with it. */
+/* Moves an object; the cells that follow it in a list move with it. */
 address copy_object(address from);
 
 #endif

@@ -8,7 +8,7 @@
 enum { WRITER = 0x80 };                         /* in `remembered` of an object's first word: it is in `writers` */
 
 static struct slots writers;                    /* objects outside that may refer to young ones */
-static struct slots copies;                     /* where what moved out stands, and how many words it has */
+static struct slots copies;                     /* where each object that moved out is, and its number of words */
 static bool is_full;
 
 static uint32_t nursery_of(uint32_t area)
@@ -76,7 +76,7 @@ static void scan_words(address at, uint32_t count)
         }
 }
 
-/* An object that was laid anew since has a forward, and its new place is a writer of its own. */
+/* An object that was relocated since has a forward, and its new place is a writer of its own. */
 static void scan_writer(address object)
 {
     memory[object].remembered &= (uint8_t)~WRITER;

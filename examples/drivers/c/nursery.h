@@ -1,5 +1,6 @@
-/* A nursery: with NURSERY_WORDS above 0, new objects stand in so many words of their area's own, and those that are still
-   reached when they are full move out, to where they would stand without it.  No command sees these minor collections. */
+/* A nursery: with NURSERY_WORDS above 0, new objects are placed in that many words of their area's own.  When these
+   are full, the objects that are still reached move out, to where they would be without a nursery.  No command sees these
+   minor collections. */
 #ifndef NURSERY_H
 #define NURSERY_H
 

@@ -16,10 +16,10 @@ import java.util.function.BooleanSupplier;
 
 /** A driver over Java's own objects and its own collector. Grade: identity (docs/ADAPTER.md).
 
-    A value is null, an Integer, a Cons or a Block.  A flip is one full collection, and is over at the next scan or
-    allocation.  Java's minor and major collections also run by themselves. */
+    A value is null, an Integer, a Cons or a Block.  A flip is one full collection, and is finished at the next scan
+    or allocation.  Java's minor and major collections also run by themselves. */
 public final class Driver {
-    static final int STRESS_MINOR = 20;         // commands between two minor collections that come by themselves
+    static final int STRESS_MINOR = 20;         // commands between two minor collections that Java begins by itself
     static final int STRESS_MAJOR = 200;
 
     abstract static class Item {

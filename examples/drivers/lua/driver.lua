@@ -2,7 +2,7 @@
 --
 -- An object is a table, and a weak table has all of them: what the collector has taken out of it isn't charged any more
 -- after the next reclaim. A flip waits for the end of Lua's cycle, so that the next one begins after it; `scavenge N` is N
--- of Lua's steps, and the collection is over when that cycle has ended. Lua's collector also runs by itself.
+-- of Lua's steps, and the collection is finished when that cycle has ended. Lua's collector also runs by itself.
 
 local STRESS, LATER = 20, 200           -- commands between two cycles of Lua's own: in the first 400, and after them
 collectgarbage("incremental", 200, 400, 10)
@@ -56,7 +56,7 @@ end
 
 ---- Work and charges
 
--- Does so many steps, and all that are left if what is owed is paid.
+-- Does this number of steps, and all that remain if what is owed is paid.
 local function pay(units)
   if not run or run.over then return end
   run.paid = run.paid + units

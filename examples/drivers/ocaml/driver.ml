@@ -1,11 +1,11 @@
 (* A driver over OCaml's own values and its own collector. Grade: space (docs/ADAPTER.md).
 
    Objects are records, and a weak array has them all: what the collector has taken out of it isn't charged any more after
-   the next reclaim.  A flip is one full collection, and is over at the next scan or allocation.  OCaml's minor and major
+   the next reclaim.  A flip is one full collection, and is finished at the next scan or allocation.  OCaml's minor and major
    collections also run by themselves. *)
 
 let minor_words = 4096
-let stress_minor = 20                   (* commands between two minor collections that come by themselves *)
+let stress_minor = 20                   (* commands between two minor collections that OCaml begins by itself *)
 let stress_major = 100
 
 type value = Nil | Number of int | Ref of obj
@@ -186,7 +186,7 @@ let register word = !registers.(number word)
 let set to_ value = !registers.(number to_) <- value
 let fetch to_ value = set to_ value; shown value
 
-(* An allocation, if the quota allows it.  A collection that runs is over then. *)
+(* An allocation, if the quota allows it.  A collection that runs is finished then. *)
 let charged area words action =
   if area.charged + words > area.quota
   then Printf.sprintf "exhausted %s %d %d %d" area.name area.charged words area.quota

@@ -1,6 +1,6 @@
 /* A template: put your runtime's calls in the place of these functions.  ../c/heap.h says what each has to do.
 
-   Objects are C's own here, nothing is collected, and a flip is over with the first scan: enough for the grade
+   Objects are C's own here, nothing is collected, and a collection is finished at the first scan: enough for the grade
    identity.  Worlds, commands and dumps are those of ../c. */
 #include "heap.h"
 
