@@ -56,10 +56,15 @@ class InPlace(unittest.TestCase):
         self.check(b"lispm-world 2", "examples/show", "shared.sexpr")
         self.check(b"region", "tools/picture", "examples/identity")
         self.check(b"#4  work cons  #0  #0\n", "tools/objects", "examples/identity")
-        self.check(b"</html>", "tools/stepper", "examples/identity")
         self.check(b"command,", "tools/accounts", "examples/identity")
         self.check(b'"reply":"t"', "tools/replies", "examples/identity")
         self.check(b"", "examples/tour/run", "1")
+
+    def test_the_stepper(self):
+        """Its page has the module in it, so no program is missing."""
+        answer, said = self.run_here("tools/stepper", "examples/identity")
+        self.assertEqual((answer.status, said), (0, ""))
+        self.assertIn(b"</html>", answer.output)
 
     def test_a_program_that_is_named(self):
         """Nothing takes its place."""
