@@ -20,7 +20,7 @@ CHROMIUM = chromium.find()
 PAGE = os.path.join(TOP, "web", "lispm.html")
 LEAST_MODULE, LEAST_IMAGE = 50_000, 20_000
 has_page = os.path.isfile(PAGE) and os.path.getsize(PAGE) > LEAST_MODULE
-SECONDS = 20
+SECONDS = 180
 START = "lispm-world 1\nspace 16 32 8 1 2\narea work dynamic 400\ntrace\n"
 REPLIES = "document.getElementById('replies').textContent"
 with open(os.path.join(support.HERE, "looks.js")) as looks:
