@@ -58,18 +58,26 @@ class Shrunk(unittest.TestCase):
         data = drawing.drawn(1, drawing.What(count=150, grade="identity"))
         with with_files(data) as (path,):
             words = [os.path.join(TOOLS, "shrink"), "--seconds", "60", path, "--", *TINY, "rplacd"]
-            for number, status, seconds in ((signal.SIGTERM, 143, 3), (signal.SIGINT, 130, 2)):
-                process = subprocess.Popen(words, stdout=subprocess.PIPE, stderr=subprocess.PIPE, start_new_session=True)
-                time.sleep(seconds)
-                os.killpg(process.pid, number)
-                output, errors = process.communicate(timeout=20)
-                self.check_part(data, process.returncode, output, errors.decode(), status, "stopped, and this may not be the least: line ")
+            for number, status in ((signal.SIGTERM, 143), (signal.SIGINT, 130)):
+                told = "stopped, and this may not be the least: line "
+                for seconds in (2, 8, 32):
+                    process = subprocess.Popen(words, stdout=subprocess.PIPE, stderr=subprocess.PIPE, start_new_session=True)
+                    time.sleep(seconds)
+                    os.killpg(process.pid, number)
+                    output, errors = process.communicate(timeout=60)
+                    if told in errors.decode():
+                        break  # else the machine is so busy that nothing was found yet
+                self.check_part(data, process.returncode, output, errors.decode(), status, told)
 
     def test_its_time_is_up(self):
         data = drawing.drawn(1, drawing.What(count=150, grade="identity"))
         with with_files(data) as (path,):
-            ended = run_tool("shrink", "--seconds", "60", "--total", "1", path, "--", *TINY, "rplacd")
-        self.check_part(data, ended.status, ended.output.encode(), ended.errors, 1, "the time is up, and this may not be the least: line ")
+            told = "the time is up, and this may not be the least: line "
+            for total in ("1", "4", "16"):
+                ended = run_tool("shrink", "--seconds", "60", "--total", total, path, "--", *TINY, "rplacd")
+                if told in ended.errors:
+                    break  # else the machine is so busy that nothing was found yet
+        self.check_part(data, ended.status, ended.output.encode(), ended.errors, 1, told)
 
     def check_part(self, data: bytes, status: int, output: bytes, errors: str, wanted: int, told: str) -> None:
         self.assertEqual((status, errors.count("\n"), told in errors), (wanted, 1, True), errors)

@@ -11,7 +11,9 @@ from tour import LESSONS, TOP, TOUR, run
 
 import charts
 import page
-from lib import moments, tool
+from lib import moments, node, tool
+
+needs_node = unittest.skipUnless(node.find(), "node 18 or later isn't there")
 
 PICTURES = os.path.join(TOUR, "pictures")
 DOCS = os.path.join(TOP, "docs")
@@ -53,11 +55,13 @@ class Charts(unittest.TestCase):
 
 class Page(unittest.TestCase):
     @tour.needs_inside
+    @needs_node
     def test_nothing_is_stale(self):
         ended = run("--check", script=PICTURES)
         self.assertEqual((ended.status, ended.output, ended.errors), (0, "", ""))
 
     @tour.needs_inside
+    @needs_node
     def test_a_stale_picture_is_reported(self):
         with tempfile.TemporaryDirectory() as folder:
             for name in ("docs", "examples", "tools", "web"):
