@@ -1,10 +1,10 @@
-/* library session|main|file|pipe INPUT [PROGRAM]  answers an input whose commands have one line of reply each, and prints the
-   seconds of the wall clock that the commands took:
+/* library session|main|file|pipe INPUT [PROGRAM]  runs an input in one of four ways, and prints the wall-clock seconds that its
+   commands took. Each command must have a reply of one line.
 
-   session   by a session of the library, line by line
-   main      by one call of lispm_main, opening included
-   file      by `PROGRAM replay` with the input as its standard input, start and opening included
-   pipe      by `PROGRAM replay` over two pipes, each line after the reply to the one before */
+   session   a session of the library, line by line
+   main      one call of lispm_main; the opening of the world is included
+   file      `PROGRAM replay` with the input as its standard input; its start and the opening of the world are included
+   pipe      `PROGRAM replay` over two pipes: each line is sent after the reply to the line before */
 #include <lispm.h>
 
 #include <fcntl.h>
@@ -51,7 +51,7 @@ static void read_input(const char *path)
         fail("memory");
 }
 
-/* The byte after this line. */
+/* The index of the byte after the line at this index. */
 static size_t after_line(size_t at)
 {
     char *feed = memchr(input + at, '\n', length - at);
@@ -59,7 +59,7 @@ static size_t after_line(size_t at)
     return (size_t)(feed - input) + 1;
 }
 
-/* Where the commands begin. */
+/* The index of the first command. */
 static size_t after_trace(void)
 {
     return (size_t)(strstr(input, "\ntrace\n") - input) + 7;
@@ -97,7 +97,7 @@ static double by_main(void)
     return now() - begun;
 }
 
-/* Starts `PROGRAM replay` with these as its standard input and output. */
+/* Starts `PROGRAM replay` with these descriptors as its standard input and output. */
 static pid_t start(const char *program, int source, int sink)
 {
     pid_t child = fork();
@@ -118,7 +118,7 @@ static void end(pid_t child)
     int status;
 
     if (waitpid(child, &status, 0) < 0 || status != 0) {
-        fputs("library: the program ended with another status than 0\n", stderr);
+        fputs("library: the program ended with a status other than 0\n", stderr);
         exit(70);
     }
 }

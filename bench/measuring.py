@@ -1,4 +1,4 @@
-"""Runs of the built program that are measured: seconds, greatest memory, instructions."""
+"""Measures executions of the built program: seconds, greatest memory, instructions."""
 import argparse
 import os
 import resource
@@ -6,31 +6,39 @@ import shutil
 import subprocess
 import tempfile
 import time
+from typing import List, NamedTuple, Sequence
 
 TOP = os.path.join(os.path.dirname(os.path.abspath(__file__)), "..")
 PROGRAM = os.path.join(TOP, "crates", "lispm", "out", "lispm")
 
 
-def words_of(text):
-    """The argument parser of a script that measures a program. The text is the script's help."""
+class Run(NamedTuple):
+    """The seconds, the greatest memory in bytes, and the status of one run."""
+    seconds: float
+    memory: int
+    status: int
+
+
+def words_of(text: str) -> argparse.ArgumentParser:
+    """The argument parser of a benchmark, with this help text."""
     words = argparse.ArgumentParser(description=text, formatter_class=argparse.RawDescriptionHelpFormatter)
     words.add_argument("program", nargs="?", default=PROGRAM)
     return words
 
 
-def there(program):
+def there(program: str) -> str:
     """The path of the program. Ends the script if it doesn't exist."""
     if shutil.which(program) is None:
         raise SystemExit(f"there is no program {os.path.relpath(program)}: bin/build makes lispm")
     return program
 
 
-def counts():
-    """Whether instructions can be counted here."""
+def counts() -> bool:
+    """Whether instructions can be counted: valgrind is installed."""
     return shutil.which("valgrind") is not None
 
 
-def memory_so_far(process, least):
+def memory_so_far(process: int, least: int) -> int:
     """The greatest memory in bytes that a process has used, or `least` if it has ended."""
     try:
         with open(f"/proc/{process}/status") as status:
@@ -40,10 +48,10 @@ def memory_so_far(process, least):
     return int(told[0]) * 1024 if told else least
 
 
-def run(command, text=b""):
-    """The seconds, the greatest memory in bytes, and the status of one run.
+def run(command: List[str], text: bytes = b"") -> Run:
+    """Runs a command once on this standard input.
 
-    The greatest memory is read from the running process, again and again, because the figure that the system gives after its
+    The greatest memory is read repeatedly from the running process, because the figure that the system gives after its
     end includes the memory of the parent before the program was started."""
     with tempfile.TemporaryFile() as given:
         given.write(text)
@@ -53,26 +61,26 @@ def run(command, text=b""):
         while child.poll() is None:
             memory = memory_so_far(child.pid, memory)
             time.sleep(0.001)
-        return time.perf_counter() - start, memory, child.returncode
+        return Run(time.perf_counter() - start, memory, child.returncode)
 
 
-def run_well(command, text=b""):
-    """The seconds and the greatest memory of a run that ends with status 0."""
-    seconds, memory, status = run(command, text)
-    if status != 0:
-        raise SystemExit(f"{command[0]} ended with status {status}")
-    return seconds, memory
+def run_well(command: List[str], text: bytes = b"") -> Run:
+    """A run that ends with status 0."""
+    found = run(command, text)
+    if found.status != 0:
+        raise SystemExit(f"{command[0]} ended with status {found.status}")
+    return found
 
 
-def processor_seconds(command, text=b""):
-    """The processor seconds of one run, which other work on the machine influences less than the elapsed time."""
+def processor_seconds(command: List[str], text: bytes = b"") -> float:
+    """The processor seconds of one run. Other work on the machine influences them less than the elapsed time."""
     before = resource.getrusage(resource.RUSAGE_CHILDREN)
     subprocess.run(command, input=text, stdout=subprocess.DEVNULL, check=True)
     after = resource.getrusage(resource.RUSAGE_CHILDREN)
     return after.ru_utime + after.ru_stime - before.ru_utime - before.ru_stime
 
 
-def instructions(command, text=b"", options=()):
+def instructions(command: List[str], text: bytes = b"", options: Sequence[str] = ()) -> int:
     """The instructions of one run, by callgrind with these options."""
     with tempfile.TemporaryDirectory() as folder:
         tool = ["valgrind", "--tool=callgrind", f"--callgrind-out-file={folder}/out", f"--log-file={folder}/log", *options]
@@ -81,8 +89,3 @@ def instructions(command, text=b"", options=()):
             if "Collected" in line:
                 return int(line.split(":")[1].split()[0])
     raise SystemExit("callgrind counted nothing")
-
-
-def session(world, commands):
-    """The bytes of a session with these lines of a world and these commands."""
-    return ("\n".join(["lispm-world 1", *world, "trace", *commands, "end"]) + "\n").encode()

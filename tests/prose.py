@@ -12,7 +12,7 @@ from html import unescape
 from typing import Callable, Dict, Iterator, List, NamedTuple, Tuple
 
 TOP = os.path.dirname(os.path.dirname(os.path.realpath(__file__)))
-SKIPPED = {".git", "__pycache__", "out", "node_modules"}
+SKIPPED = {".git", "__pycache__", ".mypy_cache", "out", "node_modules"}
 MADE = {os.path.join("web", "lispm.html")}      # made from files that are read
 # Each group of files: what its passages are, and patterns of the paths that belong to it. A path belongs to the first group that has it.
 GROUPS: Dict[str, Tuple[str, ...]] = {
@@ -125,7 +125,7 @@ def of_code(marks: str, quotes: str) -> Reader:
         for found in pieces.finditer(text):
             line, piece = text.count("\n", 0, found.start()) + 1, found.group()
             if found.group("comment"):
-                plain = (re.sub(r"^[\s#!/*;]+|\*/$", "", one) for one in piece.split("\n"))
+                plain = (re.sub(r"^[\s#!/*;(-]+|\*\)?/?$", "", one) for one in piece.split("\n"))
                 comments += [(number, without_code(one)) for number, one in enumerate(plain, line)]
             elif re.search(r"[a-z] +[a-z]", piece):
                 yield Passage(path, line, piece[1:-1])
@@ -136,6 +136,7 @@ def of_code(marks: str, quotes: str) -> Reader:
 
 SHELL, LISP = of_code(r"(?<![$\w{])#[^\n]*", "\""), of_code(r";[^\n]*", "\"")
 C_LIKE, CSS = of_code(r"/\*.*?\*/|//[^\n]*", "\"'`"), of_code(r"/\*.*?\*/", "")
+LUA, OCAML = of_code(r"--[^\n]*", "\""), of_code(r"\(\*.*?\*\)", "\"")
 
 
 def of_picture(path: str, text: str) -> Iterator[Passage]:
@@ -148,6 +149,7 @@ def of_picture(path: str, text: str) -> Iterator[Passage]:
 def reader_of(path: str, text: str) -> Reader:
     """What reads the passages of a file with this path and this text."""
     by_end: Dict[str, Reader] = {".c": C_LIKE, ".h": C_LIKE, ".css": CSS, ".js": C_LIKE, ".mjs": C_LIKE, ".lisp": LISP, ".scm": LISP,
+                                 ".cpp": C_LIKE, ".java": C_LIKE, ".lua": LUA, ".ml": OCAML,
                                  ".sh": SHELL, ".md": of_page, ".rt": of_rattle, ".antt": of_antt, ".py": of_python, ".svg": of_picture}
     first = text.split("\n", 1)[0] if text.startswith("#!") else ""
     return of_python if "python" in first else SHELL if "sh" in first else by_end.get(os.path.splitext(path)[1], of_other)

@@ -1,6 +1,6 @@
 /* Turns a fuzzer's bytes into a world and commands, which the machine and the collector beside it answer.
 
-   Every byte string is a whole input: the first bytes choose the world, and each command takes as many bytes as it has
+   Every byte string is a whole input: the first bytes choose the world, and each command takes a byte for each of its
    operands, each modulo the number of what it chooses from; bytes that are missing are 0. What is fixed of each reply is
    compared at once. A command whose reply would be free (docs/ADAPTER.md) is preceded by what fixes it:
 

@@ -106,7 +106,7 @@ class Library:
 def function(raw: Any, takes: List[Any], gives: Any = ctypes.c_uint8) -> Callable[..., int]:
     """An exported function with its types."""
     raw.argtypes, raw.restype = takes, gives
-    return raw      # type: ignore[no-any-return]
+    return raw
 
 
 class Session:

@@ -22,7 +22,7 @@ public:
         return kept(lispm_line(&seat, text.data(), text.size(), &output[0], output.size(), &needed));
     }
 
-    // The end of the input: throws if it comes too early.
+    // Ends the input; throws if the input isn't complete.
     void end() { kept(lispm_end(&seat, &output[0], output.size(), &needed)); }
 
 private:

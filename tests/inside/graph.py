@@ -61,7 +61,7 @@ def cons_at(machine: Machine, address: int) -> Object:
     if word.code == NORMAL:
         second = word_at(machine, address + 1)
         return Object(area, 2 if second.code == SECOND else 3, None, [car, value_of(machine, second)])
-    cdr = "nil" if word.code == LAST else (follow(machine, address + 1), LIST)
+    cdr: Value = "nil" if word.code == LAST else (follow(machine, address + 1), LIST)
     return Object(area, 3, None, [car, cdr])
 
 
@@ -107,9 +107,10 @@ class Graph:
         for at in range(len(self.objects) - 1, -1, -1):
             found = self.objects[at]
             if found.code is None and found.charge == 3:
-                if found.parts[1] == "nil":
+                cdr = found.parts[1]
+                if cdr == "nil":
                     lengths[at] = 1
-                elif lengths[at + 1] and self.number.get(found.parts[1]) == at + 1:
+                elif not isinstance(cdr, str) and lengths[at + 1] and self.number.get(cdr) == at + 1:
                     lengths[at] = lengths[at + 1] + 1 if self.objects[at + 1].area == found.area else 0
         return lengths
 

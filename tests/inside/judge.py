@@ -5,7 +5,7 @@ from charges import area_charges
 from graph import Graph
 from machine import Machine, Region
 from words import FORWARDS, GC_FORWARD, NULL, PAGE, REGION, Word
-from wrong import need
+from wrong import Wrong, need
 
 HALF = REGION // 2
 
@@ -121,8 +121,8 @@ def check_next(machine: Machine) -> None:
 # ----------------------------------------------------------------------- pages
 
 def levels_on_pages(machine: Machine) -> Dict[int, Set[int]]:
-    """For each page with a used word the levels, 1 or more, of the addresses on it. Other words are ignored:
-    an address in a free region has no level."""
+    """For each page with a used word the levels, 1 or more, of the addresses on it. An address in a free
+    region has no level, and is ignored."""
     levels: Dict[int, Set[int]] = {}
     for address, word in machine.words.items():
         found = levels.setdefault(address // PAGE, set())
@@ -188,7 +188,7 @@ def judge(machine: Machine, failed: bool, freed: bool) -> Graph:
 def base_pages(machine: Machine) -> Set[int]:
     """The pages that a flip finds, by the state that it leaves: used pages of live regions, and if levels were
     condemned only those with a tag or with one of these levels in their row."""
-    found = set()
+    found: Set[int] = set()
     for number, region in machine.regions.items():
         if not region.old:
             first = number * REGION // PAGE
@@ -218,7 +218,8 @@ def check_same_region(number: int, then: Region, machine: Machine) -> None:
     now = machine.regions.get(number)
     if then.old and machine.phase == "idle":
         return
-    need(now, f"region {number}: it was used at the flip, and is free")
+    if now is None:
+        raise Wrong(f"region {number}: it was used at the flip, and is free")
     need(now[:3] == then[:3], f"region {number}: its area, level or age isn't that of the flip")
     need(now.used == then.used or now.used > then.used and not then.old, f"region {number}: its used end since the flip")
 

@@ -38,7 +38,7 @@ class Maker:
         self.kinds = self.area_kinds()
         self.quotas = [draw.choice((9000, 20000) if self.large else (20, 60, 200, 600, 3000)) for _ in self.kinds]
         self.names = [f"a{at}" for at in range(len(self.kinds))]
-        self.held = {"cons": [], "block": []}
+        self.held: Dict[str, List[int]] = {"cons": [], "block": []}
         self.objects: List[str] = []
 
     def area_kinds(self) -> List[str]:

@@ -154,7 +154,7 @@ def judge_moment(programs: Programs, given: Input) -> Machine:
 def fault_of(answers: List[List[str]]) -> Optional[int]:
     """The place of the command that was answered `fault`: of one at most, since one call fails."""
     found = [at for at, lines in enumerate(answers) if lines == ["fault"]]
-    need(len(found) < 2, "one call fails, and two commands are answered fault")
+    need(len(found) < 2, "one call fails, and two commands reply `fault`")
     return found[0] if found else None
 
 
@@ -169,7 +169,7 @@ def judge_failing(programs: Programs, given: Input, failing: int) -> bool:
     words = ["--fail", str(failing)]
     shown, probed = show(programs, given, words), show(programs, given.probed(), words)
     at, failed = fault_of(answers_of(given, shown.replies)), came_to(shown, failing)
-    need((at is not None) == failed, "a fault is answered if and only if the call was made")
+    need((at is not None) == failed, "`fault` is replied if and only if the call was made")
     need(probed.replies[:len(shown.replies)] == shown.replies, "stats and dump change the replies before them")
     judge_shown(given, shown, failed, probed.replies[len(shown.replies):])
     judge(probed.machine, came_to(probed, failing), may_free(given, shown.replies))
@@ -184,12 +184,12 @@ def judge_fault(programs: Programs, given: Input, at: int, words: List[str]) -> 
     shown, before = show(programs, given.cut(at + 1), words), given.cut(at)
     replies = reply_lines(programs, before.probed())
     count = len(shown.replies) - 1
-    need(replies[:count] == shown.replies[:count], "the replies before the fault aren't lispm's")
-    need(shown.replies[count] == "fault", "no fault if the input is cut after it")
+    need(replies[:count] == shown.replies[:count], "the replies before `fault` aren't lispm's")
+    need(shown.replies[count] == "fault", "no reply `fault` if the input is cut after it")
     graph = judge(shown.machine, True, may_free(given, shown.replies))
     stats, dump = replies[count:count + len(given.names)], replies[count + len(given.names):]
-    need(dump == graph.dump(given.names), "the command that met the fault changed the graph")
-    need(given.collects_by_itself() or stats == stats_of(given, shown.machine), "the command that met the fault changed an account")
+    need(dump == graph.dump(given.names), "the command that replied `fault` changed the graph")
+    need(given.collects_by_itself() or stats == stats_of(given, shown.machine), "the command that replied `fault` changed an account")
 
 
 def same_bytes(programs: Programs, data: bytes) -> None:

@@ -76,6 +76,7 @@ def scene(programs: Programs, data: bytes) -> Scene:
     at = lines.index(HEAD)
     answers = answers_of(given, lines[:at])
     flip = latest_flip(answers)
+    assert flip is not None
     flipped, pages = show(programs, given.cut(flip + 1)).machine, int(answers[flip][0].split()[1])
     return Scene(given, lines[:at], lines[at:], reply_lines(programs, given.probed())[at:], flipped, pages)
 
@@ -223,7 +224,7 @@ def refused(judge_it: Callable[[Scene, Lines], None], there: Scene, lines: Lines
 
 
 def escaped(judge_it: Callable[[Scene, Lines], None], scenes: List[Scene], fault: Fault) -> Optional[str]:
-    """What is wrong with the checker: an edit that it lets pass, or a fault of which there is no edit; None if nothing."""
+    """What is wrong with the checker: an edit that it accepts, or an edit that fits no scene; None if nothing is wrong."""
     count = 0
     for number, there in enumerate(scenes):
         for lines in fault(there.lines):

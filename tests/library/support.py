@@ -4,16 +4,14 @@ import functools
 import os
 import shutil
 import subprocess
-import sys
 import tempfile
 import unittest
-from typing import Dict, List, NamedTuple, Optional
+from typing import Dict, List, Mapping, NamedTuple, Optional
+
+from lib import library, program, tool
 
 HERE = os.path.dirname(os.path.realpath(__file__))
 TOP = os.path.dirname(os.path.dirname(HERE))
-sys.path[:0] = [os.path.join(TOP, "tools"), os.path.join(TOP, "bin"), HERE, os.path.join(TOP, "tests")]
-from lib import library, program, tool  # noqa: E402
-
 HEADER = os.path.join(TOP, "crates", "lispm_c")
 FLAGS = ["-Wall", "-Wextra", "-Werror", "-pedantic", "-g", "-O1", f"-I{HEADER}"]
 SECONDS = 300
@@ -52,8 +50,8 @@ def folder() -> str:
     return made
 
 
-def run(command: List[str], data: bytes = b"", cwd: Optional[str] = None, **environment: str) -> Ended:
-    """Runs a program on these bytes."""
+def run(command: List[str], data: bytes = b"", cwd: Optional[str] = None, environment: Mapping[str, str] = {}) -> Ended:
+    """Runs a program on these bytes, with these variables of the environment too."""
     ended = subprocess.run(command, input=data, stdout=subprocess.PIPE, stderr=subprocess.PIPE, timeout=SECONDS, cwd=cwd,
                            env={**os.environ, **environment})
     return Ended(ended.returncode, ended.stdout, ended.stderr)
@@ -86,7 +84,7 @@ def built(name: str) -> str:
 @functools.lru_cache(maxsize=None)
 def installed() -> Dict[str, str]:
     """The library alone below a prefix, as bin/install puts it: the environment in which pkg-config finds it."""
-    import installing
+    from lib.scripts import installing
 
     prefix = os.path.join(folder(), "prefix")
     installing.put_library(prefix, archive())

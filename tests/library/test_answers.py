@@ -1,21 +1,18 @@
 """What a session and a whole input are answered with: what the programs write, byte for byte, with their statuses."""
 import os
 import random
-import sys
 import unittest
 from typing import Iterator, List, NamedTuple, Tuple
 
 import support
-
-sys.path.insert(0, os.path.join(support.TOP, "bench"))
-from inputs import made_input  # noqa: E402
+from lib.inputs.benchmarks import made_input
 
 SESSIONS = os.path.join(support.TOP, "tests", "sessions")
 LINES = 1_000_000
 
 
 class Case(NamedTuple):
-    """An input: its name, the arguments of `lispm`, what is read, and what should come of it."""
+    """An input: its name, the arguments of `lispm`, what is read, and the expected result."""
     name: str
     words: List[str]
     data: bytes
@@ -125,15 +122,17 @@ class Answers(unittest.TestCase):
         """lispm_inside writes what its program writes, also if a page call fails."""
         for name in ("phases", "references-from-swapped-pages", "no-end"):
             data = read(SESSIONS, name, "in")
-            for words in ([], ["--fail", "1"], ["--fail=3"], ["--fail"], ["--unknown"]):
+            options: List[List[str]] = [[], ["--fail", "1"], ["--fail=3"], ["--fail"], ["--unknown"]]
+            for words in options:
                 with self.subTest(name=name, words=words):
                     ended = support.run([support.compiled("whole"), "inside", *words], data)
                     self.assertEqual((ended.status, ended.output), self.by_program("lispm_inside", words, data))
 
     def test_arguments(self) -> None:
         """Arguments that are refused, and modes that read nothing."""
-        for words in ([], ["frobnicate"], ["replay", "replay"], ["why"], ["exercise", "--number", "1", "--count", "50"], [""],
-                      ["why", "--object", "4294967296"], ["replay", ""], ["--", "replay"]):
+        given: List[List[str]] = [[], ["frobnicate"], ["replay", "replay"], ["why"], ["exercise", "--number", "1", "--count", "50"],
+                                  [""], ["why", "--object", "4294967296"], ["replay", ""], ["--", "replay"]]
+        for words in given:
             with self.subTest(words=words):
                 ended = support.run([support.compiled("whole"), "main", *words], b"")
                 self.assertEqual((ended.status, ended.output), self.by_program("lispm", words, b""))

@@ -1,6 +1,7 @@
 """The calls from C: bad input, allocations that fail, two threads; under valgrind if it is there."""
 import shutil
 import unittest
+from typing import List
 
 import support
 
@@ -8,7 +9,7 @@ WRAPS = "-Wl,--wrap=malloc,--wrap=realloc,--wrap=free"
 
 
 class Calls(unittest.TestCase):
-    def holds(self, command) -> None:
+    def holds(self, command: List[str]) -> None:
         """A test program ends well; what it wrote says what doesn't hold."""
         ended = support.run(command)
         self.assertEqual((ended.status, ended.errors), (0, b""), ended.output.decode("latin-1"))

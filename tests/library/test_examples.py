@@ -5,7 +5,9 @@ import shutil
 import sys
 import threading
 import unittest
+from typing import Dict
 
+import lispm
 import support
 
 EXAMPLES = os.path.join(support.TOP, "examples")
@@ -27,13 +29,13 @@ def page_program() -> bytes:
 class Page(unittest.TestCase):
     """docs/LIBRARY.md."""
 
-    def compiled(self, environment) -> str:
+    def compiled(self, environment: Dict[str, str]) -> str:
         """The page's program, compiled as the page says."""
         folder = os.path.join(support.folder(), f"page-{len(environment['PKG_CONFIG_PATH'])}")
         os.makedirs(folder, exist_ok=True)
         with open(os.path.join(folder, "replies.c"), "wb") as file:
             file.write(page_program())
-        ended = support.run(["sh", "-c", "cc -Wall -Wextra -Werror replies.c $(pkg-config --cflags --libs lispm) -o replies"], cwd=folder, **environment)
+        ended = support.run(["sh", "-c", "cc -Wall -Wextra -Werror replies.c $(pkg-config --cflags --libs lispm) -o replies"], cwd=folder, environment=environment)
         self.assertEqual((ended.status, ended.errors), (0, b""))
         return os.path.join(folder, "replies")
 
@@ -70,10 +72,10 @@ class Page(unittest.TestCase):
         program = self.compiled(environment)
         native = os.path.join(top, "libexec", "lispm", "programs", "lispm")
         for command in ([program], [native, "replay"]):
-            ended = support.run(command, read(EXAMPLES, "session.in"), PATH="/nowhere")
+            ended = support.run(command, read(EXAMPLES, "session.in"), environment={"PATH": "/nowhere"})
             self.assertEqual((ended.status, ended.output), (0, read(EXAMPLES, "session.out")))
         examples = os.path.join(top, "share", "doc", "lispm", "examples", "library")
-        ended = support.run(["make", "-s", f"OUT={folder}"], cwd=examples, **environment)
+        ended = support.run(["make", "-s", f"OUT={folder}"], cwd=examples, environment=environment)
         self.assertEqual((ended.status, ended.errors), (0, b""))
         self.assertEqual(support.run([os.path.join(folder, "whole")], read(EXAMPLES, "session.in")).output, read(EXAMPLES, "session.out"))
 
@@ -87,6 +89,8 @@ class Page(unittest.TestCase):
 class Examples(unittest.TestCase):
     """examples/library, built by its makefile."""
 
+    out: str
+
     @classmethod
     def setUpClass(cls) -> None:
         support.needs_pkg_config()
@@ -95,16 +99,14 @@ class Examples(unittest.TestCase):
         cls.out = os.path.join(support.folder(), "examples")
         os.makedirs(cls.out, exist_ok=True)
         ended = support.run(["make", "-s", "-C", LIBRARY, f"OUT={cls.out}", "CFLAGS=-O2 -Wall -Wextra -Werror", "CXXFLAGS=-O2 -Wall -Wextra -Werror"],
-                            **support.installed())
+                            environment=support.installed())
         assert (ended.status, ended.errors) == (0, b""), ended.errors.decode()
-        sys.path.insert(0, LIBRARY)
-        cls.module = __import__("lispm")
 
     def program(self, name: str) -> str:
         return os.path.join(self.out, name)
 
-    def library(self):
-        return self.module.Library(self.program("liblispm.so"))
+    def library(self) -> lispm.Library:
+        return lispm.Library(self.program("liblispm.so"))
 
     def test_programs(self) -> None:
         """C and C++: the replies of a session; a line that is refused; an input that ends too early."""
@@ -148,20 +150,20 @@ class Examples(unittest.TestCase):
 
     def test_python_sessions(self) -> None:
         """Empty lines, line feeds, lines after a refusal and after the end, a closed session, an answer once more."""
-        module, library = self.module, self.library()
+        library = self.library()
         with library.session() as session:
-            self.assertEqual(session.answer(b"lispm-world 1\n"), (module.FEED, b""))
-            self.assertEqual(session.answer(b""), (module.REFUSED, b"error line 1: not a world\n"))
-            self.assertEqual(session.again(), (module.REFUSED, b"error line 1: not a world\n"))
-            with self.assertRaises(module.Refused):
+            self.assertEqual(session.answer(b"lispm-world 1\n"), (lispm.FEED, b""))
+            self.assertEqual(session.answer(b""), (lispm.REFUSED, b"error line 1: not a world\n"))
+            self.assertEqual(session.again(), (lispm.REFUSED, b"error line 1: not a world\n"))
+            with self.assertRaises(lispm.Refused):
                 session.line(b"trace")
-        self.assertEqual(session.answer(b""), (module.EMPTY, b""))
+        self.assertEqual(session.answer(b""), (lispm.EMPTY, b""))
         session.close()
         with library.session() as session:
             for line in read(EXAMPLES, "session.in").splitlines():
                 session.line(line)
-            self.assertEqual(session.end(), (module.DONE, b""))
-            self.assertEqual(session.answer(b"stats"), (module.ENDED, b""))
+            self.assertEqual(session.end(), (lispm.DONE, b""))
+            self.assertEqual(session.answer(b"stats"), (lispm.ENDED, b""))
 
     def test_python_long_answers(self) -> None:
         """A dump that is longer than the room, and the version."""
@@ -170,7 +172,7 @@ class Examples(unittest.TestCase):
             for line in ("lispm-world 1", "space 32 32 8 1 2", "area work dynamic 9000", "trace", "set 0 123456789", f"list 1 work {items}"):
                 session.line(line.encode())
             dump = session.line(b"dump")
-            self.assertGreater(len(dump), self.module.ROOM)
+            self.assertGreater(len(dump), lispm.ROOM)
             self.assertTrue(dump.endswith(b"\nend-world\n"))
             self.assertEqual(session.again().output, dump)
         self.assertEqual(".".join(map(str, library.version())), read(support.TOP, "VERSION").decode().strip())

@@ -40,7 +40,7 @@ class Fuzz(unittest.TestCase):
             collector = os.path.join(out, "collector")
             with open(os.path.join(FAULTS, f"{name}.patch"), "rb") as patch:
                 self.assertEqual(support.run(["patch", "-s", "-d", collector, "-p1"], patch.read()).status, 0)
-        ended = support.run(["make", "-s", "-C", FUZZ, target, f"OUT={out}", f"COLLECTOR={collector}"], **support.installed())
+        ended = support.run(["make", "-s", "-C", FUZZ, target, f"OUT={out}", f"COLLECTOR={collector}"], environment=support.installed())
         self.assertEqual((ended.status, ended.errors), (0, b""))
         return os.path.join(out, target)
 
@@ -64,7 +64,8 @@ class Fuzz(unittest.TestCase):
 
     def test_sessions(self) -> None:
         """Each session that was found and kept is wrong on the driver with its bug, and right on the driver without."""
-        from lib import driving, session
+        from lib.drive import driving
+        from lib.inputs import session
 
         plain = [os.path.join(support.TOP, "examples", "drivers", "c", "run")]
         support.run(plain)
@@ -80,12 +81,12 @@ class Fuzz(unittest.TestCase):
         """From an empty corpus it finds a bug in a few seconds."""
         if shutil.which("clang") is None:
             raise unittest.SkipTest("there is no clang")
-        ended = support.run([os.path.join(FUZZ, "table"), "--seconds", "60", "root-left-out"], **support.installed())
+        ended = support.run([os.path.join(FUZZ, "table"), "--seconds", "60", "root-left-out"], environment=support.installed())
         self.assertEqual((ended.status, ended.output.count(b"\n")), (0, 3), ended.output + ended.errors)
 
     def test_afl(self) -> None:
         """So does AFL++."""
         if shutil.which("afl-fuzz") is None or shutil.which("clang") is None:
             raise unittest.SkipTest("there is no AFL++")
-        ended = support.run([os.path.join(FUZZ, "table"), "--fuzzer", "afl", "--seconds", "60", "root-left-out"], **support.installed())
+        ended = support.run([os.path.join(FUZZ, "table"), "--fuzzer", "afl", "--seconds", "60", "root-left-out"], environment=support.installed())
         self.assertEqual((ended.status, ended.output.count(b"\n")), (0, 3), ended.output + ended.errors)

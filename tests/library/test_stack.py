@@ -1,13 +1,10 @@
 """The stack that a call needs is what docs/LIBRARY.md says, and doesn't grow with the input."""
 import os
 import re
-import sys
 import unittest
 
 import support
-
-sys.path.insert(0, os.path.join(support.TOP, "bench"))
-from inputs import made_input  # noqa: E402
+from lib.inputs.benchmarks import made_input
 
 
 def chain(count: int) -> bytes:

@@ -3,14 +3,13 @@ import os
 import shutil
 import signal
 import subprocess
-import sys
 import tempfile
 import unittest
 from typing import List, NamedTuple, Optional
 
 HERE = os.path.dirname(os.path.realpath(__file__))
 TOP = os.path.dirname(os.path.dirname(HERE))
-COPIED = ["bin", "examples", "tools", "man", "tests/run", "tests/scripts", "bench/gate", "VERSION", "CHANGELOG.md", "LICENSE-MIT",
+COPIED = ["bin", "examples", "tools", "man", "tests/run", "tests/lib.py", "tests/scripts", "bench/gate", "bench/lib.py", "VERSION", "CHANGELOG.md", "LICENSE-MIT",
           "LICENSE-APACHE", "crates/lispm_c/lispm.h", "crates/lispm_c/lispm.pc"]
 CRATES = {"low": "", "lispm": "low", "lispm_bands": "low", "lispm_inside": "low", "lispm_c staticlib": "low"}
 # The tree's own commands: what a shell script and Python want, and no `rt`.
@@ -57,7 +56,10 @@ class Tree(unittest.TestCase):
         source, to = os.path.join(TOP, path), self.path(path)
         os.makedirs(os.path.dirname(to), exist_ok=True)
         left_out = shutil.ignore_patterns("__pycache__", "out")
-        shutil.copytree(source, to, ignore=left_out) if os.path.isdir(source) else shutil.copy2(source, to)
+        if os.path.isdir(source) and not os.path.islink(source):
+            shutil.copytree(source, to, ignore=left_out, symlinks=True)
+        else:
+            shutil.copy2(source, to, follow_symlinks=False)
 
     def path(self, path: str) -> str:
         """A path in the tree."""
@@ -79,7 +81,7 @@ class Tree(unittest.TestCase):
         os.remove(os.path.join(self.commands, "rt"))
 
     def build_by_hand(self, name: str = "lispm") -> None:
-        """Puts a program where a build puts it."""
+        """Puts a program at the path at which a build writes it."""
         os.makedirs(self.path(f"crates/{name}/out"), exist_ok=True)
         shutil.copy(os.path.join(HERE, "program"), self.path(f"crates/{name}/out/{name}"))
 
@@ -112,13 +114,13 @@ class Tree(unittest.TestCase):
         return Ended(process.returncode, out, err)
 
     def calls(self) -> List[str]:
-        """The calls of `rt` so far, but for its version."""
+        """The calls of `rt` so far, except those for its version."""
         if not os.path.exists(self.calls_file):
             return []
         return [line for line in self.read("calls").splitlines() if not line.endswith(": version")]
 
     def assert_refused(self, ended: Ended, cause: Optional[str]) -> None:
-        """The words were refused as the program does, with the cause beside it, and nothing was proved or tried."""
+        """The arguments were refused as the program refuses them, the cause was printed, and nothing was proved or tried."""
         self.assertEqual((ended.status, ended.out), (7, "error: usage\n"), ended.err)
         self.assertIn(cause or "", ended.err)
         self.assertEqual(self.calls(), [])

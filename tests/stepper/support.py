@@ -1,15 +1,15 @@
 """What the tests of accounts and plot share: runs of a tool, the programs, and their answers about a session."""
 import os
 import subprocess
-import sys
 import unittest
 from typing import List, NamedTuple
 
+from lib import program
+from lib.inputs import session
+from lib.judge import answers
+
 HERE = os.path.dirname(os.path.realpath(__file__))
 TOP = os.path.dirname(os.path.dirname(HERE))
-sys.path[:0] = [os.path.join(TOP, "tools"), HERE]
-from lib import answers, program, session  # noqa: E402
-
 LISPM, INSIDE = program.place("lispm", None), program.place("lispm_inside", None)
 has_lispm, has_inside = program.is_there("lispm", None), program.is_there("lispm_inside", None)
 needs_lispm = unittest.skipUnless(has_lispm, "lispm isn't built")
@@ -44,6 +44,6 @@ def replies(trace: session.Session) -> List[answers.Answer]:
 
 
 def inside_lines(trace: session.Session, number: int) -> List[str]:
-    """The lines of the machine behind a command, as lispm_inside writes them."""
+    """The lines of the machine after a command, as lispm_inside writes them."""
     lines = program.run(INSIDE, [], trace.cut(number).text()).output.decode().splitlines()
     return lines[lines.index("lispm-inside 1"):]

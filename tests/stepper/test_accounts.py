@@ -24,14 +24,14 @@ def has_matplotlib() -> bool:
 
 class Accounts(unittest.TestCase):
     @needs_inside
-    def test_a_collection(self):
+    def test_a_collection(self) -> None:
         found = rows(COLLECTION)
         self.assertEqual([row["phase"] for row in found], ["not-flipped"] * 4 + ["more"] * 4 + ["done"] + ["not-flipped"] * 3)
         self.assertEqual([int(row["work"]) for row in found], [0, 2, 4, 4, 4, 4, 4, 4, 4, 2, 2, 4])
         self.assertEqual([int(row["left"]) for row in found[4:9]], [8, 10, 10, 7, 0])
 
     @needs_lispm
-    def test_replies_are_those_of_the_program(self):
+    def test_replies_are_those_of_the_program(self) -> None:
         for name in ("collection", "levels", "capacity", "quota", "growth"):
             trace = parsed(example(name))
             wanted = [(str(answer.command.number), answer.command.text, answer.lines[0]) for answer in replies(trace)]
@@ -39,14 +39,14 @@ class Accounts(unittest.TestCase):
             self.assertEqual(found, wanted)
 
     @needs_lispm
-    def test_accounts_are_those_that_stats_tells(self):
+    def test_accounts_are_those_that_stats_tells(self) -> None:
         trace = parsed(example("levels"))
         for answer, row in zip(replies(trace), rows("--no-machine", example("levels"))):
             if answer.command.text == "stats":
                 self.assertEqual(answer.lines, [f"area pool {row['pool']} {row['pool quota']}"])
 
     @needs_inside
-    def test_units_and_page_calls_are_those_of_the_machine(self):
+    def test_units_and_page_calls_are_those_of_the_machine(self) -> None:
         trace, calls = parsed(example("references")), set()
         for row in rows(example("references")):
             lines = inside_lines(trace, int(row["number"]))
@@ -56,13 +56,13 @@ class Accounts(unittest.TestCase):
         self.assertGreater(len(calls), 1)
 
     @needs_inside
-    def test_pauses_and_what_is_reached(self):
+    def test_pauses_and_what_is_reached(self) -> None:
         found = rows(COLLECTION)
         self.assertEqual([int(row["scanned"]) for row in found], [0] * 7 + [3, 7, 0, 0, 0])
         self.assertEqual([int(row["reached"]) for row in found], [0, 2, 2, 2, 2, 2, 2, 2, 2, 2, 2, 4])
 
     @needs_inside
-    def test_units_are_all_scanned(self):
+    def test_units_are_all_scanned(self) -> None:
         """Units at the flip and words placed during a collection are scanned, each once."""
         for name in ("capacity", "levels", "collection"):
             trace, found = parsed(example(name)), rows(example(name))
@@ -73,13 +73,13 @@ class Accounts(unittest.TestCase):
             self.assertEqual(len(found), len(trace.commands))
 
     @needs_lispm
-    def test_columns_are_empty_without_the_machine(self):
+    def test_columns_are_empty_without_the_machine(self) -> None:
         found = tool("accounts", COLLECTION, LISPM_INSIDE="/nowhere/inside").output
         self.assertEqual(found, tool("accounts", "--no-machine", COLLECTION).output)
         self.assertIn(b"\n5,14,flip full,flipped 0,more,,,,,,4,4\n", found)
 
     @needs_lispm
-    def test_mistakes(self):
+    def test_mistakes(self) -> None:
         found = tool("accounts", "-", given=b"lispm-world 1\nspace 16 32 8 1 2\narea work dynamic 4\ntrace\nset 0 1\nconz\nend\n")
         self.assertEqual((found.status, found.errors), (1, "accounts: error line 6: unknown command\n"))
         self.assertEqual(tool("accounts", "/no/file").status, 2)
@@ -96,24 +96,24 @@ class Plot(unittest.TestCase):
             with open(path, "rb") as file:
                 return file.read()
 
-    def test_a_drawing_has_its_curves(self):
+    def test_a_drawing_has_its_curves(self) -> None:
         drawing = self.drawn("a.svg", ROWS.encode()).decode()
-        self.assertEqual([label for label in ("work", "quota of work", "left to scan", "words reached by registers", "written", "read") if f"<!-- {label} -->" not in drawing], [])
+        self.assertEqual([label for label in ("work", "quota of work", "not yet scanned", "words reached by registers", "written", "read") if f"<!-- {label} -->" not in drawing], [])
 
-    def test_a_collection_is_a_band(self):
+    def test_a_collection_is_a_band(self) -> None:
         one = self.drawn("a.svg", ROWS.encode()).decode()
         none = self.drawn("a.svg", ROWS.replace("more,8", "not-flipped,8").encode()).decode()
         bands = [len(re.findall("fill: #dddddd", drawing)) for drawing in (one, none)]
         self.assertEqual(bands, [3, 0])
 
-    def test_a_png(self):
+    def test_a_png(self) -> None:
         self.assertTrue(self.drawn("a.png", ROWS.replace("0,0,0,0,0,", ",,,,,").encode()).startswith(b"\x89PNG"))
 
     @needs_lispm
-    def test_what_accounts_writes(self):
+    def test_what_accounts_writes(self) -> None:
         self.assertIn(b"</svg>", self.drawn("a.svg", tool("accounts", *([] if has_inside else ["--no-machine"]), example("capacity")).output))
 
-    def test_mistakes(self):
+    def test_mistakes(self) -> None:
         wanted = {("-o", "a.gif"): "plot: a.gif: the name has to end in .svg, .png or .pdf\n",
                   ("-o", "/no/folder/a.svg"): "plot: /no/folder/a.svg: No such file or directory\n",
                   ("/no/file",): "plot: /no/file: No such file or directory\n"}
@@ -129,7 +129,7 @@ class Plot(unittest.TestCase):
 
 
 class NoLibrary(unittest.TestCase):
-    def test_it_is_named(self):
+    def test_it_is_named(self) -> None:
         """A module that hides matplotlib, and the mark that the system's Python was tried."""
         with tempfile.TemporaryDirectory() as folder:
             hiding = ("from importlib.machinery import PathFinder\nfound = PathFinder.find_spec\n"

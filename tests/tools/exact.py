@@ -3,11 +3,11 @@
 This is docs/MEANING.md once more, as simply as it can be written, and with nothing of the judge but the graph of objects:
 a state is what is held at which level, the husks, and the phase. It is for inputs of some forty commands.
 """
-from typing import Dict, FrozenSet, Iterator, List, NamedTuple, Optional, Set, Tuple, Union
+from typing import FrozenSet, Iterator, List, NamedTuple, Optional, Set, Tuple
 
-from lib import dumping, verdict
-from lib.graph import ALLOCATING, EFFECTS, Graph
-from lib.values import Ref
+from lib.inputs import dumping, verdict
+from lib.inputs.graph import ALLOCATING, EFFECTS, Graph
+from lib.inputs.values import Levels, Ref
 
 MOST_STATES = 4000
 
@@ -17,9 +17,9 @@ class TooMany(Exception):
 
 
 class Phase(NamedTuple):
-    """A collection that runs: what was flipped, the names condemned and those bound, the husks gone by area, what it
-    owes at most and has paid, and whether it is over."""
-    what: Union[str, Tuple[int, ...]]
+    """A collection that runs: what was flipped, the names condemned and those bound, the husks gone by area, the greatest
+    work it owes, the work paid, and whether its scan has finished."""
+    what: Levels
     condemned: FrozenSet[int]
     bound: FrozenSet[int]
     gone: Tuple[int, ...]
@@ -119,7 +119,7 @@ class Runs:
         return state._replace(phase=phase._replace(owed=phase.owed + words)) if phase else state
 
     def paying(self, state: State, units: int) -> Iterator[State]:
-        """The states after some work: the collection may be over, and is if all is paid."""
+        """The states after some work: the scan may have finished, and has if all work is paid."""
         phase = state.phase
         if not phase:
             yield state
@@ -134,15 +134,15 @@ class Runs:
             yield from [state] if lines == ["not-flipped"] else []
             return
         for after in self.paying(state, units):
-            if lines == ["done" if after.phase.over else "more"]:
+            if lines == ["done" if after.phase is not None and after.phase.over else "more"]:
                 yield after
 
     # --------------------------------------------------------- collections
 
-    def is_condemned(self, area: int, level: int, what: object) -> bool:
-        return self.areas[area].kind != "static" and (what == "full" or level in what)
+    def is_condemned(self, area: int, level: int, what: Levels) -> bool:
+        return self.areas[area].kind != "static" and (isinstance(what, str) or level in what)
 
-    def survivor(self, what: object, level: int) -> int:
+    def survivor(self, what: Levels, level: int) -> int:
         return level + 1 if what != "full" and level < self.space.levels else 0
 
     def closure(self, names: Set[int]) -> Set[int]:
@@ -157,7 +157,7 @@ class Runs:
     def roots(self) -> Set[int]:
         return {value.n for value in self.graph.registers if isinstance(value, Ref)}
 
-    def flipped(self, state: State, what: object, pages: int) -> State:
+    def flipped(self, state: State, what: Levels, pages: int) -> State:
         condemned = {name for name, level in state.held if self.is_condemned(self.objects[name].area, level, what)}
         spared = {name for name, _ in state.held} - condemned
         owed = self.space.registers + 256 * pages + sum(self.objects[name].charge for name in condemned)
@@ -171,7 +171,7 @@ class Runs:
         return State(state.held, frozenset(husks.items()),
                      Phase(what, frozenset(condemned), frozenset(bound), tuple(gone), owed, 0, False))
 
-    def flip(self, state: State, lines: List[str], what: object) -> List[State]:
+    def flip(self, state: State, lines: List[str], what: Levels) -> List[State]:
         if state.phase:
             return [state] if lines == ["busy"] else []
         words = lines[0].split(" ")
@@ -184,11 +184,10 @@ class Runs:
             expected = "not-done" if state.phase else "not-flipped"
             yield from [state] if lines == [expected] else []
         elif lines == ["reclaimed"]:
-            yield from self.settled(state)
+            yield from self.settled(state, state.phase)
 
-    def settled(self, state: State) -> Iterator[State]:
+    def settled(self, state: State, phase: Phase) -> Iterator[State]:
         """The states after a reclaim: each closed part of what is bound and not led to may stay."""
-        phase = state.phase
         needed = self.closure(self.roots() | {name for name, _ in state.held if name not in phase.condemned})
         may = sorted((phase.condemned & phase.bound) - needed)
         for part in self.closed_parts(may, needed):
@@ -210,7 +209,7 @@ class Runs:
     def silent(self, state: State) -> Iterator[State]:
         """The states after the silent steps. How many pages a silent flip finds isn't shown: the most leaves the most
         open."""
-        states = self.settled(state) if state.phase and state.phase.over else [state]
+        states = self.settled(state, state.phase) if state.phase and state.phase.over else [state]
         for after in states:
             levels = enumerate(self.space.capacity, 1)
             full = tuple(level for level, most in levels if most and self.total(after, level) >= most)
@@ -220,7 +219,7 @@ class Runs:
 def first_wrong(data: bytes, replies: List[List[str]]) -> Optional[int]:
     """The number of the first command whose reply no run shows; None if all are right. Raises TooMany."""
     found = verdict.judge(data)
-    runs = Runs(found.world)
+    runs = Runs(found.so_far)
     for number, (command, lines) in enumerate(zip(found.commands, replies), 1):
         if not runs.take(command, lines):
             return number

@@ -1,16 +1,17 @@
-"""Runs of an input whose free choices are drawn: how many pages a flip finds, when a collection is over, and what a
-reclaim keeps of what nothing leads to any more. Each is a run that the definitions allow (docs/MEANING.md)."""
+"""Runs of an input whose free choices are drawn: how many pages a flip finds, when the scan of a collection has finished,
+and which unreachable objects a reclaim keeps. Each is a run that the definitions allow (docs/MEANING.md)."""
 import random
 from typing import Dict, List, Optional, Set, Tuple
 
-from lib import dumping, verdict
-from lib.graph import ALLOCATING, EFFECTS
-from lib.known import Known
-from lib.reach import closure, names_in
+from lib.inputs import dumping, verdict
+from lib.inputs.graph import ALLOCATING, EFFECTS
+from lib.inputs.values import Levels
+from lib.judge.known import Known
+from lib.judge.reach import closure, names_in
 
 
 class Collection:
-    def __init__(self, what: object, condemned: Set[int], bound: Set[int], owed: int):
+    def __init__(self, what: Levels, condemned: Set[int], bound: Set[int], owed: int):
         self.what, self.condemned, self.bound, self.owed = what, condemned, bound, owed
         self.paid, self.over = 0, False
 
@@ -76,12 +77,13 @@ class FreeRun:
 
     def pay(self, units: int) -> None:
         run = self.collection
+        assert run is not None
         run.paid += units
         run.over = run.over or run.paid >= run.owed or self.draw.random() < 0.2
 
     # ----------------------------------------------------------- collections
 
-    def flip(self, what: object, pages: Optional[int] = None) -> str:
+    def flip(self, what: Levels, pages: Optional[int] = None) -> str:
         if self.collection:
             return "busy"
         pages = self.draw.choice((0, 1, 5, 16 * self.space.regions)) if pages is None else pages
@@ -126,5 +128,5 @@ class FreeRun:
 def output(data: bytes, seed: int) -> bytes:
     """The replies of one run of a whole input."""
     found = verdict.judge(data)
-    run = FreeRun(found.world, random.Random(seed))
+    run = FreeRun(found.so_far, random.Random(seed))
     return "".join(line + "\n" for command in found.commands for line in run.reply(command)).encode()

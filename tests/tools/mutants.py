@@ -3,8 +3,8 @@ import random
 from typing import Iterator, List, Tuple
 
 import free_run
-from lib import drawing, session, verdict
-from lib.answers import Answer, split
+from lib.inputs import drawing, session, verdict
+from lib.judge.answers import Answer, split
 
 Replies = List[List[str]]
 PHASES = ("busy", "more", "done", "not-flipped", "not-done", "reclaimed", "flipped 0", "flipped 1")
@@ -45,11 +45,11 @@ def changes(answer: Answer, world: verdict.World) -> Replies:
 def of_short_input(number: int) -> Iterator[Tuple[bytes, Replies]]:
     """A run of a short input, then runs with one reply changed."""
     draw = random.Random(number)
-    data = drawing.drawn(number, drawing.What(count=draw.choice((20, 30, 40)), every=0, weights=WEIGHTS))
+    data = drawing.drawn(number, drawing.What(commands=draw.choice((20, 30, 40)), every=0, weights=WEIGHTS))
     answers = split(session.parse(data), free_run.output(data, number)).answers
     replies = [answer.lines for answer in answers]
     yield data, replies
-    world = verdict.judge(data).world
+    world = verdict.judge(data).so_far
     possible = [(at, other) for at, answer in enumerate(answers) for other in changes(answer, world)]
     for at, other in draw.sample(possible, min(MOST_CHANGED, len(possible))):
         yield data, [*replies[:at], other, *replies[at + 1:]]

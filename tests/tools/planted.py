@@ -1,20 +1,20 @@
-"""Wrong replies, planted into right ones: for each kind of fault the ways to make a reply wrong.
+"""Wrong replies in otherwise right outputs: for each kind of error the ways to make a reply wrong.
 
-A way takes a command and its right reply and answers wrong lines for it, or nothing if it doesn't fit. Accounts are
+A way takes a command and its right reply and returns wrong lines for it, or nothing if it doesn't fit. Accounts are
 exact as long as nothing was reclaimed, so a changed charge is wrong only before the first reclaim.
 """
 import random
 from typing import Callable, Dict, Iterator, List, NamedTuple, Optional
 
 import free_run
-from lib import drawing, session, verdict
-from lib.answers import Answer, split
+from lib.inputs import drawing, session, verdict
+from lib.judge.answers import Answer, split
 
 Way = Callable[[Answer, verdict.World], List[List[str]]]
 
 
 class Fault(NamedTuple):
-    """An input, replies with one fault, a status, and where the judge has to find it."""
+    """An input, replies of which one is wrong, a status, and the place at which the judge must find it."""
     data: bytes
     output: bytes
     status: int
@@ -108,7 +108,7 @@ def dump(answer: Answer, _: verdict.World) -> List[List[str]]:
 
 
 def phase(answer: Answer, world: verdict.World) -> List[List[str]]:
-    """A reply that tells another phase, or none. Which phase it is is free if levels are collected by themselves."""
+    """A reply that belongs to another phase, or to none. The phase is free if levels are collected automatically."""
     reply = answer.lines[0]
     if answer.command.head not in ("flip", "scavenge", "reclaim"):
         return []
@@ -131,13 +131,13 @@ def inputs() -> Iterator[bytes]:
     number = 0
     while True:
         number += 1
-        yield drawing.drawn(number, drawing.What(count=100, every=10))
+        yield drawing.drawn(number, drawing.What(commands=100, every=10))
 
 
 def faults(kind: str, ways: Optional[List[Way]] = None) -> Iterator[Fault]:
     """Wrong replies of a kind, without end: at most three in an input."""
     for seed, data in enumerate(inputs()):
-        world = verdict.judge(data).world
+        world = verdict.judge(data).so_far
         trace = session.parse(data)
         answers = split(trace, free_run.output(data, seed)).answers
         last = first_collection(world, answers) if kind in NEEDS_ACCOUNTS else len(answers)
@@ -155,7 +155,7 @@ def first_collection(world: verdict.World, answers: List[Answer]) -> int:
 
 
 def planted(data: bytes, answers: List[Answer], at: int, lines: List[str]) -> Fault:
-    """The fault of these lines in the place of the reply at a place."""
+    """The input with these wrong lines in place of the reply to command number `at`."""
     replies = [answer.lines for answer in answers]
     replies[at] = lines
     return Fault(data, text(replies), 0, at + 1, answers[at].command.line)

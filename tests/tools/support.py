@@ -2,7 +2,6 @@
 import os
 import signal
 import subprocess
-import sys
 import tempfile
 from contextlib import contextmanager
 from typing import Iterator, List, NamedTuple, Optional
@@ -11,7 +10,6 @@ HERE = os.path.dirname(os.path.realpath(__file__))
 TOP = os.path.join(HERE, "..", "..")
 TOOLS = os.path.join(TOP, "tools")
 FOLDER = os.path.join(TOP, "tests", "sessions")
-sys.path[:0] = [TOOLS, HERE, os.path.join(TOP, "tests")]
 
 # In the background SIGINT is ignored; the programs that are tested here have to hear it.
 signal.signal(signal.SIGINT, signal.default_int_handler)

@@ -5,14 +5,15 @@ import unittest
 from typing import NamedTuple
 
 from support import FIRST, FOLDER, SESSIONS, TOP, read, run_tool
-from lib import columns, hints, program, sexprs, verdict
+from lib import program
+from lib.inputs import columns, hints, sexprs, verdict
 
 HEAD = "lispm-world 1\nspace 16 32 8 2 2\narea work dynamic 60\narea temp ephemeral 60\n"
 HEAD_2 = HEAD.replace("world 1", "world 2") + "capacity 0 0\n"
 
 
 class Refused(NamedTuple):
-    """An input, its error line, the column and the piece under the carets, and a part of what is told."""
+    """An input, its error line, the column and the piece under the carets, and a part of the message."""
     text: str
     error: str
     column: int
@@ -20,13 +21,13 @@ class Refused(NamedTuple):
     told: str
 
 
-def command(line: str, *refused: object) -> Refused:
+def command(line: str, reason: str, column: int, piece: str, told: str) -> Refused:
     """A line of the trace that is refused."""
-    return Refused(f"{HEAD}trace\n{line}\nend\n", f"error line 6: {refused[0]}", *refused[1:])
+    return Refused(f"{HEAD}trace\n{line}\nend\n", f"error line 6: {reason}", column, piece, told)
 
 
-def world_line(line: str, *refused: object) -> Refused:
-    return Refused(f"{HEAD}{line}\ntrace\nend\n", f"error line 5: {refused[0]}", *refused[1:])
+def world_line(line: str, reason: str, column: int, piece: str, told: str) -> Refused:
+    return Refused(f"{HEAD}{line}\ntrace\nend\n", f"error line 5: {reason}", column, piece, told)
 
 
 WRONG_WORDS = [
@@ -82,7 +83,7 @@ WRONG_WORDS = [
 
 
 class WrongWords(unittest.TestCase):
-    def test_column_and_piece(self):
+    def test_column_and_piece(self) -> None:
         for wrong in WRONG_WORDS:
             with self.subTest(wrong.error):
                 data = wrong.text.encode("latin-1")
@@ -96,7 +97,7 @@ class WrongWords(unittest.TestCase):
                 self.assertLess(len(shown), 100)
                 self.assertIn(wrong.told, hints.expected(found, lines))
 
-    def test_no_end(self):
+    def test_no_end(self) -> None:
         for text in (HEAD + "trace\nset 0 5\n", HEAD):
             ended = run_tool("check", "-", given=text.encode())
             self.assertEqual(ended.status, 1)
@@ -104,7 +105,7 @@ class WrongWords(unittest.TestCase):
 
 
 class Agreement(unittest.TestCase):
-    def test_sessions(self):
+    def test_sessions(self) -> None:
         """The verdict on each session has lispm's error line and status."""
         for name in SESSIONS:
             found, output = verdict.judge(read(name, "in")), read(name, "out").decode("latin-1").split("\n")
@@ -126,17 +127,17 @@ WRONG_SEXPRS = [
     ("5}]", "#0=work(5)}]", "error line 7: label twice", 3, "#0=", "a label that wasn't used"),
     ("5}]", "#4#}]", "error line 7: no label 4", 3, "#4#", "such as #0#"),
     ("end-sexpr\n", "end-sexpr\n7", "error line 9: text after end", 1, "7", "nothing may follow"),
-    ("5}]\nend-sexpr\n", "5}", "error line 8: no end", 0, "", "or ] may come"),
+    ("5}]\nend-sexpr\n", "5}", "error line 8: no end", 0, "", "or ] may follow"),
     ("capacity 0\n", "", "error line 4: capacity expected", 0, "", "a header is the lines"),
 ]
 
 
 class Sexprs(unittest.TestCase):
-    def test_a_whole_text(self):
+    def test_a_whole_text(self) -> None:
         ended = run_tool("check", "-", given=SEXPR.encode())
         self.assertEqual((ended.status, ended.output), (0, "whole: S-expressions, which `lispm compile` takes\n"))
 
-    def test_what_is_refused(self):
+    def test_what_is_refused(self) -> None:
         for old, new, error, column, piece, told in WRONG_SEXPRS:
             with self.subTest(error):
                 self.assertIn(old, SEXPR)
@@ -149,7 +150,7 @@ class Sexprs(unittest.TestCase):
                     self.assertEqual(lines[1].rpartition(" ")[2], str(column))
                     self.assertEqual(lines[2][lines[3].find("^"):][:len(piece)], piece)
 
-    def test_sessions(self):
+    def test_sessions(self) -> None:
         """The verdict on each text that is compiled has lispm's error line and status."""
         names = [name for name in sorted(os.listdir(FOLDER)) if read(name, "words").split() == [b"compile"]]
         self.assertGreater(len(names), 4)
@@ -162,7 +163,7 @@ class Sexprs(unittest.TestCase):
         self.assertEqual((found.error(), found.status), (told[0] if told else None, status), data)
 
     @unittest.skipUnless(program.is_there("lispm", None), "no program lispm")
-    def test_the_verdict_is_its_own(self):
+    def test_the_verdict_is_its_own(self) -> None:
         """Texts with a piece left out or put in: lispm says the same of each."""
         lispm, draw = program.find("lispm", None), random.Random(1)
         pieces = ["(", ")", "]", "{", "=", "#", " ", "\n", " . ", "nil", "-1", "#0=", "#1#", "work(", "root 1 ", "end-sexpr", "\t", "x("]
@@ -174,17 +175,17 @@ class Sexprs(unittest.TestCase):
 
 
 class TheTool(unittest.TestCase):
-    def test_whole(self):
+    def test_whole(self) -> None:
         ended = run_tool("check", "-", given=FIRST.data)
         self.assertEqual((ended.status, ended.output, ended.errors), (0, "whole: 1 area, 0 objects, 10 commands\n", ""))
 
-    def test_a_wrong_word(self):
+    def test_a_wrong_word(self) -> None:
         ended = run_tool("check", "-", given=FIRST.data.replace(b"car 3 2", b"car 3 two"))
         self.assertEqual(ended.output, "error line 8: no register\nline 8, column 7\n    car 3 two\n          ^^^\n"
                          "expected: a register, 0 to 7\n")
         self.assertEqual(ended.status, 1)
 
-    def test_carriage_returns(self):
+    def test_carriage_returns(self) -> None:
         ended = run_tool("check", "-", given=FIRST.data.replace(b"\n", b"\r\n"))
         self.assertEqual((ended.status, ended.output.split("\n")[0]), (1, "error line 1: not a world"))
         self.assertIn("line 1 ends in a carriage return (15 of 15 lines do)", ended.output)
@@ -192,13 +193,13 @@ class TheTool(unittest.TestCase):
         ended = run_tool("check", "-", given=FIRST.data.replace(b"5 1\n", b"5 1\r\n"))
         self.assertIn("line 12 ends in a carriage return (1 of 15 lines do)", ended.output)
 
-    def test_byte_order_marks(self):
+    def test_byte_order_marks(self) -> None:
         for mark, told in ((b"\xef\xbb\xbf", "byte order mark, three bytes"), (b"\xff\xfe", "byte order mark of UTF-16")):
             ended = run_tool("check", "-", given=mark + FIRST.data)
             self.assertEqual((ended.status, ended.output.split("\n")[0]), (1, "error line 1: not a world"))
             self.assertIn(told, ended.output)
 
-    def test_commented_sessions(self):
+    def test_commented_sessions(self) -> None:
         ended = run_tool("check", f"{TOP}/examples/identity")
         self.assertEqual((ended.status, ended.output.split("\n")[0]), (1, "error line 1: not a world"))
         self.assertIn("a commented session isn't an input; `examples/show --plain NAME` writes its input, which is whole",

@@ -5,7 +5,7 @@ from support import run_tool
 
 
 class Definitions(unittest.TestCase):
-    def test_the_whole(self):
+    def test_the_whole(self) -> None:
         """The program's theorem depends on the definitions of what a program sees, of runs and of the representation."""
         ended = run_tool("definitions")
         self.assertEqual((ended.status, ended.errors), (0, ""))
@@ -14,7 +14,7 @@ class Definitions(unittest.TestCase):
         for path in ("lisp_meaning/specs/invariants", "lisp_meaning/specs/Laws", "lisp_meaning/specs/examples"):
             self.assertNotIn(path, ended.output)
 
-    def test_one(self):
+    def test_one(self) -> None:
         """An effect needs graphs alone; --each names the definitions."""
         ended = run_tool("definitions", "--each", "lisp_graph/Effect:effect")
         lines = [line.split() for line in ended.output.splitlines()]
@@ -22,7 +22,7 @@ class Definitions(unittest.TestCase):
         self.assertLessEqual({"effect", "Effect", "grown_block"}, set(lines[0]))
         self.assertNotIn("InRegisters", ended.output)
 
-    def test_mistakes(self):
+    def test_mistakes(self) -> None:
         """What isn't there is one line."""
         for word in ("effect", "nowhere/Effect:effect", "lisp_graph/Nothing:effect", "lisp_graph/Effect:nothing"):
             ended = run_tool("definitions", word)

@@ -8,7 +8,7 @@ PICTURE = os.path.join(TOP, "docs", "pictures", "layers.svg")
 
 
 class Layers(unittest.TestCase):
-    def test_the_picture_in_docs(self):
+    def test_the_picture_in_docs(self) -> None:
         """It was drawn from crates.txt as it is; one that was drawn from other crates is refused."""
         self.assertEqual(run_tool("layers", "--check", PICTURE), (0, "", ""))
         with open(PICTURE, "rb") as file:
@@ -18,7 +18,7 @@ class Layers(unittest.TestCase):
                 ended = run_tool("layers", "--check", name)
                 self.assertEqual((ended.status, ended.errors.count("\n")), (1, 1))
 
-    def test_the_graph(self):
+    def test_the_graph(self) -> None:
         """It has each crate, an arrow to each crate that is used directly, and none that follows from others."""
         ended = run_tool("layers", "-T", "dot")
         self.assertEqual(ended.status, 0)

@@ -3,11 +3,12 @@ import unittest
 
 import planted
 from support import FIRST, SESSIONS, read
-from lib import answers, session, verdict
+from lib.inputs import session, verdict
+from lib.judge import answers
 
 
 class Sessions(unittest.TestCase):
-    def test_a_session(self):
+    def test_a_session(self) -> None:
         found = session.parse(b"; one\n" + FIRST.data.replace(b"eq 3 4\n", b";\neq 3 4\n"))
         self.assertEqual((found.areas, found.registers, len(found.commands)), (["work"], 8, 10))
         self.assertEqual(found.commands[5], (12, 6, "eq 3 4"))
@@ -15,13 +16,13 @@ class Sessions(unittest.TestCase):
         self.assertEqual(found.text(), FIRST.data)
         self.assertEqual((found.is_commented, session.parse(FIRST.data).is_commented), (True, False))
 
-    def test_an_input_is_given_back_byte_for_byte(self):
+    def test_an_input_is_given_back_byte_for_byte(self) -> None:
         for name in SESSIONS:
             self.assertEqual(session.parse(read(name, "in")).text(), read(name, "in"), name)
         for data in (b"", b"\n", b"\n\n", b"end", bytes(range(256))):
             self.assertEqual(session.parse(data).text(), data)
 
-    def test_cut(self):
+    def test_cut(self) -> None:
         trace = session.parse(FIRST.data)
         head = FIRST.data[:FIRST.data.index(b"set")]
         self.assertEqual(trace.cut(0).text(), head + b"end\n")
@@ -29,7 +30,7 @@ class Sessions(unittest.TestCase):
         self.assertEqual(trace.cut(99).text(), FIRST.data)
         self.assertEqual([command.number for command in trace.cut(2, "stats", "dump").commands], [1, 2, 3, 4])
 
-    def test_a_cut_input_is_whole(self):
+    def test_a_cut_input_is_whole(self) -> None:
         data = next(planted.inputs())
         trace = session.parse(data)
         for count in range(0, len(trace.commands), 7):
@@ -37,7 +38,7 @@ class Sessions(unittest.TestCase):
 
 
 class Answers(unittest.TestCase):
-    def test_sessions(self):
+    def test_sessions(self) -> None:
         """Each command of a session has a reply, up to the line that is refused."""
         for name in SESSIONS:
             data = read(name, "in")
@@ -45,7 +46,7 @@ class Answers(unittest.TestCase):
             if judged.world is not None:
                 self.assertEqual((len(found.answers), found.error, found.rest), (len(judged.commands), judged.error(), []), name)
 
-    def test_outputs_that_are_cut(self):
+    def test_outputs_that_are_cut(self) -> None:
         trace = session.parse(FIRST.data.replace(b"end\n", b"stats\ndump\nstats\nend\n"))
         whole = FIRST.replies + b"area work 6 6\nlispm-world 2\nspace\nend-world\narea work 6 6\n"
         found = answers.split(trace, whole)

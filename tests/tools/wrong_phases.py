@@ -1,9 +1,9 @@
 #!/usr/bin/env python3
 """wrong_phases [--count K] [--mutants N] [--from NUMBER]
 
-Measures the judge where it has only bounds (tools/lib/bounds.py): in runs of wide inputs of K commands (400 unless said),
+Measures the judge when it has only bounds (tools/lib/judge/bounds.py): in runs of wide inputs of K commands (400 by default),
 whose free choices are drawn, N replies (1,000) to flip, scavenge and reclaim are replaced, each in a run of its own, by
-one that is wrong by construction: what the replies before it say of the phase rules it out. The line says how many
+one that is wrong by construction: the replies before it exclude it. The line reports how many
 the judge refuses at that command. Status 1 if fewer than 99 of 100.
 """
 import argparse
@@ -11,21 +11,21 @@ import random
 import sys
 from typing import Iterator, List, NamedTuple, Optional
 
-import support  # noqa: F401  the path of lib
 import free_run
-from lib import checks, drawing, session, verdict
-from lib.answers import Answer, split
-from lib.bounds import Bounds
-from lib.graph import ALLOCATING
-from lib.judged_lines import Replies
-from lib.judging import judge
+from lib.inputs import drawing, session, verdict
+from lib.inputs.graph import ALLOCATING
+from lib.judge import checks
+from lib.judge.answers import Answer, split
+from lib.judge.bounds import Bounds
+from lib.judge.judged_lines import Replies
+from lib.judge.judging import judge
 
 ALL_UNITS = "scavenge 4294967295"
 PHASES = ("flip", "scavenge", "reclaim")
 
 
 class Told(NamedTuple):
-    """What replies have told of the phase: whether a collection runs, and whether it is over; None is unknown."""
+    """What the replies imply about the phase: whether a collection runs, and whether its scan has finished; None is unknown."""
     runs: Optional[bool] = False
     over: Optional[bool] = None
 
@@ -35,7 +35,7 @@ AFTER = {"busy": Told(True, None), "more": Told(True, False), "done": Told(True,
 
 
 def after(told: Told, answer: Answer, is_silent: bool) -> Told:
-    """What is told of the phase after a command and its right reply."""
+    """What is known of the phase after a command and its right reply."""
     head, reply = answer.command.head, answer.lines[0]
     if head in ALLOCATING:
         if is_silent and not (told.runs and told.over is False):
@@ -49,7 +49,7 @@ def after(told: Told, answer: Answer, is_silent: bool) -> Told:
 
 
 def wrong_replies(told: Told, answer: Answer) -> List[str]:
-    """The replies to this command that can't be, by what is told before it."""
+    """The replies to this command that the replies before it exclude."""
     head = answer.command.head
     if head not in PHASES:
         return []
@@ -66,8 +66,8 @@ def wrong_replies(told: Told, answer: Answer) -> List[str]:
 
 
 def places_in_bounds(found: verdict.Verdict, output: bytes) -> List[bool]:
-    """For each command whether the judge has only bounds when it comes to it."""
-    run, places = checks.Run(found.world, Replies(output), 0), []
+    """For each command whether the judge has only bounds when it reaches it."""
+    run, places = checks.Run(found.so_far, Replies(output), 0), []
     for command in found.commands:
         places.append(any(isinstance(one, Bounds) for one in run.hypotheses))
         run.judge(command)
@@ -88,7 +88,7 @@ def mutants_of(data: bytes, seed: int) -> Iterator[Mutant]:
     for answer, loose in zip(answers, places_in_bounds(found, output)):
         for wrong in wrong_replies(told, answer) if loose else []:
             yield Mutant(data, "\n".join([*lines[:at], wrong, *lines[at + 1:]]).encode(), answer.command.number)
-        told = after(told, answer, found.world.collects_itself())
+        told = after(told, answer, found.so_far.collects_itself())
         at += len(answer.lines)
 
 
@@ -96,8 +96,8 @@ def mutants(count: int, first: int = 1, most_of_one: int = 40) -> Iterator[Mutan
     """Wrong replies, without end, and not too many of one run."""
     number = first
     while True:
-        data = drawing.drawn(number, drawing.What(count=count))
-        if verdict.judge(data).world.collects_itself():
+        data = drawing.drawn(number, drawing.What(commands=count))
+        if verdict.judge(data).so_far.collects_itself():
             found = list(mutants_of(data, number))
             yield from random.Random(number).sample(found, min(most_of_one, len(found)))
         number += 1
@@ -115,7 +115,7 @@ def main() -> int:
     words.add_argument("--from", type=int, default=1, dest="first")
     given = words.parse_args()
     told = sum(is_told(mutant) for mutant, _ in zip(mutants(given.count, given.first), range(given.mutants)))
-    print(f"{given.count} commands, {given.mutants} wrong replies where there are only bounds: {told} refused")
+    print(f"{given.count} commands, {given.mutants} wrong replies when there are only bounds: {told} refused")
     return 0 if 100 * told >= 99 * given.mutants else 1
 
 

@@ -1,18 +1,15 @@
 """What the tests of the tour share: the lessons, and calls of its scripts."""
 import os
 import subprocess
-import sys
 import unittest
 from typing import List, NamedTuple
+
+from lib import program
+from lib.tour import lessons, tasks
 
 HERE = os.path.dirname(os.path.realpath(__file__))
 TOP = os.path.dirname(os.path.dirname(HERE))
 TOUR = os.path.join(TOP, "examples", "tour")
-sys.path[:0] = [os.path.join(TOP, "tools"), TOUR]
-import lessons  # noqa: E402
-import tasks  # noqa: E402
-from lib import program  # noqa: E402
-
 LESSONS = lessons.all_lessons()
 EXERCISES = [(lesson, number) for lesson in LESSONS for number in range(1, lessons.TASKS + 1)]
 LISPM, INSIDE = program.place("lispm", None), program.place("lispm_inside", None)

@@ -4,16 +4,15 @@ import json
 import os
 import shutil
 import subprocess
-import sys
 import unittest
-from typing import Iterator, List, NamedTuple, Optional
+from typing import Any, Callable, Dict, Iterator, List, NamedTuple, Optional, TypeVar
+
+from lib import program
 
 HERE = os.path.dirname(os.path.realpath(__file__))
 TOP = os.path.dirname(os.path.dirname(HERE))
 WEB = os.path.join(TOP, "web")
-sys.path[:0] = [os.path.join(TOP, "tools"), WEB, HERE]
-from lib import program  # noqa: E402
-
+T = TypeVar("T", bound=Callable[..., object])
 has_node = shutil.which("node") is not None
 needs_node = unittest.skipUnless(has_node and os.path.isfile(os.path.join(WEB, "lispm.wasm")), "node isn't there, or web/lispm.wasm")
 
@@ -37,7 +36,7 @@ def built(name: str) -> Optional[str]:
     return path if program.can_run(path) and path != program.on_node(name) else None
 
 
-def needs_program(name: str):
+def needs_program(name: str) -> Callable[[T], T]:
     """Leaves a test out if a program isn't built."""
     return unittest.skipUnless(built(name), f"{name} isn't built")
 
@@ -61,7 +60,7 @@ class Module:
         assert self.node.stdin and self.node.stdout
         self.asked, self.told = self.node.stdin, self.node.stdout
 
-    def ask(self, call: str, given: List[str], data: bytes):
+    def ask(self, call: str, given: List[str], data: bytes) -> Any:
         asked = {"call": call, "given": given, "input": base64.b64encode(data).decode()}
         self.asked.write(json.dumps(asked).encode() + b"\n")
         self.asked.flush()
@@ -76,7 +75,7 @@ class Module:
         self.node.wait()
 
 
-def answer_of(told) -> Answer:
+def answer_of(told: Dict[str, Any]) -> Answer:
     return Answer(told["status"], base64.b64decode(told["output"]))
 
 

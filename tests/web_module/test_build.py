@@ -4,8 +4,8 @@ import shutil
 import subprocess
 import unittest
 
+from lib.scripts import made_from
 from support import TOP, WEB
-import made_from
 
 HAS_TOOLS = shutil.which("rt") and shutil.which("wasm-opt")
 
@@ -25,11 +25,11 @@ def age() -> str:
 
 @unittest.skipUnless(os.path.isfile(made_from.BUILD), "there is no web/BUILD")
 class Build(unittest.TestCase):
-    def test_the_sum_of_the_module(self):
+    def test_the_sum_of_the_module(self) -> None:
         """web/BUILD is that of web/lispm.wasm."""
         self.assertEqual(made_from.read_build()["lispm.wasm"], f"sha256 {made_from.sum_of_file(made_from.MODULE)}")
 
-    def test_the_same_bytes(self):
+    def test_the_same_bytes(self) -> None:
         """web/build makes them again, if the sources are those that web/BUILD names."""
         if made_from.read_build()["sources"] != f"sha256 {made_from.sum_of_sources()}":
             self.skipTest(age())
@@ -44,7 +44,7 @@ class Build(unittest.TestCase):
         ended = subprocess.run([os.path.join(WEB, "build"), "--compare"], stdout=subprocess.PIPE, stderr=subprocess.STDOUT, text=True)
         self.assertEqual(ended.returncode, 0, ended.stdout)
 
-    def test_the_sum_of_the_sources_sees_each(self):
+    def test_the_sum_of_the_sources_sees_each(self) -> None:
         """Another byte in any source gives another sum."""
         found = list(made_from.sources(made_from.CRATE))
         self.assertEqual(len(found), len(set(found)))

@@ -10,14 +10,14 @@ from support import HERE, Answer, WithModule, needs_node
 
 @needs_node
 class Heap(WithModule):
-    def test_blocks_keep_their_bytes(self):
+    def test_blocks_keep_their_bytes(self) -> None:
         """Blocks of random sizes are taken and freed, and none has a byte of another."""
         self.assertEqual(self.module.answer("heap", [], b""), Answer(0, b"20000 blocks"))
 
 
 class Wide(unittest.TestCase):
     @unittest.skipUnless(shutil.which("cc"), "there is no C compiler")
-    def test_wide_numbers(self):
+    def test_wide_numbers(self) -> None:
         """As the processor multiplies and shifts them."""
         with tempfile.TemporaryDirectory() as folder:
             made = os.path.join(folder, "wide_test")

@@ -20,7 +20,7 @@ console.log(machine.version());
 
 @needs_node
 class Calls(WithModule):
-    def test_cases(self):
+    def test_cases(self) -> None:
         """Each case of tests/sessions and of $LISPM_CASES."""
         for folder in FOLDERS:
             found = list(cases(folder))
@@ -28,16 +28,16 @@ class Calls(WithModule):
             for case in found:
                 self.check(case)
 
-    def test_a_session_answers_each_line(self):
+    def test_a_session_answers_each_line(self) -> None:
         answers = [answer_of(told) for told in self.module.ask("split", [], SMALLEST)]
         self.assertEqual(answers, [Answer(0, text) for text in [b""] * 4 + [b"ok\n", b"ok\n", b"5\n", b"", b""]])
 
-    def test_a_stopped_session_answers_nothing(self):
+    def test_a_stopped_session_answers_nothing(self) -> None:
         data = SMALLEST.replace(b"car 2 1", b"car 2 x\ncar 2 1")
         answers = [answer_of(told) for told in self.module.ask("split", [], data)]
         self.assertEqual(answers[6:], [Answer(2, b"error line 7: no register\n")] + [Answer(2, b"")] * 3)
 
-    def test_a_long_answer(self):
+    def test_a_long_answer(self) -> None:
         """A dump of many more bytes than an answer has room for at first."""
         made = b"".join(b"cons 1 work 0 1\n" for _ in range(20000))
         data = SMALLEST.replace(b"dynamic 100", b"dynamic 50000").replace(b"space 16", b"space 100").replace(b"car 2 1\n", made + b"dump\n")
@@ -45,7 +45,7 @@ class Calls(WithModule):
         self.assertEqual((whole.status, whole.output.count(b"\ncons work 5 #")), (0, 20000))
         self.assertEqual(session, whole)
 
-    def test_lines_of_all_lengths(self):
+    def test_lines_of_all_lengths(self) -> None:
         """A line of up to 32,768 bytes is read, and a longer one is refused."""
         for length in (32768, 32769, 32770, 100000):
             data = b"x" * length + b"\n"
@@ -53,13 +53,13 @@ class Calls(WithModule):
             for call in ("run", "session"):
                 self.assertEqual(self.module.answer(call, ["replay"], data), Answer(2, b"error line 1: " + reason + b"\n"))
 
-    def test_no_memory(self):
+    def test_no_memory(self) -> None:
         """With all memory taken a run answers that there is none. It may have no room to write that."""
         found = self.module.answer("full", [], SMALLEST)
         self.assertEqual(found.status, 5)
         self.assertIn(found.output, (b"", b"error: no memory\n"))
 
-    def test_inside(self):
+    def test_inside(self) -> None:
         """The replies, and after them the machine; a page call that fails."""
         found = self.module.answer("inside", [], SMALLEST)
         self.assertEqual((found.status, found.output[:17]), (0, b"ok\nok\n5\nlispm-ins"))
@@ -67,7 +67,7 @@ class Calls(WithModule):
         self.assertEqual(self.module.answer("inside", ["--fail", "2"], data).output[:18], b"ok\nok\nok\nfault\nlis")
         self.assertEqual(self.module.answer("inside", ["--fail", "x"], data), Answer(7, b"error: usage\n"))
 
-    def test_types(self):
+    def test_types(self) -> None:
         """What machine.d.mts declares is there, and the version is that of VERSION."""
         types = read(WEB, "machine.d.mts").decode()
         names = {one: re.findall(r"^  (\w+)\(", types.partition(f"interface {one} ")[2].partition("\n}")[0], re.M) for one in ("Machine", "Session")}

@@ -4,7 +4,7 @@ import shutil
 import subprocess
 import tempfile
 import unittest
-from typing import Dict
+from typing import Dict, Optional, Tuple
 
 from support import TOP, Answer, needs_node
 
@@ -25,7 +25,7 @@ class InPlace(unittest.TestCase):
         os.mkdir(os.path.join(cls.top, "crates"))
         for name in COPIED:
             source, to = os.path.join(TOP, name), os.path.join(cls.top, name)
-            shutil.copytree(source, to) if os.path.isdir(source) else shutil.copy2(source, to)
+            shutil.copytree(source, to, symlinks=True) if os.path.isdir(source) else shutil.copy2(source, to)
         commands = os.path.join(cls.top, "commands")
         os.mkdir(commands)
         for name in ("python3", "sh", "env", "node", "dirname", "git"):
@@ -36,10 +36,10 @@ class InPlace(unittest.TestCase):
     def tearDownClass(cls) -> None:
         shutil.rmtree(cls.top)
 
-    def run_here(self, command: str, *given: str, data: bytes = b"", **more: str):
+    def run_here(self, command: str, *given: str, data: bytes = b"", environment: Optional[Dict[str, str]] = None) -> Tuple[Answer, str]:
         """How a command of the copy ended, and what it said."""
         ended = subprocess.run([os.path.join(self.top, command), *given], input=data, cwd=self.top, stdout=subprocess.PIPE,
-                               stderr=subprocess.PIPE, env={**self.environment, **more})
+                               stderr=subprocess.PIPE, env={**self.environment, **(environment or {})})
         return Answer(ended.returncode, ended.stdout), ended.stderr.decode()
 
     def check(self, part: bytes, command: str, *given: str, data: bytes = b"") -> None:
@@ -51,7 +51,7 @@ class InPlace(unittest.TestCase):
             self.assertIn(SAID, said)
             self.assertLess(said.count(SAID), 3)
 
-    def test_the_tools(self):
+    def test_the_tools(self) -> None:
         self.check(b"    set 0 1                  ok\n", "examples/show", "identity")
         self.check(b"lispm-world 2", "examples/show", "shared.sexpr")
         self.check(b"region", "tools/picture", "examples/identity")
@@ -60,20 +60,20 @@ class InPlace(unittest.TestCase):
         self.check(b'"reply":"t"', "tools/replies", "examples/identity")
         self.check(b"", "examples/tour/run", "1")
 
-    def test_the_stepper(self):
+    def test_the_stepper(self) -> None:
         """Its page has the module in it, so no program is missing."""
         answer, said = self.run_here("tools/stepper", "examples/identity")
         self.assertEqual((answer.status, said), (0, ""))
         self.assertIn(b"</html>", answer.output)
 
-    def test_a_program_that_is_named(self):
+    def test_a_program_that_is_named(self) -> None:
         """Nothing takes its place."""
         for command, given, name in (("tools/picture", ["examples/identity"], "LISPM_INSIDE"), ("examples/show", ["identity"], "LISPM")):
-            answer, said = self.run_here(command, *given, **{name: "/nowhere"})
+            answer, said = self.run_here(command, *given, environment={name: "/nowhere"})
             self.assertEqual(answer.status, 69, said)
             self.assertNotIn(SAID, said)
 
-    def test_without_node(self):
+    def test_without_node(self) -> None:
         """The error says what to do."""
         path = os.path.join(self.top, "commands", "node")
         os.rename(path, path + ".away")

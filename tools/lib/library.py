@@ -1,4 +1,5 @@
 """Finds the machine as a C library, and links a shared object from it. It never proves or builds one."""
+import argparse
 import hashlib
 import os
 import shutil
@@ -11,7 +12,7 @@ from . import program, tool
 BUILT = os.path.join(program.TOP, "crates", "lispm_c", "out", "liblispm.a")
 
 
-def add_option(words) -> None:
+def add_option(words: argparse.ArgumentParser) -> None:
     """Adds the word that names the library: --library PATH, an archive or a shared object; `none` for the program."""
     words.add_argument("--library", metavar="PATH")
 
@@ -25,7 +26,7 @@ def installed() -> str:
 
 
 def find(path: Optional[str] = None) -> Optional[str]:
-    """The library: at `path`, else where LISPM_LIBRARY says, else built here, else installed; None if there is none.
+    """The library: at `path`, else at $LISPM_LIBRARY, else built here, else installed; None if there is none.
     A path that is named must be there."""
     named = path or os.environ.get("LISPM_LIBRARY")
     if named == "none":

@@ -1,7 +1,5 @@
 """The option --trial of a tool: the programs that it runs are compiled from the sources, and unproved."""
 import argparse
-import os
-import sys
 
 from . import program, tool
 
@@ -14,8 +12,7 @@ def find(given: argparse.Namespace, name: str) -> str:
     """The path of the program that the arguments name, or with --trial of the one that the sources compile to."""
     if not given.trial:
         return program.find(name, getattr(given, name))
-    sys.path.insert(0, os.path.join(program.TOP, "bin"))
-    import trial
+    from .scripts import trial
 
     try:
         found = trial.compiled(name)

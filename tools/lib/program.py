@@ -46,11 +46,15 @@ def tell_of_node(name: str) -> None:
         tool.tell(f"{name} isn't built here, so node runs web/lispm.wasm in its place (see web/README.md)")
 
 
+def named(name: str, path: Optional[str]) -> Optional[str]:
+    """The path of a program that the user names: `path`, else the one in LISPM or LISPM_INSIDE."""
+    return path or os.environ.get(name.upper())
+
+
 def place(name: str, path: Optional[str]) -> str:
-    """The path of a program: `path`, else the one that LISPM or LISPM_INSIDE names, else the built one, or what runs in its
-    place on node."""
+    """The path of a program: the one that the user names, else the built one, or what runs in its place on node."""
     built = os.path.join(TOP, "crates", name, "out", name)
-    return path or os.environ.get(name.upper()) or on_node(name) or built
+    return named(name, path) or on_node(name) or built
 
 
 def is_there(name: str, path: Optional[str]) -> bool:
@@ -65,13 +69,13 @@ def find(name: str, path: Optional[str]) -> str:
         shown = os.path.relpath(found, TOP) if found.startswith(TOP) else found
         raise tool.ToolError(f"no program {shown}: build it by `bin/build {name}`, or name it by {OPTIONS[name]} PATH or "
                              f"${name.upper()}; or install node 18 or later", tool.MISSING)
-    if found == on_node(name):
+    if not named(name, path) and found == on_node(name):
         tell_of_node(name)
     return os.path.abspath(found)
 
 
 def run(program: str, words: List[str], data: bytes, seconds: Optional[float] = None) -> Ended:
-    """Runs a program with these words on this standard input, for at most so many seconds."""
+    """Runs a program with these arguments on this standard input, for at most this many seconds."""
     try:
         ended = subprocess.run([program] + words, input=data, stdout=subprocess.PIPE, timeout=seconds)
     except subprocess.TimeoutExpired as late:

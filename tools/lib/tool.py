@@ -7,9 +7,8 @@ A tool is an executable file `tools/NAME` of this form:
 
     What it does. This text is its --help.
     \"\"\"
-    import os
-    import sys
-    sys.path.insert(0, os.path.dirname(os.path.realpath(__file__)))
+    from argparse import Namespace
+
     from lib import tool
 
     def words() -> tool.Words:
@@ -17,28 +16,31 @@ A tool is an executable file `tools/NAME` of this form:
         words.add_argument("input")
         return words
 
-    def main(given) -> int:
+    def main(given: Namespace) -> int:
         print(len(tool.read(given.input)))
         return tool.RIGHT
 
     if __name__ == "__main__":
         tool.run(words(), main)
+
+A script in another folder has the same form. Each folder with scripts has a file `lib.py` that leads to this folder, because
+Python looks for modules in the folder of the script, also if the script was started through a link.
 """
 import argparse
 import os
 import sys
 from typing import Callable, List, NoReturn
 
-RIGHT = 0        # what was asked holds
+RIGHT = 0        # success: the result is as required
 WRONG = 1        # a reply is wrong, an input is refused
-WORDS = 2        # the words of the command line, or a file that they name
+WORDS = 2        # wrong arguments, or a file that they name
 MISSING = 69     # something isn't installed, or isn't built
-STOPPED = 130    # ctrl-C, as a shell tells it
-CLOSED = 141     # the reader of standard output went away, as a shell tells it
+STOPPED = 130    # ctrl-C, as a shell reports it
+CLOSED = 141     # the reader of standard output has closed it, as a shell reports it
 
 
 class ToolError(Exception):
-    """A mistake of the user: it is told as the line `TOOL: CAUSE`, and ends the tool with the status."""
+    """A mistake of the user: it is printed as the line `TOOL: CAUSE`, and ends the tool with the status."""
 
     def __init__(self, cause: str, status: int = WORDS):
         super().__init__(cause)

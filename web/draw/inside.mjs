@@ -7,13 +7,14 @@ export const REGION = 4096;
 export const PAGE = 256;
 
 /** A word of 36 bits: its cdr code, its tag, and what the tag says. `to` is the address that a reference or a forward names. */
-function wordOf(digits, isLeft) {
-  const high = parseInt(digits[0], 16), low = parseInt(digits.slice(1), 16);
-  const word = { digits, code: CODES[high >> 2], left: isLeft };
-  if ((high & 3) === 1) return { ...word, tag: "number", number: low | 0 };
-  const tag = TAGS[low >>> 28], payload = low & 0xfffffff;
-  const isReference = tag === "list" || tag === "block", isForward = tag === "HEADER-FORWARD" || tag === "GC-FORWARD";
-  return { ...word, tag, payload, isReference, isForward, to: isReference || isForward ? payload : undefined };
+function wordOf(digits, left) {
+  const value = parseInt(digits, 16), high = Math.floor(value / 0x100000000), low = value % 0x100000000, code = CODES[high >> 2];
+  if ((high & 3) === 1) return { digits, code, left, tag: "number", number: low | 0, payload: undefined, isReference: false,
+    isForward: false, to: undefined };
+  const tag = TAGS[low >>> 28], payload = low & 0xfffffff, isReference = tag === "list" || tag === "block",
+    isForward = tag === "HEADER-FORWARD" || tag === "GC-FORWARD";
+  return { digits, code, left, tag, number: undefined, payload, isReference, isForward,
+    to: isReference || isForward ? payload : undefined };
 }
 
 const isLeft = words => words[words.length - 1] === "left";

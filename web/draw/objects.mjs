@@ -39,14 +39,15 @@ function bodyAt(machine, address) {
 function colourOf(machine, region, address, words) {
   if (machine.phase === "idle") return "";
   if (region.old) return "white";
-  const own = Array.from({ length: words }, (_, at) => wordAt(machine, address + at));
-  return own.some(word => word?.left) ? "grey" : "black";
+  for (let at = 0; at < words; at++) if (wordAt(machine, address + at)?.left) return "grey";
+  return "black";
 }
 
 function objectAt(machine, region, address) {
   const body = bodyAt(machine, address);
   return { address, area: region.area, level: region.level, old: region.old,
-    colour: colourOf(machine, region, address, body.words), held: false, ...body };
+    colour: colourOf(machine, region, address, body.words), held: false, kind: body.kind, code: body.code, fields: body.fields,
+    words: body.words };
 }
 
 /** The objects to which registers lead are held. */

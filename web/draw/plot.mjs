@@ -1,8 +1,9 @@
-// Accounts, residency and pauses of a session as curves over its commands.
+// Curves over the commands of a session: its accounts, residency and pauses, and a count in several worlds.
 
 import { element, group, rect, text } from "./svg.mjs";
 
 const LINES = ["var(--d-reference,#0072b2)", "var(--d-moved,#b84c00)", "#009e73", "#cc79a7"], BAND = "d-pale";
+const DASHES = ["", "8 3", "3 3", "8 3 2 3"];
 const TICKS = 4;
 
 /** A round step, 1, 2 or 5 times a power of ten, so that about `count` of them fit into a range. */
@@ -33,7 +34,7 @@ function bands(rows) {
   return found;
 }
 
-/** One strip: {title, series: [{name, values, kind}], top, height}. */
+/** One strip: {title, series: [{name, values, kind, dash}], top, height}. The name of a series with `dash` has a sample. */
 function strip(plot, { title, series, top, height }) {
   const { left, width, font, rows, current } = plot, most = Math.max(1, ...series.flatMap(one => one.values)),
     step = roundStep(most, Math.max(2, Math.floor(height / (3 * font))));
@@ -46,13 +47,14 @@ function strip(plot, { title, series, top, height }) {
     pieces.push(element("path", { d: `M${left},${down(tick)}h${width}`, class: "d-grid" }),
       text(left - 0.5 * font, down(tick) + 0.35 * font, tick, "quiet", { "text-anchor": "end" }));
   }
-  series.forEach(({ name, values, kind }, at) => {
-    const colour = LINES[at % LINES.length];
+  series.forEach(({ name, values, kind, dash }, at) => {
+    const colour = LINES[at % LINES.length], right = left + width + 0.8 * font, base = top + (1 + at * 1.4) * font,
+      line = { fill: "none", style: `stroke:${colour}`, "stroke-width": 1.6, "stroke-dasharray": dash };
     if (kind === "bars") pieces.push(element("path", { d: bars(values, across, down, Math.max(1, width / rows.length * 0.8)),
       style: `fill:${colour}` }));
-    else pieces.push(element("path", { d: stepLine(values, across, down), fill: "none", style: `stroke:${colour}`, "stroke-width": 1.6,
-      "stroke-dasharray": kind === "dashed" ? "5 4" : undefined }));
-    pieces.push(text(left + width + 0.8 * font, top + (1 + at * 1.4) * font, name, "", { style: `fill:${colour}` }));
+    else pieces.push(element("path", { d: stepLine(values, across, down), "data-series": name, ...line }));
+    if (dash !== undefined) pieces.push(element("path", { d: `M${right},${base - 0.35 * font}h${2.4 * font}`, ...line }));
+    pieces.push(text(right + (dash === undefined ? 0 : 3 * font), base, name, "", { style: `fill:${colour}` }));
   });
   pieces.push(element("path", { d: `M${across(current)},${top}v${height}`, class: "d-now" }),
     text(left, top - 0.5 * font, title, "head"));
@@ -66,23 +68,36 @@ function axis({ left, width, font, rows }, y) {
     { "text-anchor": "middle" })), text(left + width / 2, y + 2.7 * font, "command", "", { "text-anchor": "middle" })];
 }
 
-/** The curves of rows {charged: [..], reached, scanned, left, collects}, one for each step: {pieces, width, height}. */
-export function plotOf(rows, areas, quotas, given = {}) {
-  const { font, width: wide, current } = { font: 12, width: 800, current: 0, ...given }, left = 5 * font,
-    width = Math.max(12 * font, wide - left - 14 * font);
-  const plot = { left, width, font, rows, current }, tall = 9 * font, low = 5 * font, gap = 2.6 * font;
-  const accounts = areas.map((name, area) => ({ name, values: rows.map(row => row.charged[area]) }));
-  const strips = [{ title: "words charged", series: accounts, height: tall },
-    { title: "words reached (residency)", series: [{ name: "reached", values: rows.map(row => row.reached) }], height: low },
-    { title: "units scanned (pause)", series: [{ name: "scanned", values: rows.map(row => row.scanned), kind: "bars" }],
-      height: low }];
+/** Strips one below the other, {title, series, height}, over rows {collects}: {pieces, width, height}. They fill a height that
+ * is given, if it is more than they need. */
+function stripsOf(strips, rows, given) {
+  const { font, width: wide, current, height } = { font: 12, width: 800, current: 0, height: 0, ...given }, left = 5 * font,
+    width = Math.max(12 * font, wide - left - 14 * font), plot = { left, width, font, rows, current };
+  const gap = 2.6 * font, own = strips.reduce((sum, one) => sum + one.height, 0), other = (strips.length - 1) * gap + 5.4 * font,
+    stretch = Math.max(1, (height - other) / own);
   let top = 2 * font;
   const pieces = strips.map(one => {
-    const piece = strip(plot, { ...one, top });
-    top += one.height + gap;
+    const tall = one.height * stretch, piece = strip(plot, { ...one, height: tall, top });
+    top += tall + gap;
     return piece;
   });
-  return { pieces: [...pieces, ...axis(plot, top - gap)], width: wide, height: top - gap + 3.4 * font };
+  return { pieces: [...pieces, ...axis(plot, top - gap)], width: left + width + 14 * font, height: top - gap + 3.4 * font };
+}
+
+/** The curves of rows {charged: [..], reached, scanned, left, collects}, one for each step: {pieces, width, height}. */
+export function plotOf(rows, areas, given = {}) {
+  const font = given.font ?? 12, accounts = areas.map((name, area) => ({ name, values: rows.map(row => row.charged[area]) }));
+  return stripsOf([{ title: "words charged", series: accounts, height: 9 * font },
+    { title: "words reached (residency)", series: [{ name: "reached", values: rows.map(row => row.reached) }], height: 5 * font },
+    { title: "units scanned (pause)", series: [{ name: "scanned", values: rows.map(row => row.scanned), kind: "bars" }],
+      height: 5 * font }], rows, given);
+}
+
+/** A count after each command, a curve for each value of a size of the world: {title, size, values, rows}. */
+export function chartOf({ title, size, values, rows }, given = {}) {
+  const series = values.map((value, at) => ({ name: `${size} ${value}`, values: rows[at], dash: DASHES[at % DASHES.length] }));
+  return stripsOf([{ title: `${title}, after each command`, series, height: 16 * (given.font ?? 12) }],
+    rows[0].map(() => ({ collects: false })), given);
 }
 
 /** The units that a command scanned, from the machines around it: what was to scan and what was placed, less what remains. */

@@ -4,7 +4,7 @@
 // each row r is the bus r, and one more bus is below the last row. Ways run in gutters and buses alone, each on a lane of its
 // own there, except the short pieces from a box to the gutter or bus beside it.
 //
-// A port is where a way begins or ends: {column, row, side, dx, dy}, with the distances from the left edge of its column and
+// A port is the place at which a way begins or ends: {column, row, side, dx, dy}, with the distances from the left edge of its column and
 // from the upper edge of its row; its side is left, right or bottom. A way is {from, to} and gets `channels`, which it passes in this order.
 
 const ROW = 1e6;    // more than the height of a row, so that places in different rows are ordered before sizes are known

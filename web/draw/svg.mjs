@@ -63,12 +63,14 @@ const head = kind => element("marker", { id: `d-head-${kind}`, viewBox: "0 0 8 8
 const hatching = `<pattern id="d-hatching" width="8" height="8" patternUnits="userSpaceOnUse" patternTransform="rotate(45)">`
   + `<line x1="0" y1="0" x2="0" y2="8" class="d-old"/></pattern>`;
 
-/** A whole drawing: its pieces on a ground, with a title and a description for those who can't see it. */
+/** A whole drawing: its pieces on a ground, with a title and a description for those who can't see it. A drawing in the page
+ * has the page's style and arrow heads: a style of its own would make the browser style the whole page again. */
 export function drawing(width, height, title, told, pieces, options = {}) {
   const { inPage = false, font = 12 } = options;
   const own = inPage ? {} : { xmlns: "http://www.w3.org/2000/svg" };
-  const inner = [element("title", {}, escape(title)), told ? element("desc", {}, escape(told)) : "",
-    `<style>${style(inPage, font)}</style>`, element("defs", {}, hatching + ["reference", "moved", "root"].map(head).join("")),
+  const shared = inPage ? [] : [`<style>${style(false, font)}</style>`,
+    element("defs", {}, hatching + ["reference", "moved", "root"].map(head).join(""))];
+  const inner = [element("title", {}, escape(title)), told ? element("desc", {}, escape(told)) : "", ...shared,
     rect(0, 0, width, height, "d-ground"), ...pieces].filter(Boolean);
   return element("svg", { ...own, class: "d", width, height, viewBox: `0 0 ${short(width)} ${short(height)}`, role: "img" },
     inner.join("\n"));

@@ -14,6 +14,9 @@ export function element(name, attributes = {}, ...children) {
   return made;
 }
 
+/** A text whose parts between backquotes are code, as nodes. */
+export const withCode = text => text.split("`").map((part, at) => at % 2 ? element("code", {}, part) : part);
+
 export const fill = (id, ...children) => at(id).replaceChildren(...children.filter(child => child !== null &&
   child !== undefined));
 

@@ -46,7 +46,7 @@ export class Editor {
     if (this.area.value !== text) this.area.value = text;
   }
 
-  /** Shows replies; those that `hidden` names are asked by the quiz. */
+  /** Shows replies, except those that `hidden` names: the quiz has questions about them. */
   showReplies(session, replies, hidden = () => false) {
     at("editor").style.setProperty("--lines", String(session.lines.length + 1));
     at("replies").textContent = replyLines(session, replies, hidden) + "\n";

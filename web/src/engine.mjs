@@ -1,4 +1,4 @@
-// The machine as the page sees it: promises over the worker, which may be stopped and is then started anew.
+// The machine as the page sees it: promises over the worker, which is started again if it was stopped.
 
 /** The bytes of a text in base 64. */
 function bytesOf(text) {
@@ -58,6 +58,7 @@ export class Engine {
 
   inside(input, given = []) { return this.ask("inside", { input, given }); }
   run(given, input) { return this.ask("run", { input, given }); }
+  sum(input, head) { return this.ask("sum", { input, head }); }
   version() { return this.ask("version", {}); }
   replay(lines, piece) { return this.ask("replay", { lines }, piece); }
 }

@@ -1,6 +1,6 @@
 // A lesson: what is to be seen in it, and its exercises, which are judged by a run.
 
-import { at, element, fill } from "./dom.mjs";
+import { at, element, fill, withCode } from "./dom.mjs";
 import * as tasks from "./task.mjs";
 
 function resultOf(found) {
@@ -27,7 +27,7 @@ function taskPart(task, number, engine, onTry) {
   };
   const conditions = tasks.conditions(task);
   return element("section", { class: "task", "aria-label": `exercise ${number}` }, element("h3", {}, `Exercise ${number}`),
-    element("p", {}, task.text),
+    element("p", {}, ...withCode(task.text)),
     conditions.length ? element("ul", { class: "conditions" }, ...conditions.map(words => element("li", {}, words))) : null,
     element("pre", {}, tasks.shownLines(task).join("\n")), element("p", { class: "small" }, label), area,
     element("p", {}, element("button", { type: "button", onclick: check }, "Check"), " ",

@@ -5,6 +5,7 @@ import * as memory from "../draw/memory.mjs";
 import { objectsOf } from "../draw/objects.mjs";
 import { scanned } from "../draw/plot.mjs";
 import { style } from "../draw/svg.mjs";
+import { counted } from "./charts.mjs";
 import { at, element, fill, letterSize } from "./dom.mjs";
 import { Editor } from "./editor.mjs";
 import { Engine } from "./engine.mjs";
@@ -12,7 +13,7 @@ import { showLesson } from "./lesson.mjs";
 import * as panes from "./panes.mjs";
 import { sentenceOf, spanOf } from "./refused.mjs";
 import { OPENING, sentences } from "./rules.mjs";
-import { Quiz, showCaption, showCommand, showDumped, showQuestion, showRule } from "./said.mjs";
+import { Quiz, saidOfDump, showCaption, showCommand, showDumped, showQuestion, showRule } from "./said.mjs";
 import { common, commandAt, parse, prefix } from "./session.mjs";
 import * as share from "./share.mjs";
 
@@ -24,12 +25,15 @@ const MOST_SLOTS = 4;       // regions of a session up to which each has a place
 const TALL = 1.9;           // width by height of a drawing, below which it is beside the objects in the lecture view
 const LEAST_PLOTTED = 12;   // steps from which the curves are shown
 const MOST_PLANNED = 260;   // steps whose sizes are looked at before, so that nothing moves from step to step
+const LECTURE_LETTER = 0.025;    // height of a letter of the curves in the lecture view, by the view's height
+const FITTING = [1, 0.9, 0.8, 0.7, 0.6, 0.5];    // sizes of the letters of a step's texts
 const KEPT = 300;           // machines that are kept
 
 const library = JSON.parse(at("library").textContent);
 const engine = new Engine(at("worker").textContent, at("module").textContent);
 const page = { session: parse(""), replies: [], step: 0, last: -1, name: "", machines: new Map(), refusal: null, quiz: null,
-  planned: null, rows: null, isBeside: false, isEdit: false, isLongRun: false, isLecture: false, run: 0, shown: 0 };
+  planned: null, rows: null, charts: [], isBeside: false, isEdit: false, isLongRun: false, isLecture: false,
+  isCurves: false, run: 0, shown: 0 };
 let editor, waiting, planning;
 
 // ------------------------------------------------------------------ runs
@@ -47,9 +51,11 @@ function setText(text, wanted) {
   page.quiz = null;
   page.planned = null;
   page.rows = null;
+  page.charts = [];
   page.isLarge = false;
   document.body.classList.remove("large");
   delete document.body.dataset.planned;
+  delete document.body.dataset.charted;
   at("quiz").setAttribute("aria-pressed", "false");
   editor.set(text);
   clearTimeout(waiting);
@@ -101,7 +107,7 @@ function finish(answer, step) {
   editor.showReplies(page.session, page.replies, isHidden);
   at("slider").max = Math.max(0, page.last);
   clearTimeout(planning);
-  planning = setTimeout(plan, page.isEdit ? PAUSE : 0);
+  planning = setTimeout(() => plan().then(makeCharts), page.isEdit ? PAUSE : 0);
   return show(Math.max(0, Math.min(page.last, step ?? page.step)));
 }
 
@@ -164,6 +170,17 @@ async function plan() {
   draw();
 }
 
+/** Makes the charts that the session's comments request. */
+async function makeCharts() {
+  const { session, run: mine, last } = page, found = [];
+  for (const chart of session.charts) found.push(await counted(session, last, chart, engine,
+    () => page.run === mine).catch(() => null));
+  if (page.run !== mine || !found.some(Boolean)) return;
+  page.charts = found.filter(Boolean);
+  await draw();
+  document.body.dataset.charted = String(mine);
+}
+
 /** Whether the drawing of all steps is wider than high enough to be above the objects in the lecture view. */
 function shapeOf({ widths, heights }) {
   const total = map => [...map.values()].reduce((sum, one) => sum + one, 0);
@@ -213,42 +230,73 @@ function showSaid() {
 const isAsking = () => Boolean(page.quiz?.asks(page.step));
 const isHidden = input => Boolean(page.quiz && input.command >= page.step && page.quiz.asks(input.command));
 
-/** Draws the machine of the step. While the quiz asks, the machine before the command is shown. */
+/** Draws the machine of the step. While the quiz asks, the machine before the command is shown. Sizes are read before anything
+ * is drawn, since reading one makes the browser lay out the page. */
 async function draw() {
   const mine = ++page.shown, { step, session } = page, isAsked = isAsking();
   if (page.last < 0) return nothing();
   const number = isAsked ? step - 1 : step;
-  const [machine, before] = await Promise.all([machineAt(number), machineAt(number - 1)]).catch(() => [null, null]);
+  const [machine, before, said] = await Promise.all([machineAt(number), machineAt(number - 1),
+    saidOfDump(isAsked ? [] : session.marks[step], repliesOf(step), engine)]).catch(() => [null, null, ""]);
   if (mine !== page.shown || session !== page.session) return;
   if (!machine) return nothing();
+  document.body.classList.toggle("curves", showsCurves());
+  const wide = { memory: widthOf("memory"), graph: widthOf("graph") }, height = page.isLecture ? at("regions").clientHeight : 0,
+    curves = plotSize(wide.graph);
   const options = { ...view(), fits: page.isLecture, isLarge: page.isLarge, planned: page.planned, isBeside: page.isBeside,
     mostObjects: page.isLecture ? 24 : 40 };
-  panes.showMemory(machine, before, { ...options, width: widthOf("memory"), height: at("regions").clientHeight });
-  panes.showGraph(machine, before, { ...options, width: widthOf("graph") });
-  panes.showPlot(page.rows, session.areas, { ...options, fits: false, width: widthOf("graph"), current: step });
+  if (!showsCurves()) {
+    panes.showMemory(machine, before, { ...options, width: wide.memory, height });
+    panes.showGraph(machine, before, { ...options, width: wide.graph });
+  }
+  panes.showPlot(page.rows, page.charts, session.areas, { ...options, ...curves, current: step });
   panes.showAccounts(machine, before, session.areas);
   panes.showPages(machine, before);
   const input = session.commands[step - 1];
   if (isAsked) showQuestion(input.text, given => answered(step, given));
   else showRule(input?.text, repliesOf(step)[0], before, machine);
-  await showDumped(isAsked ? [] : session.marks[step], repliesOf(step), engine);
+  showDumped(said);
+  fitSaid();
   document.body.dataset.drawn = `${page.run} ${step}`;
+}
+
+/** In the lecture view the texts of a step get smaller letters if they don't fit their pane. */
+function fitSaid() {
+  const pane = at("said");
+  if (!page.isLecture) return pane.style.removeProperty("--fit");
+  for (const size of FITTING) {
+    pane.style.setProperty("--fit", size);
+    if (pane.scrollHeight <= pane.clientHeight + 1) return;
+  }
 }
 
 const widthOf = id => Math.max(200, at(id).clientWidth - 8);
 
+const showsCurves = () => page.isLecture && page.isCurves && Boolean(page.rows || page.charts.length);
+
+/** The size of the curves. If they have the lecture view for themselves, they fill it, with letters as large as the other ones. */
+function plotSize(width) {
+  if (!showsCurves()) return { fits: false, width };
+  at("plot").hidden = false;
+  const pane = at("curves"), scale = Math.max(1, document.querySelector("main").clientHeight * LECTURE_LETTER / page.font);
+  return { fits: true, width: pane.clientWidth / scale, height: pane.clientHeight / scale };
+}
+
 function nothing() {
   at("phase").textContent = "";
+  showDumped("");
   for (const id of ["regions", "drawing", "accounts", "pages", "events"]) fill(id);
   at("rule").textContent = page.refusal ? "" : "A session is a world, the line `trace`, commands, and `end`.";
   at("map").hidden = true;
   document.body.dataset.drawn = `${page.run} none`;
 }
 
+const viewName = () => page.isLecture ? page.isCurves ? "curves" : "lecture" : "";
+
 /** Puts the step into the address. A browser may refuse that if it occurs often. */
 function remember() {
   const own = page.session.text.length < LONGEST_LINK ? page.session.text : "";
-  const address = share.toHash({ name: page.name, text: own, step: page.step, view: page.isLecture ? "lecture" : "" });
+  const address = share.toHash({ name: page.name, text: own, step: page.step, view: viewName() });
   try {
     history.replaceState(null, "", address);
   } catch {
@@ -261,7 +309,7 @@ function remember() {
 function toggleQuiz() {
   page.quiz = page.quiz ? null : new Quiz(page.session, repliesOf);
   at("quiz").setAttribute("aria-pressed", String(Boolean(page.quiz)));
-  at("score").textContent = page.quiz ? "the quiz asks for replies" : "";
+  at("score").textContent = page.quiz ? "predict each reply" : "";
   show(page.quiz ? Math.max(1, page.step) : page.step);
   editor.showReplies(page.session, page.replies, isHidden);
 }
@@ -294,8 +342,10 @@ function own(text, step) {
   return setText(text, step);
 }
 
-function setLecture(is) {
+/** Begins or ends the lecture view, with memory and objects or with the curves of the whole session. */
+function setLecture(is, isCurves = false) {
   page.isLecture = is;
+  page.isCurves = isCurves;
   document.body.classList.toggle("lecture", is);
   at("lecture").setAttribute("aria-pressed", String(is));
   page.planned = null;
@@ -313,7 +363,7 @@ function fillChoice() {
 
 async function openAddress() {
   const said = share.fromHash(location.hash);
-  if (said.view === "lecture") setLecture(true);
+  if (/^(lecture|curves)$/.test(said.view)) setLecture(true, said.view === "curves");
   if (said.text !== null && said.text !== "") return own(said.text, said.step);
   const first = document.body.dataset.session;
   return choose(named(said.name) ? said.name : named(first) ? first : library.sessions[0].name, said.step);
@@ -337,7 +387,7 @@ async function preparePrint() {
     const reply = repliesOf(number), rule = command ? sentences(command.split(" ")[0], reply[0] ?? "",
       before?.phase === "running").join(" ") : OPENING;
     sheets.push(share.printPage({ number, last: page.last, command, reply, caption: session.captions[number] ?? [], machine,
-      before, areas: session.areas, rule }));
+      before, areas: session.areas, rule, font: page.font }));
   }
   fill("print", ...sheets);
 }
@@ -370,6 +420,7 @@ const keys = { ArrowRight: () => page.step + 1, ArrowLeft: () => page.step - 1, 
 function onKey(event) {
   if (event.altKey || event.ctrlKey || event.metaKey) return;
   if (event.key === "Escape" && page.isLecture) return setLecture(false);
+  if (event.key.toLowerCase() === "c" && page.isLecture && !event.target.closest?.("input")) return setLecture(true, !page.isCurves);
   const own = event.target.closest?.("textarea, input[type=text], select, input[type=range], a, [contenteditable]");
   const goes = keys[event.key], isButton = event.target.closest?.("button, summary") && event.key === " ";
   if (!goes || (own && !(own.id === "slider" && /^(Page| )/.test(event.key))) || (isButton && !page.isLecture)) return;

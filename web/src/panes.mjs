@@ -4,7 +4,7 @@ import * as graph from "../draw/graph.mjs";
 import { mapOf } from "../draw/map.mjs";
 import * as memory from "../draw/memory.mjs";
 import { objectsOf } from "../draw/objects.mjs";
-import { plotOf } from "../draw/plot.mjs";
+import { chartOf, plotOf } from "../draw/plot.mjs";
 import { swappedText } from "../draw/picture.mjs";
 import { drawing } from "../draw/svg.mjs";
 import { counted, phaseText } from "../draw/words.mjs";
@@ -111,14 +111,22 @@ function showMap(machine, found, options) {
     "each word of the heap as a point, page by page"), width, options);
 }
 
-/** The curves of the whole session, if there are any. */
-export function showPlot(rows, areas, options) {
-  at("plot").hidden = !rows;
-  if (!rows) return;
-  const { pieces, width, height } = plotOf(rows, areas, [], options);
-  size(showDrawing(at("curves"), drawing(width, height, "Accounts", "", pieces, { inPage: true, font: options.font }),
-    "accounts, residency and units scanned, over the commands"), width, options);
+/** What the whole session shows: its charts, and the curves of its accounts, if there are any. */
+export function showPlot(rows, charts, areas, options) {
+  at("plot").hidden = !rows && !charts.length;
+  const drawn = charts.map(chart => ({ name: chart.title, told: toldChart(chart), ...chartOf(chart, options) }));
+  if (rows && !(charts.length && options.fits)) drawn.push({ name: "Accounts", ...plotOf(rows, areas, options),
+    told: "accounts, residency and units scanned, over the commands" });
+  fill("curves", ...drawn.map(({ name, told, pieces, width, height }) => {
+    const holder = element("div", { class: "drawn" });
+    size(showDrawing(holder, drawing(width, height, name, "", pieces, { inPage: true, font: options.font }), told), width, options);
+    return holder;
+  }));
 }
+
+/** A chart in words: its greatest counts, and where each curve ends. */
+const toldChart = ({ title, size, values, rows }) => `${title}, after each command. ` + values.map((value, at) =>
+  `${size} ${value}: at most ${Math.max(...rows[at])}, at the end ${rows[at][rows[at].length - 1]}`).join("; ");
 
 // ------------------------------------------------------------------ accounts and pages
 

@@ -35,7 +35,7 @@ function range(head, place) {
 /** The kind of the word at a place of a line. */
 const kindAt = (kinds, head, place) => kinds[place - 1] ?? MORE[head];
 
-/** A test for each reason that belongs to one word: whether the word at a place is at fault. */
+/** A test for each reason that belongs to one word: whether the word at a place is wrong. */
 function tests(reason, world, head) {
   const between = (word, [low, high]) => isNumber(word) && Number(word) >= low && Number(word) <= high;
   if (reason === "no register") return (word, kind) => kind === REGISTER && !between(word, [0, world.registers - 1]);

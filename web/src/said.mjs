@@ -1,8 +1,8 @@
-// The texts of a step: its caption, the command, its reply, the rule, and the events. In a quiz the reply is asked first.
+// The texts of a step: its caption, the command, its reply, the rule, and the events. In a quiz the reader first predicts the reply.
 
 import { events } from "./events.mjs";
 import { OPENING, sentences } from "./rules.mjs";
-import { at, element, fill } from "./dom.mjs";
+import { at, element, fill, withCode } from "./dom.mjs";
 
 const MOST_LINES = 40;
 const LONG = 26;        // characters from which a command is written smaller in the lecture view
@@ -18,7 +18,7 @@ export function captionOf(session, step) {
 /** The caption of a step. */
 export function showCaption(session, step) {
   const { parts, isEarlier } = captionOf(session, step);
-  fill("caption", ...parts.map(part => element("p", {}, part)));
+  fill("caption", ...parts.map(part => element("p", {}, ...withCode(part))));
   at("caption").className = isEarlier ? "earlier" : "";
 }
 
@@ -39,7 +39,7 @@ export function showRule(command, reply, before, machine) {
     one.rule ? element("span", { class: "why" }, ` ${one.rule}`) : "")));
 }
 
-/** The quiz: which commands are asked, and which have been answered. */
+/** The quiz: which commands have a question, and which questions have been answered. */
 export class Quiz {
   constructor(session, replies) {
     this.answered = new Map();
@@ -62,7 +62,7 @@ export class Quiz {
   }
 }
 
-/** Asks for the reply of a command; `onAnswer` gets what the reader says. */
+/** Shows the question about the reply to a command; `onAnswer` receives the reader's prediction. */
 export function showQuestion(command, onAnswer) {
   at("command").textContent = command;
   at("reply").textContent = "";
@@ -77,13 +77,17 @@ export function showQuestion(command, onAnswer) {
 }
 
 /** What `lispm census` and `lispm why` write about a dump, if the session's comments request it. */
-export async function showDumped(marks, dump, engine) {
+export async function saidOfDump(marks, dump, engine) {
   const said = [];
   for (const mark of marks ?? []) {
     const [mode, object] = mark.split(" "), { output } = await engine.run(object ? [mode, "--object", object] : [mode],
       dump.join("\n") + "\n");
     said.push(`$ lispm ${mode}${object ? ` --object ${object}` : ""} <DUMP\n${output}`);
   }
-  at("dumped").hidden = !said.length;
-  at("dumped").textContent = said.join("\n");
+  return said.join("\n");
+}
+
+export function showDumped(text) {
+  at("dumped").hidden = !text;
+  at("dumped").textContent = text;
 }

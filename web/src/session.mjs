@@ -3,21 +3,24 @@
 // A line that begins with `;` is a comment, and what follows `;` on a line of a commented session is a remark; the machine
 // reads neither. Comments before a command are its caption, except marks, which only say what the tour shows there.
 
+import { chartOf } from "./charts.mjs";
+
 const MARK = /^(picture|census|why [0-9]+|chart [a-z ]+, [a-z]+( [0-9]+)+)$/;
 const REMARK = / *;.*$/;
 
 const words = line => line.replace(/^;+ ?/, "").trim();
 
-/** The parts of a text: `header` and `commands` with their lines from 0, `captions` by the command that they precede, and
- * what `marks` request of a dump by the command that wrote it. */
+/** The parts of a text: `header` and `commands` with their lines from 0, `captions` by the command that they precede, what
+ * `marks` request of a dump by the command that wrote it, and the `charts` that marks request. */
 export function parse(text) {
-  const lines = text.split("\n"), inputs = [], captions = {}, marks = {};
+  const lines = text.split("\n"), inputs = [], captions = {}, marks = {}, charts = [];
   if (lines[lines.length - 1] === "") lines.pop();
   let isTrace = false, isOver = false, comments = [], commands = 0;
   lines.forEach((line, at) => {
     if (line.startsWith(";") || (line.trim() === "" && lines.some(other => other.startsWith(";")))) {
       if (!MARK.test(words(line))) comments.push(words(line));
       else if (/^(census|why)/.test(words(line))) (marks[commands] ??= []).push(words(line));
+      else charts.push(chartOf(words(line)));
       return;
     }
     const input = { at, text: line.includes(";") ? line.replace(REMARK, "") : line, asked: /; \?$/.test(line) };
@@ -35,8 +38,8 @@ export function parse(text) {
   });
   if (comments.length) captions.ending = caption(comments);
   const header = inputs.slice(0, 1 + inputs.findIndex(input => input.text === "trace"));
-  return { text, lines, inputs, header, commands: inputs.filter(input => input.command), captions, marks, areas: areasOf(header),
-    isWhole: isOver };
+  return { text, lines, inputs, header, commands: inputs.filter(input => input.command), captions, marks,
+    charts: charts.filter(Boolean), areas: areasOf(header), isWhole: isOver };
 }
 
 /** Comments as paragraphs. */

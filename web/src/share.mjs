@@ -6,7 +6,7 @@ import { objectsOf } from "../draw/objects.mjs";
 import { picture } from "../draw/picture.mjs";
 import { drawing } from "../draw/svg.mjs";
 import { phaseText } from "../draw/words.mjs";
-import { element, save } from "./dom.mjs";
+import { element, save, withCode } from "./dom.mjs";
 import { events } from "./events.mjs";
 
 /** What an address says: {text, name, step, view}. */
@@ -54,16 +54,16 @@ export function savePng(moment, areas, name) {
 }
 
 /** A step as a page of the print. */
-export function printPage({ number, last, command, reply, caption, machine, before, areas, rule }) {
-  const layout = memory.layoutOf(machine, before, { areas }), drawn = memory.piecesOf(layout), found = objectsOf(machine),
-    objects = graph.piecesOf(graph.graphOf(found, { areas }));
+export function printPage({ number, last, command, reply, caption, machine, before, areas, rule, font }) {
+  const layout = memory.layoutOf(machine, before, { areas, font }), drawn = memory.piecesOf(layout), found = objectsOf(machine),
+    objects = graph.piecesOf(graph.graphOf(found, { areas, font }));
   const holder = (piece, title) => {
     const made = element("div", { class: "drawn" });
-    made.innerHTML = drawing(piece.width, piece.height, title, "", piece.pieces, { inPage: true });
+    made.innerHTML = drawing(piece.width, piece.height, title, "", piece.pieces, { inPage: true, font });
     return made;
   };
   return element("article", { class: "sheet" }, element("p", { class: "small" }, `step ${number} of ${last}`),
-    ...caption.map(part => element("p", { class: "caption" }, part)),
+    ...caption.map(part => element("p", { class: "caption" }, ...withCode(part))),
     element("p", { class: "line" }, element("strong", {}, command ?? "before the first command"),
       reply.length ? ` \u2192 ${reply.slice(0, 12).join(" | ")}` : ""),
     element("p", {}, rule), element("ul", {}, ...events(before, machine,

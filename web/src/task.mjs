@@ -1,9 +1,9 @@
-// Exercises: a world and a trace in which the reader supplies commands or predicts replies (examples/tour/tasks.py has the
+// Exercises: a world and a trace in which the reader supplies commands or predicts replies (tools/lib/tour/tasks.py has the
 // form of their files). An answer is run, and judged by what is replied.
 
 const BETWEEN = " | ", YOURS = "your commands";
 
-/** A line: its text, what has to come beside it (`?` is asked), and whether it is a comment. */
+/** A line: its text, the required reply (`?` if it is to be predicted), and whether it is a comment. */
 function itemOf(line) {
   if (line.startsWith(";")) return { text: line.slice(1).trim(), beside: null, isComment: true };
   const found = /^(.*?) +; (.*)$/.exec(line);
@@ -105,7 +105,7 @@ async function wholeReplay(lines, engine) {
   return answer.status ? { refused: { line: "", reason: answer.ending.join(" ") } } : { replies };
 }
 
-/** Judges an answer: {wrong: sentences, lines: what came}. An empty `wrong` is a right answer. */
+/** Judges an answer: {wrong: sentences, lines: the replies}. The answer is right if `wrong` is empty. */
 export async function check(task, answer, engine) {
   const given = answerLines(answer), items = filled(task, isPrediction(task) ? [] : given);
   const { refused, replies, machine } = await runOf(items, engine);
@@ -123,7 +123,7 @@ function judgeTold(task, items, replies, machine, given) {
     isRight: sameWords(given[at] ?? "", reply) }));
   const right = lines.filter(line => line.isRight).length,
     wrong = right < lines.length ? [`${right} of ${lines.length} right.`] : [];
-  if (given.length > wanted.length) wrong.push(`There are ${given.length} answers, and ${wanted.length} are asked.`);
+  if (given.length > wanted.length) wrong.push(`There are ${given.length} answers, and ${wanted.length} are required.`);
   return { wrong, lines };
 }
 

@@ -1,6 +1,6 @@
 // Runs the machine in a worker, so that the page answers keys while a long session runs. The page may end it at any time.
 //
-// It gets {id, kind, ..} and posts {id, ..}: `replay` with lines (replies come in pieces), `inside` with an input, `run` with
+// It gets {id, kind, ..} and posts {id, ..}: `replay` with lines (replies arrive in pieces), `inside` with an input, `run` with
 // arguments and an input. The first message has the module's bytes.
 
 import { load } from "../machine.mjs";
@@ -39,8 +39,14 @@ function replay({ id, lines }) {
   return post({ done: true, status: 2, refused: -1, ending: [] });
 }
 
+/** The sum of the numbers on the line of lispm_inside that begins with `head`; null if there is none. */
+function sum({ id, input, head }) {
+  const found = new RegExp(`^${head} (.*)$`, "m").exec(decoder.decode(machine.inside([], input).output));
+  postMessage({ id, sum: found && found[1].split(" ").reduce((sum, word) => sum + (Number(word) || 0), 0) });
+}
+
 const KINDS = {
-  replay,
+  replay, sum,
   inside: ({ id, input, given }) => { const { status, output } = machine.inside(given ?? [],
     input); postMessage({ id, status, output: decoder.decode(output) }); },
   run: ({ id, input, given }) => { const { status, output } = machine.run(given,

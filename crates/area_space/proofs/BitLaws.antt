@@ -46,7 +46,7 @@ clears_bit xs at b =
       some = λ ne z. ne (get_or-set_same xs (at / 64) v 0 b ∙ (ap (λ (n : ℕ). bit_and n (18446744073709551615 - 1 * 2 ^ (at % 64) % 18446744073709551616)) z ∙ and_zero_l (18446744073709551615 - 1 * 2 ^ (at % 64) % 18446744073709551616)));
     }
 
--- a bit that is 1 stands in a word that isn't 0, and there is such a word
+-- a bit that is 1 is in a word that isn't 0, and there is such a word
 pub bit_in : (xs : List ℕ) (at : ℕ) → bit_of xs at ≡ 1 → slice_index xs (at / 64) ≢ 0
 bit_in xs at e = λ z. let x : bit_of xs at ≡ bit_at 0 (at % 64) = ap (λ (n : ℕ). bit_at n (at % 64)) z in let y = bit_at-zero (at % 64) in omega arith
 

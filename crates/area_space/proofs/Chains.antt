@@ -36,7 +36,7 @@ packed_raise old new h [] p = tt
 packed_raise old new h (r ∷ []) p = tt
 packed_raise old new h (r ∷ s ∷ rs) p = (let a = h r in let b = p.0 in omega arith, packed_raise old new h (s ∷ rs) p.1)
 
--- packed with the same used words where the chain's regions are
+-- packed with the same used words, if those of the chain's regions are the same
 pub packed_same : (old new : List ℕ) (xs : List ℕ) → ((r : ℕ) → Has r xs → slice_index old r ≡ slice_index new r) → IsPacked old xs → IsPacked new xs
 packed_same old new [] h p = tt
 packed_same old new (r ∷ []) h p = tt
@@ -113,7 +113,7 @@ any_joined (xs ∷ rest) zero q m = list_any-append (eqb q) xs (joined rest) ∙
 any_joined (xs ∷ rest) (suc c) q m =
     list_any-append (eqb q) xs (joined rest) ∙ (ap (λ (b : Bool). list_any (eqb q) xs || b) (any_joined rest c q m) ∙ or-true (list_any (eqb q) xs))
 
--- where every region below n is in a chain, the chains have n regions together, or more
+-- if every region below n is in a chain, the chains have n regions together, or more
 pub covered : (all : List (List ℕ)) (n : ℕ) → ((q : ℕ) → q < n → (c : ℕ) × Contains (slice_index_or all c []) q) → n ≤ total (λ c. length (slice_index_or all c [])) (length all)
 covered all n h =
     let l = le-length_from_below (joined all) n (λ q b. any_joined all (h q b).0 q (h q b).1) in

@@ -59,7 +59,7 @@ words_small t v =
     let few = v.few_areas in
     omega arith
 
--- the class of the place has so many used words more
+-- the class of the place has this many used words more
 pub words_extended : (t : Table) (slot at words : ℕ) → IsTable t → IsEnd t slot at words → words_of_class (extended t at words) (live slot) ≡ words_of_class t (live slot) + words
 words_extended t slot at words v e =
     let held = end_in_chain t slot at words e in

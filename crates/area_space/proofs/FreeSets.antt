@@ -31,7 +31,7 @@ first_is_lowest set c r h first =
     below [] a e q m low = absurd (omega (arith, m.1))
     below (x ∷ xs) a e q m low = (let same : x ≡ r = cc in let l = ascending_first x xs a q (has_from_contains q (x ∷ xs) m.0 m.1 m.2) in omega arith)
 
--- where the set has none, no region is free
+-- if the set is empty, no region is free
 pub none_is_free : (set : PageList) (c : Chains) → HoldsFree set c → first_of set.pages ≡ None → (r : ℕ) → r < c.nodes → IsFree c r → ⊥
 none_is_free set c h first r low free = empty set.pages first ((h.members r).1 (low, free))
   where
@@ -97,7 +97,7 @@ holds_released set more c l r sound held h d =
       );
     }
 
--- the regions of a chain are put behind those of another
+-- the regions of a chain are put after those of another
 pub holds_moved : (set : PageList) (c : Chains) (to from : ℕ) → to < length c.lists → from < length c.lists → to ≢ from → HoldsFree set c
     → HoldsFree set (with_list (with_list c from []) to (list_at c to ++ list_at c from))
 holds_moved set c to from bt bf ne h =
@@ -136,7 +136,7 @@ empties zero c = refl
 empties (suc n) zero = refl
 empties (suc n) (suc c) = empties n c
 
--- where no chain has a region, all are free
+-- if no chain has a region, all are free
 pub holds_all : (set more : PageList) (regions lists : ℕ) → 0 < regions → set ≡ record { count = regions; pages = [] } → Adds set more 0 (regions - 1)
     → HoldsFree more (record { nodes = regions; lists = replicate lists [] })
 holds_all set more regions lists some is d =

@@ -67,7 +67,7 @@ freeing_more t now next slot r f v low first e =
     } in
     subst (λ (w : Table). IsFreeing t w slot) (sym e) whole
 
--- what is left to be released gets less
+-- fewer regions remain to be released
 pub freeing_less : (now next : Table) (slot r : ℕ) → IsTable now → slot < slots_of now → first_of (chain now (stale slot)) ≡ Some r → next ≡ released now slot r
     → length (chain next (stale slot)) < length (chain now (stale slot))
 freeing_less now next slot r v low first e =

@@ -1,4 +1,4 @@
--- What always holds of a table outlasts a flip: what was live in a slot is handed to its old class.
+-- What always holds of a table outlasts a flip: what was live in a slot moves to its old class.
 use Rattle.std.proofs.Common.{◌≡◌, ℕ, ◌+◌, ◌*◌, ◌/◌, ◌<◌, ◌≤◌, Bool, true, false, eqb, Some, None, List, [], length, slice_index, refl, sym, ◌∙◌, ap, subst, arith, inl, inr}
 use Rattle.std.specs.Prelude.{Contains, ◌⊎◌, not}
 use Rattle.std.specs.List.{IsDistinct}
@@ -87,7 +87,7 @@ module _ (t n : Table) (what : Condemn) (v : IsTable t) (young : (region : ℕ) 
         | inr past ↦ inr (barren_past u (2 * slots_of t) class (f.sizes.chains ∙ v.chains_size) (f.sizes.charges ∙ v.charges_size) (f.sizes.husks ∙ v.husks_size) (omega arith))
       ]
 
-  -- a chain has a property where the empty one and those before have it
+  -- a chain has a property if the empty one and those before have it
   each : (P : List ℕ → Type 0) → P [] → ((c : ℕ) → P (chain t c)) → (class : ℕ) → P (chain u class)
   each P none was class = elim (fate class) [
     | inl h ↦ subst P (sym h.chains) (was (live (class / 2)))

@@ -1,4 +1,4 @@
--- The room rule outlasts every call, and there is a place where it holds.
+-- The room rule outlasts every call, and if it holds there is a place.
 use Rattle.std.proofs.Common.{◌≡◌, ℕ, ◌+◌, ◌*◌, ◌/◌, ◌<◌, ◌≤◌, Option, Some, None, List, [], ◌∷◌, refl, sym, ◌∙◌, ap, subst, arith, inl, inr}
 use Rattle.std.proofs.lemmas.Bool.{cases_lt}
 use Rattle.index_lists.specs.Chains.{last_of}
@@ -47,7 +47,7 @@ pub sound_after : (first last : Table) (calls : List Call) → IsTable first →
 sound_after first last [] v e = subst IsTable (sym e) v
 sound_after first last (call ∷ calls) v (next, may, one, rest) = sound_after next last calls (sound_stays call first next may one v) rest
 
--- the used end of the last region, where the words fit behind it
+-- the used end of the last region, if the words fit after it
 end_behind : (t : Table) (slot r words : ℕ) → slot < slots_of t → last_of (chain t (live slot)) ≡ Some r → 0 < words → used_of t r + words ≤ 4096 → IsEnd t slot (4096 * r + used_of t r) words
 end_behind t slot r words low last some fits =
     let e : (4096 * r + used_of t r) / 4096 ≡ r = omega arith in

@@ -1,4 +1,4 @@
--- What the fields say after a change, from what the value says.
+-- What holds of the fields after a change, from what holds of the value.
 use Rattle.std.proofs.Common.{◌≡◌, ℕ, ◌+◌, ◌*◌, ◌<◌, ◌≤◌, Some, List, [], ◌∷◌, ◌++◌, slice_index, slice_set, sym, ◌∙◌, ap, subst, arith}
 use Rattle.std.specs.Prelude.{Option}
 use Rattle.lisp_graph.specs.declared.command.Condemn.{Condemn}

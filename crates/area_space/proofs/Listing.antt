@@ -67,7 +67,7 @@ ascending_from a (x ∷ y ∷ ys) f = (omega (arith, f.1.0), ascending_from (x +
 pub ascending_listed : (p : ℕ → Bool) (a n : ℕ) → IsAscending (listed p a n)
 ascending_listed p a n = ascending_from a (listed p a n) (from_listed p a n)
 
--- the lowest that passes comes first
+-- the lowest that passes is the first
 pub first_listed : (p : ℕ → Bool) (a n q : ℕ) → a ≤ q → q < a + n → p q ≡ true → ((r : ℕ) → r < q → p r ≡ false) → first_of (listed p a n) ≡ Some q
 first_listed p a zero q low high e least = absurd (omega arith)
 first_listed p a (suc n) q low high e least =

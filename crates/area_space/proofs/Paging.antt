@@ -11,7 +11,7 @@ use Rattle.area_space.specs.Bits.{bit_of, pages_of, IsPages, SetsBit, ClearsBit}
 use Rattle.area_space.specs.PageList.{PageList, Adds, Drops}
 use Rattle.index_lists.proofs.Members.{contains_from_has, has_from_contains}
 
--- a page is listed where its bit is 1
+-- a page is listed if its bit is 1
 pub listed_bit : (bits : List ℕ) (count page : ℕ) → Contains (pages_of bits count) page → bit_of bits page ≡ 1
 listed_bit bits count page m = (let h = has_listed (λ q. bit_of bits q == 1) 0 count page (has_from_contains page (pages_of bits count) m.0 m.1 m.2) in eqb-true (bit_of bits page) 1 h.2)
 

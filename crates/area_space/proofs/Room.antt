@@ -37,7 +37,7 @@ block_sum len used h a p = go h
         let i = go n in
         omega arith
 
--- one region more fits the area's share, where the last region of the chain is more than half full
+-- one more region fits the area's share, if the last region of the chain is more than half full
 pub fits_share : (t : Table) (area level : ℕ) → IsTable t → level < levels_of t
     → ((r : ℕ) → last_of (chain t (live (slot_of t area level))) ≡ Some r → 2048 < used_of t r)
     → words_of_area t area ≤ 2 * quota_of t area

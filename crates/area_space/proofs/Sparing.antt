@@ -20,7 +20,7 @@ use Rattle.area_space.proofs.Deciding.{half_cases, old_or_not}
 use Rattle.area_space.proofs.UsedWords.{freed_live_words}
 use Rattle.area_space.proofs.Handing.{none_in, IsBarren, barren_past}
 
--- a class after a reclaim: as it was where it is live
+-- a class after a reclaim: unchanged if it is live
 record IsSpared (t u : Table) (class : ℕ) : Type 0 where
   pub kind : class ≡ live (class / 2)
   pub chains : chain u class ≡ chain t class

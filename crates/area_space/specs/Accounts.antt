@@ -12,6 +12,6 @@ debt t class = slice_index t.charges class + slice_index t.husks class
 abbrev pub account_of : Table → ℕ → ℕ
 account_of t area = block (both (debt t)) (levels_of t) area
 
--- the charges and the husks of the live classes of a level, over all areas
+-- the charges and the husks of the live classes of a level, in all areas
 abbrev pub level_total : Table → ℕ → ℕ
 level_total t level = total (λ area. debt t (live (slot_of t area level))) (areas_of t)

@@ -26,7 +26,7 @@ pub record ClearsBit (old new : List ℕ) (at : ℕ) : Type 0 where
   pub words : (word : ℕ) → word ≢ at / 64 → slice_index new word ≡ slice_index old word
   pub some : slice_index new (at / 64) ≢ 0 → slice_index old (at / 64) ≢ 0
 
--- a bit of the upper level is 1 exactly where a word of the lower is not 0, and no bit from count on is
+-- a bit of the upper level is 1 if and only if a word of the lower is not 0, and no bit from count on is 1
 pub record IsPages (lower upper : List ℕ) (count : ℕ) : Type 0 where
   pub few : count ≤ 16384
   pub lower_size : count ≤ 64 * length lower

@@ -1,4 +1,4 @@
--- How charges change where words are committed or become a husk.
+-- How charges change when words are committed or become a husk.
 use Rattle.std.specs.Prelude.{◌≡◌, ℕ, ◌+◌, ◌-◌, ◌/◌, ◌<◌, ◌≤◌, true, slice_index, slice_set}
 use Rattle.area_space.specs.declared.classes.Origin.{Origin}
 use Rattle.area_space.specs.declared.classes.Origin.TheVariants.{New, Moved, Reserve}
@@ -6,11 +6,11 @@ use Rattle.area_space.specs.Table.{Table, levels_of, slot_of, live, stale, quota
 use Rattle.area_space.specs.Accounts.{account_of}
 use Rattle.area_space.specs.Places.{extended}
 
--- a class is charged so many words more
+-- a class is charged this many words more
 abbrev pub charged : Table → ℕ → ℕ → Table
 charged t class amount = record t { charges = slice_set t.charges class (slice_index t.charges class + amount) }
 
--- a class is charged so many words less
+-- a class is charged this many words less
 abbrev pub discharged : Table → ℕ → ℕ → Table
 discharged t class amount = record t { charges = slice_set t.charges class (slice_index t.charges class - amount) }
 
@@ -18,7 +18,7 @@ discharged t class amount = record t { charges = slice_set t.charges class (slic
 abbrev pub husked : Table → ℕ → ℕ → Table
 husked t class words = record t { charges = slice_set t.charges class (slice_index t.charges class - words); husks = slice_set t.husks class (slice_index t.husks class + words) }
 
--- where a charge may come from: the quota of the area, or an old class of the area that has so much
+-- a charge may have this origin: it fits the quota of the area, or an old class of the area is charged at least as much, or it is 0
 abbrev pub AllowsOrigin : Table → ℕ → ℕ → Origin → Type 0
 AllowsOrigin t slot charge New = account_of t (slot / levels_of t) + charge ≤ quota_of t (slot / levels_of t)
 AllowsOrigin t slot charge (Moved from) = (from.stale ≡ true) × (from.area ≡ slot / levels_of t) × (from.level < levels_of t) × (charge ≤ slice_index t.charges (stale (slot_of t from.area from.level)))

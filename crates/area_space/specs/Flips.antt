@@ -1,4 +1,4 @@
--- What a flip does to the classes, and where survivors stand.
+-- What a flip does to the classes, and the levels of survivors.
 use Rattle.std.specs.Prelude.{if◌then◌else◌, ◌≡◌, ◌≢◌, ℕ, ◌+◌, ◌-◌, ◌/◌, ◌%◌, ◌<◌, ◌≤◌, Bool, true, false, not, ◌&&◌, ◌==◌, nat_lt, Option, Some, None, List, [], ◌++◌, length, slice_index, slice_set, Contains}
 use Rattle.std.specs.Int.{bit_at}
 use Rattle.lisp_graph.specs.declared.command.Condemn.{Condemn}
@@ -47,7 +47,7 @@ condemns t what slot = not (kind_is_static (kind_of t (slot / levels_of t))) && 
 abbrev pub begun : Table → Condemn → Table
 begun t what = record t { aim = Some what; last = None; pages = []; placed = 0 }
 
--- the classes of one slot: what is live is put behind what is old
+-- the classes of one slot: what is live is added after what is old
 abbrev pub made_old : Table → ℕ → Table
 made_old t slot = record t {
   chains = slice_set (slice_set t.chains (live slot) []) (stale slot) (chain t (stale slot) ++ chain t (live slot));
@@ -55,19 +55,19 @@ made_old t slot = record t {
   husks = slice_set (slice_set t.husks (stale slot) (slice_index t.husks (stale slot) + slice_index t.husks (live slot))) (live slot) 0;
 }
 
--- the flip mark of a region: its used end where it is live, else 0
+-- the flip mark of a region: its used end if it is live, else 0
 pub record IsFlipMark (t : Table) (region mark : ℕ) : Type 0 where
   pub alive : (slot : ℕ) → Contains (chain t (live slot)) region → mark ≡ used_of t region
   pub old : IsOld t region → mark ≡ 0
   pub free : IsUnclassed t region → mark ≡ 0
 
--- one slot is condemned where it should be, and nothing else has changed
+-- one slot is flipped if it is condemned, and nothing else has changed
 pub record FlipsSlot (old new : Table) (what : Condemn) (slot : ℕ) : Type 0 where
   pub same : new ≡ record old { chains = new.chains; charges = new.charges; husks = new.husks }
   pub here : state_of new slot ≡ after_flip (condemns old what slot) (state_of old slot)
   pub others : (k : ℕ) → k ≢ slot → state_of new k ≡ state_of old k
 
--- the lists of a table are as long as before
+-- the lists of a table have the same lengths as before
 pub record SameSizes (old new : Table) : Type 0 where
   pub chains : length new.chains ≡ length old.chains
   pub charges : length new.charges ≡ length old.charges
@@ -82,13 +82,13 @@ pub record Condemns (old new : Table) (what : Condemn) : Type 0 where
   pub slots : (slot : ℕ) → slot < slots_of old → state_of new slot ≡ after_flip (condemns old what slot) (state_of old slot)
   pub marks : (region : ℕ) → region < old.regions → IsFlipMark new region (slice_index new.marks region)
 
--- the slots below a number are flipped, the others are not yet
+-- the slots below a number are flipped, the others aren't yet
 pub record IsFlipping (old now : Table) (what : Condemn) (below : ℕ) : Type 0 where
   pub same : now ≡ record old { chains = now.chains; charges = now.charges; husks = now.husks; aim = Some what; last = None; pages = []; placed = 0 }
   pub done : (slot : ℕ) → slot < below → state_of now slot ≡ after_flip (condemns old what slot) (state_of old slot)
   pub rest : (slot : ℕ) → below ≤ slot → state_of now slot ≡ state_of old slot
 
--- where the survivors of a level stand
+-- the level of the survivors of a level
 abbrev pub survivor_of : Option Condemn → ℕ → ℕ → ℕ
 survivor_of (Some (Chosen s)) top level = if nat_lt level top then level + 1 else 0
 survivor_of _ top level = 0

@@ -4,7 +4,7 @@ use Rattle.index_lists.specs.Chains.{without}
 use Rattle.area_space.specs.Table.{Table, slots_of, stale, chain, used_of, mark_of, IsOld}
 use Rattle.area_space.specs.Flips.{Slot, state_of, SameSizes}
 
--- what was old is gone
+-- the old class of the slot is empty
 abbrev pub emptied : Slot → Slot
 emptied s = record s { old_chain = []; old_charge = 0; old_husk = 0 }
 
@@ -15,14 +15,14 @@ forgiven t slot = record t { charges = slice_set t.charges (stale slot) 0; husks
 abbrev pub released : Table → ℕ → ℕ → Table
 released t slot r = record t { chains = slice_set t.chains (stale slot) (without r (chain t (stale slot))); used = slice_set t.used r 0; marks = slice_set t.marks r 0 }
 
--- nothing is used of a region, and nothing was
+-- no word of a region is used, nor was at the flip
 abbrev pub IsBare : Table → ℕ → Type 0
 IsBare t r = (used_of t r ≡ 0) × (mark_of t r ≡ 0)
 
 abbrev pub SameUse : Table → Table → ℕ → Type 0
 SameUse old new r = (used_of new r ≡ used_of old r) × (mark_of new r ≡ mark_of old r)
 
--- the old class of one slot is being freed: what is left of its chain is at the chain's end
+-- the old class of one slot is being freed: the rest of its chain is the end of the old chain
 pub record IsFreeing (old now : Table) (slot : ℕ) : Type 0 where
   pub same : now ≡ record old { chains = now.chains; charges = now.charges; husks = now.husks; used = now.used; marks = now.marks }
   pub here : state_of now slot ≡ record (emptied (state_of old slot)) { old_chain = chain now (stale slot) }

@@ -13,7 +13,7 @@ quotas_in rules = map (λ (rule : AreaRule). rule.quota) rules
 abbrev pub kinds_in : List AreaRule → List AreaKind
 kinds_in rules = map (λ (rule : AreaRule). rule.kind) rules
 
--- how many regions an area with this quota may come to have
+-- how many regions an area with this quota may have
 abbrev pub share_of : ℕ → ℕ → ℕ
 share_of top quota = (quota + 1023) / 1024 + 2 * (top + 1)
 

@@ -1,4 +1,4 @@
--- What a memory and a table have to do with each other.
+-- The relation of a memory and a table.
 use Rattle.std.specs.Prelude.{◌≡◌, ℕ, ◌*◌, ◌/◌, ◌%◌, ◌<◌, ◌≤◌, Some, length, slice_get, slice_index, slice_set, Contains}
 use Rattle.store_word.specs.Words.{Parts, address_of, null_word}
 use Rattle.mem_port.specs.Store.{Store}
@@ -21,11 +21,11 @@ NamesNoFree s t = (at to : ℕ) (word : Parts) → slice_get s.words at ≡ Some
 abbrev pub NamesNoOld : Store → Table → Type 0
 NamesNoOld s t = (at to : ℕ) (word : Parts) → (IsOld t (at / 4096) → ⊥) → slice_get s.words at ≡ Some word → address_of word.content ≡ Some to → IsOld t (to / 4096) → ⊥
 
--- the level of one region is another
+-- one region has another level
 abbrev pub with_level : Store → ℕ → ℕ → Store
 with_level s region level = record s { levels = slice_set s.levels region level }
 
--- the words of the old regions below a number are NULL, and their pages have no marks; the rest stays
+-- the words of the old regions below a number are NULL, and their pages have no marks; all else is unchanged
 pub record ClearsOld (old new : Store) (t : Table) (below : ℕ) : Type 0 where
   pub size : length new.words ≡ length old.words
   pub null : (at : ℕ) → IsOld t (at / 4096) → at / 4096 < below → at < length old.words → slice_get new.words at ≡ Some null_word

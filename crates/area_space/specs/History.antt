@@ -1,4 +1,4 @@
--- Calls one after another, and a place for so many words.
+-- Calls one after another, and a place for words after them.
 use Rattle.std.specs.Prelude.{◌≡◌, ◌⊎◌, ℕ, ◌+◌, ◌*◌, ◌<◌, ◌≤◌, Some, List, [], ◌∷◌, slice_index}
 use Rattle.index_lists.specs.Chains.{last_of}
 use Rattle.lisp_graph.specs.declared.command.Condemn.{Condemn}
@@ -12,17 +12,17 @@ use Rattle.area_space.specs.Frees.{Frees}
 
 -- a call that changes a table
 pub data Call : Type 0 where
-  -- a place for so many words in an area at a level, for which a region is opened
+  -- a place for this many words in an area at a level, for which a region is opened
   Open : (area level words region : ℕ) → Call
   Commit : (slot at words charge : ℕ) (origin : Origin) → Call
   Husk : (slot words : ℕ) → Call
   Flip : (what : Condemn) → Call
   Reclaim : Call
-  -- what is to be scanned, or the latest transport, is noted
+  -- a page to be scanned, or the latest transport, is noted
   Note : Call
 
--- a region is opened only for words within twice the area's quota, where they don't fit behind the
--- last region of the chain, and it was free
+-- a region is opened only for words within twice the area's quota, if they don't fit after the
+-- used end of the last region of the chain, and it was free
 pub record AllowsOpening (t : Table) (area level words region : ℕ) : Type 0 where
   pub area_in : area < areas_of t
   pub level_in : level < levels_of t
@@ -32,7 +32,7 @@ pub record AllowsOpening (t : Table) (area level words region : ℕ) : Type 0 wh
   pub inside : region < t.regions
   pub free : IsUnclassed t region
 
--- what a call asks of the table on which it is made
+-- what a call requires of the table on which it is made
 abbrev pub Allows : Table → Call → Type 0
 Allows t (Open area level words region) = AllowsOpening t area level words region
 Allows t (Commit slot at words charge origin) = IsEnd t slot at words × AllowsOrigin t slot charge origin
@@ -41,7 +41,7 @@ Allows t (Flip what) = (region : ℕ) → IsOld t region → ⊥
 Allows t Reclaim = Unit {0}
 Allows t Note = Unit {0}
 
--- what one call leaves
+-- what one call changes
 abbrev pub Leads : Call → Table → Table → Type 0
 Leads (Open area level words region) old new = new ≡ opened old (live (slot_of old area level)) region
 Leads (Commit slot at words charge origin) old new = new ≡ record (committed old slot at words charge origin) { pages = new.pages }
@@ -50,11 +50,11 @@ Leads (Flip what) old new = Condemns old new what
 Leads Reclaim old new = Frees old new
 Leads Note old new = new ≡ record old { last = new.last; pages = new.pages }
 
--- what some calls leave, one after another, each made as it may be
+-- what some calls change, one after another, each made as it may be
 abbrev pub LeadsThrough : List Call → Table → Table → Type 0
 LeadsThrough [] first last = last ≡ first
 LeadsThrough (call ∷ calls) first last = (next : Table) × Allows first call × Leads call first next × LeadsThrough calls next last
 
--- there is a place for so many words: behind the last region of the live chain, or in a free region
+-- there is a place for this many words: at the used end of the last region of the live chain, or in a free region
 abbrev pub HasPlace : Table → ℕ → ℕ → Type 0
 HasPlace t slot words = ((at : ℕ) × IsEnd t slot at words) ⊎ ((region : ℕ) × (region < t.regions) × IsUnclassed t region)

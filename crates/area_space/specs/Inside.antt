@@ -14,7 +14,7 @@ table_of a = record { regions = a.chains.nodes; top = a.top; quotas = a.quotas.i
 abbrev pub HasAccounts : List ℕ → Table → Type 0
 HasAccounts debts t = (length debts ≡ areas_of t) × ((area : ℕ) → area < areas_of t → slice_index debts area ≡ account_of t area)
 
--- a table, and what its fields say apart from it
+-- a table, and what its other fields have to be
 pub record TableInvariant (t : Table) (regions areas count : ℕ) (free : PageList) (debts : List ℕ) : Type 0 where
   pub table : IsTable t
   pub regions_is : regions ≡ t.regions

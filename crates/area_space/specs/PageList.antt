@@ -12,13 +12,13 @@ IsAscending [] = Unit {0}
 IsAscending (x ∷ []) = Unit {0}
 IsAscending (x ∷ y ∷ ys) = (x < y) × IsAscending (y ∷ ys)
 
--- the set has the pages of another, and those from one page to another too
+-- the set has the pages of another, and all pages from one to another too
 pub record Adds (old new : PageList) (from to : ℕ) : Type 0 where
   pub count : new.count ≡ old.count
   pub ascending : IsAscending new.pages
   pub members : (page : ℕ) → Contains new.pages page ↔ (Contains old.pages page ⊎ ((from ≤ page) × (page ≤ to)))
 
--- the set has the pages of another but for one
+-- the set has the pages of another, except one
 pub record Drops (old new : PageList) (gone : ℕ) : Type 0 where
   pub count : new.count ≡ old.count
   pub ascending : IsAscending new.pages

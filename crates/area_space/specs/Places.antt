@@ -1,9 +1,9 @@
--- Where objects are placed, and what opening a region and committing words do to a table.
+-- The places of objects, and what opening a region and committing words do to a table.
 use Rattle.std.specs.Prelude.{◌≡◌, ℕ, ◌+◌, ◌*◌, ◌/◌, ◌<◌, ◌≤◌, Some, [], ◌∷◌, ◌++◌, slice_set}
 use Rattle.index_lists.specs.Chains.{last_of}
 use Rattle.area_space.specs.Table.{Table, slots_of, live, chain, used_of}
 
--- a place is the used end of the last region of a live chain, and so many words fit there
+-- a place is the used end of the last region of a live chain, and this many words fit there
 pub record IsEnd (t : Table) (slot at words : ℕ) : Type 0 where
   pub inside : slot < slots_of t
   pub last : last_of (chain t (live slot)) ≡ Some (at / 4096)
@@ -14,6 +14,6 @@ pub record IsEnd (t : Table) (slot at words : ℕ) : Type 0 where
 abbrev pub opened : Table → ℕ → ℕ → Table
 opened t class region = record t { chains = slice_set t.chains class (chain t class ++ region ∷ []) }
 
--- the used end of the region of a place has moved by so many words
+-- the used end of the region of a place has moved past this many words
 abbrev pub extended : Table → ℕ → ℕ → Table
 extended t at words = record t { used = slice_set t.used (at / 4096) (used_of t (at / 4096) + words); placed = t.placed + words }

@@ -1,4 +1,4 @@
--- How many regions each area may come to have, and that there are enough.
+-- How many regions each area may have, and that there are enough.
 use Rattle.std.specs.Prelude.{ℕ, ◌+◌, ◌*◌, ◌/◌, ◌<◌, ◌≤◌, List, [], ◌∷◌, length, slice_index}
 use Rattle.lisp_graph.specs.Totals.{total}
 use Rattle.area_space.specs.Sums.{block, both}
@@ -23,7 +23,7 @@ words_of_area t area = block (both (words_of_class t)) (levels_of t) area
 abbrev pub regions_of_area : Table → ℕ → ℕ
 regions_of_area t area = block (both (regions_of_class t)) (levels_of t) area
 
--- how many regions an area may come to have: one for each 1,024 words of its quota, rounded up, and
+-- how many regions an area may have: one for each 1,024 words of its quota, rounded up, and
 -- two for each level
 abbrev pub share : Table → ℕ → ℕ
 share t area = (quota_of t area + 1023) / 1024 + 2 * levels_of t
@@ -32,7 +32,7 @@ share t area = (quota_of t area + 1023) / 1024 + 2 * levels_of t
 abbrev pub RoomRule : Table → Type 0
 RoomRule t = total (share t) (areas_of t) ≤ t.regions
 
--- every region of a chain but the last has more than 2,048 used words
+-- every region of a chain except the last has more than 2,048 used words
 abbrev pub IsPacked : List ℕ → List ℕ → Type 0
 IsPacked used [] = Unit {0}
 IsPacked used (r ∷ []) = Unit {0}

@@ -20,14 +20,14 @@ pub record IsTable (t : Table) : Type 0 where
   pub marks_size : length t.marks ≡ t.regions
   -- no region is in two places
   pub sound : IsSound (lists_of t)
-  -- a region has 4,096 words, and nothing is used of a free one
+  -- a region has 4,096 words, and no word of a free one is used
   pub full : (region : ℕ) → used_of t region ≤ 4096
   pub blank : (region : ℕ) → IsFree (lists_of t) region → used_of t region ≡ 0
   pub unmarked : (region : ℕ) → IsFree (lists_of t) region → mark_of t region ≡ 0
-  -- a class without a region owes nothing, and no area owes more than its quota
+  -- a class without a region is charged nothing, and no area is charged more than its quota
   pub owing : (class : ℕ) → chain t class ≡ [] → debt t class ≡ 0
   pub paid : (area : ℕ) → area < areas_of t → account_of t area ≤ quota_of t area
-  -- every region but the last of its chain is more than half full, and no area has more than its share
+  -- every region except the last of its chain is more than half full, and no area has more than its share
   pub packed : (class : ℕ) → IsPacked t.used (chain t class)
   pub fitting : (area : ℕ) → area < areas_of t → regions_of_area t area ≤ share t area
   -- what was placed since the latest flip is in live regions

@@ -56,7 +56,7 @@ abbrev pub class_from : Bool → ℕ → ℕ
 class_from true slot = stale slot
 class_from false slot = live slot
 
--- the class that an area, a level, and whether it is old say
+-- the number of a class, by its area, its level, and whether it is old
 abbrev pub class_number : Table → Class → ℕ
 class_number t class = class_from class.stale (slot_of t class.area class.level)
 

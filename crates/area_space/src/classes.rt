@@ -1,4 +1,4 @@
-//! What a region belongs to, and where a charge comes from.
+//! The class of a region, and the origin of a charge.
 
 /// The area and the level of a region, and whether it is old. A live class and an old one of the
 /// same area and level are two.
@@ -10,19 +10,19 @@ pub struct Class {
     /// 0 to the greatest level.
     pub level: u8,
 
-    /// Whether the region was condemned and not freed yet.
+    /// Whether the region was condemned and isn't freed yet.
     pub stale: bool,
 }
 
-/// Where the charge of committed words comes from.
+/// The origin of the charge for committed words.
 #[derive(Clone, Copy, Debug)]
 pub enum Origin {
     /// A new object, charged to the quota of its area.
     New,
 
-    /// An object that moves: its charge leaves this old class.
+    /// An object that moves: its charge moves from this old class.
     Moved(Class),
 
-    /// A pair that the charge of a cell has paid for already. It is charged nothing.
+    /// A pair that the charge of a cell has already paid for. No charge is added.
     Reserve,
 }

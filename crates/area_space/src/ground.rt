@@ -19,8 +19,8 @@ use mem_port::Memory;
 
 /// A memory and the table of its regions.
 ///
-/// What they have to do with each other (`IsGround`: sizes and levels agree, and words that aren't
-/// used are NULL) and that no word has an address in a free region are kept by every call below.
+/// Each call below keeps the relation between them (`IsGround`: sizes and levels agree, and words
+/// that aren't used are NULL), and that no word has an address in a free region.
 #[derive(Drop)]
 pub struct Ground<M: Memory> {
     pub mem: M,
@@ -30,7 +30,7 @@ pub struct Ground<M: Memory> {
     ghost small: { length (M.seen mem).words ≤ 4194304 },
 }
 
-/// Where an object may be written, and the region that was opened for it, if one was.
+/// The place at which an object may be written, and the region that was opened for it, if one was.
 #[derive(Clone, Copy, Debug)]
 pub struct Placed {
     pub at: u32,
@@ -42,10 +42,10 @@ impl<M: Memory> Ground<M> {
     ghost use Rattle.area_space.specs.Views.{ClearsOld, IsGround, NamesNoFree, NamesNoOld};
 
     /// The place for 1 to 2,048 words in an area, at a level: the used end of the last region of its
-    /// live chain, or where they don't fit there, the start of the free region of the lowest number,
+    /// live chain or, if they don't fit there, the start of the free region with the lowest number,
     /// which is then opened at the end of the chain. No used end moves.
     ///
-    /// There is always a place where the world keeps the room rule, and the used words of the area
+    /// There is always a place if the world keeps the room rule, and the used words of the area
     /// and these are together at most twice its quota.
     pub fn place(&mut self, area: u8, level: u8, words: u32) -> Placed
         requires some { 0 < words }
@@ -59,14 +59,14 @@ impl<M: Memory> Ground<M> {
         requires ground { IsGround (view self.old) }
         requires named { NamesNoFree (view self.old) }
 
-        // Where the place is.
+        // The place.
         ensures end { IsEnd self.new.table (slot_of self.old.table area level) result.at words }
 
-        // Where no region is opened, nothing changes.
+        // If no region is opened, nothing changes.
         ensures same { IfNone result.opened (self.new.table ≡ self.old.table) }
         ensures behind { IfNone result.opened (M.seen self.new.mem ≡ M.seen self.old.mem) }
 
-        // One that is opened was needed, and is the lowest free one.
+        // A region that is opened was needed, and is the lowest free one.
         ensures table { IfSome result.opened (λ region. self.new.table ≡ opened self.old.table (live (slot_of self.old.table area level)) region) }
         ensures level { IfSome result.opened (λ region. M.seen self.new.mem ≡ with_level (view self.old).mem.store region level) }
         ensures needed { IfSome result.opened (λ _. (last : ℕ) → last_of (chain self.old.table (live (slot_of self.old.table area level))) ≡ Some last
@@ -75,7 +75,7 @@ impl<M: Memory> Ground<M> {
         ensures lowest { IfSome result.opened (λ region. (r : ℕ) → r < region → IsUnclassed self.old.table r → ⊥) }
         ensures start { IfSome result.opened (λ region. result.at ≡ 4096 * region) }
 
-        // What stays of the ground and its memory.
+        // What is unchanged in the ground and its memory.
         ensures sound { IsTable self.new.table }
         ensures ground { IsGround (view self.new) }
         ensures named { NamesNoFree (view self.new) }
@@ -98,10 +98,10 @@ impl<M: Memory> Ground<M> {
         }
     }
 
-    /// Makes the words at a place an object's: the used end moves by them, their pages are to be
-    /// scanned, and the class of the place is charged, in words. The place is the used end of the
-    /// last region of a live chain, as `place` answered it. A new charge has to fit the quota of the
-    /// area, and one that moves has to be in the old class that it leaves; a reserve is 0.
+    /// Makes the words at a place those of an object: the used end moves past them, their pages are to
+    /// be scanned, and the class of the place is charged, in words. The place is the used end of the
+    /// last region of a live chain, as `place` returned it. A new charge has to fit the area's quota,
+    /// and a moved charge has to be in the old class that it leaves; a reserve is 0.
     pub fn commit(&mut self, placed: &Placed, words: u32, charge: u32, origin: Origin)
         requires some { 0 < words }
         requires end { (slot : ℕ) × IsEnd self.old.table slot placed.now.at words }
@@ -119,8 +119,8 @@ impl<M: Memory> Ground<M> {
         self.table.extend(placed.at, words);
     }
 
-    /// Makes so many words of an object in a live region a husk: they stay charged to its class, but
-    /// to no object. The caller owes that the class is charged for so many.
+    /// Makes `words` words of an object in a live region a husk: they remain charged to its class,
+    /// but to no object. The caller must ensure that the class is charged at least this much.
     pub fn note_husk(&mut self, at: u32, words: u32)
         requires inside { (slot : ℕ) × Contains (chain self.old.table (live slot)) (at / 4096) }
         requires enough { (slot : ℕ) → Contains (chain self.old.table (live slot)) (at / 4096) → words ≤ slice_index self.old.table.charges (live slot) }
@@ -132,9 +132,9 @@ impl<M: Memory> Ground<M> {
         self.table.note_husk(at, words);
     }
 
-    /// Makes every region of what is condemned old: of each area that isn't static, all live regions
-    /// or those of the levels chosen. The used end of each other live region becomes its flip mark.
-    /// No region may be old before.
+    /// Makes every condemned region old: in each area that isn't static, all live regions or those
+    /// of the levels chosen. The used end of each other live region becomes its flip mark.
+    /// No region may be old before the call.
     pub fn condemn(&mut self, what: Condemn)
         requires { (region : ℕ) → IsOld self.old.table region → ⊥ }
         ensures memory { self.new.mem ≡ self.old.mem }
@@ -147,8 +147,8 @@ impl<M: Memory> Ground<M> {
         self.table.known();
     }
 
-    /// Makes all old regions free, their words NULL and their classes owe nothing. No word outside
-    /// old regions may have an address in one. No fault comes.
+    /// Makes all old regions free, their words NULL, and their classes' charges 0. No word outside
+    /// old regions may have an address in one. No swap error occurs.
     pub fn free_old(&mut self)
         requires ground { IsGround (view self.old) }
         requires old { NamesNoOld (view self.old) }

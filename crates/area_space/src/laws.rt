@@ -1,4 +1,4 @@
-//! Laws of grounds that no single call can say.
+//! Laws of grounds that the contract of no single call can state.
 ghost use Rattle.std.specs.Prelude.{◌≡◌, ◌≢◌, if◌then◌else◌, ℕ, ◌+◌, ◌*◌, ◌/◌, ◌%◌, ◌<◌, ◌≤◌, List, Some};
 ghost use Rattle.lisp_graph.specs.declared.world.AreaRule.{AreaRule};
 ghost use Rattle.store_word.specs.Words.{Parts, address_of};
@@ -16,9 +16,9 @@ ghost use Rattle.area_space.specs.Flips.{condemns, Condemns};
 ghost use Rattle.area_space.specs.Frees.{Frees};
 ghost use Rattle.area_space.specs.Ground.{IsGround, NamesNoFree};
 
-/// The room rule suffices. Begin with any table of which holds what holds of a new one, and make
-/// calls one after another, each as its conditions ask. What held of the first table holds of the
-/// last. And where the first keeps the room rule, there is a place in the last for 1 to 2,048 words
+/// The room rule suffices. Begin with any table that has the properties of a new one, and
+/// make calls one after another, each as its conditions require. The last table has the properties
+/// of the first. And if the first keeps the room rule, there is a place in the last for 1 to 2,048 words
 /// in each area, at each level, as long as the used words of the area and these are together at most
 /// twice its quota.
 pub fn room_suffices()
@@ -28,7 +28,7 @@ pub fn room_suffices()
         → words_of_area last area + words ≤ 2 * quota_of last area → HasPlace last (slot_of last area level) words }
 {}
 
-/// A new table keeps the room rule where the regions suffice for all areas of its world: each area
+/// A new table keeps the room rule if the regions suffice for all areas of its world: each area
 /// wants one for each 1,024 words of its quota, rounded up, and two for each level, level 0 among
 /// them.
 pub fn accepted_worlds_have_room()
@@ -41,7 +41,7 @@ pub fn fresh_ground()
     ensures named { (s : Store) (regions top : ℕ) (rules : List AreaRule) → IsFresh s regions top → NamesNoFree s (fresh regions top rules) }
 {}
 
-/// What is known of a ground stays where a word is stored below the used end of its region, if the
+/// A ground remains one if a word is stored below the used end of its region, provided that the
 /// word has no address in a free region.
 pub fn stores_keep_ground()
     ensures ground { (old new : Store) (t : Table) (at : ℕ) (word : Parts) → IsGround old t → Stores old new at word
@@ -50,21 +50,21 @@ pub fn stores_keep_ground()
         → ((to : ℕ) → address_of word.content ≡ Some to → IsUnclassed t (to / 4096) → ⊥) → NamesNoFree new t }
 {}
 
-/// What is known of a ground stays where no word is stored.
+/// A ground remains one if no word is stored.
 pub fn reads_keep_ground()
     ensures ground { (old new : Store) (t : Table) → IsGround old t → StoresNothing old new → IsGround new t }
     ensures named { (old new : Store) (t : Table) → NamesNoFree old t → StoresNothing old new → NamesNoFree new t }
 {}
 
-/// What is known of a ground stays where a page is marked again.
+/// A ground remains one if a page is marked again.
 pub fn remarks_keep_ground()
     ensures ground { (old new : Store) (t : Table) (page : ℕ) → IsGround old t → Remarks old new page → IsGround new t }
     ensures named { (old new : Store) (t : Table) (page : ℕ) → NamesNoFree old t → Remarks old new page → NamesNoFree new t }
 {}
 
 /// What the calls do to the used words of each class: a region that is opened adds none, a commit
-/// adds its words to the class of the place alone, a flip hands the words of a live class on to the
-/// old one where it is condemned, and a reclaim leaves those of the live classes.
+/// adds its words to the class of the place alone, a flip moves the words of a condemned live class
+/// to the old one, and a reclaim keeps those of the live classes.
 pub fn used_words_of_classes()
     ensures opened { (t : Table) (slot region class : ℕ) → IsTable t → slot < slots_of t → IsUnclassed t region
         → words_of_class (opened t (live slot) region) class ≡ words_of_class t class }

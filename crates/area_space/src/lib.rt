@@ -1,7 +1,7 @@
-//! The regions of a memory: where objects are placed, what their classes are charged, and which
+//! The regions of a memory: the places of objects, what their classes are charged, and which
 //! regions are free, live or old.
 //!
-//! The layers above ask here for a place, commit its words, condemn regions and free them. Contracts
+//! The layers above request a place here, commit its words, condemn regions and free them. Contracts
 //! see numbers and lists of numbers (`specs/Table.antt`), and no object. Begin with `ground`, the
 //! calls on a memory and its table; `table` and its modules are what they are made of.
 #![tactic(auto)]

@@ -11,7 +11,7 @@ use store_word::NoMemory;
 /// A set of numbers below a bound, at most 16,384: pages, or regions.
 ///
 /// It has a bit for each number in words of 64, and a bit for each of these words that isn't 0. So
-/// every call takes constant time, but for `insert_span`, whose time grows with its pages, and
+/// every call takes constant time, except `insert_span`, whose time grows with its pages, and
 /// `new` and `clear`, whose time grows with the words of 64.
 #[derive(Drop)]
 pub struct PageSet {
@@ -69,7 +69,7 @@ impl PageSet {
         }
     }
 
-    /// Takes a page out, which need not be in the set.
+    /// Removes a page, which need not be in the set.
     pub fn remove(&mut self, page: u32)
         requires { page < self.old.count }
         ensures { Drops self.old self.new page }
@@ -80,7 +80,7 @@ impl PageSet {
         }
     }
 
-    /// Takes all pages out.
+    /// Removes all pages.
     pub fn clear(&mut self)
         ensures { self.new ≡ record { count = self.old.count; pages = [] } }
     {
@@ -96,7 +96,7 @@ impl PageSet {
         has_bit(&self.lower, page)
     }
 
-    /// The lowest page of the set; None exactly where the set is empty.
+    /// The lowest page of the set; None if and only if the set is empty.
     pub fn lowest(&self) -> Option<u32>
         ensures { result ≡ first_of self.now.pages }
     {

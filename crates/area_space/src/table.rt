@@ -19,7 +19,7 @@ use lisp_graph::{AreaKind, Condemn};
 pub use making::fresh_tables_are_sound;
 use std::marker::Model;
 
-/// What is known of the regions of a memory, by number, and of the classes.
+/// The table of the regions of a memory, by number, and of the classes.
 ///
 /// A slot is an area and a level. Each slot has two classes, a live one and an old one, and each
 /// class is a chain of regions. A region that is in no chain is free.
@@ -55,8 +55,8 @@ impl Model for RegionTable {
 }
 
 impl RegionTable {
-    /// The number of regions, at most 1,024. What always holds of a table is known wherever this is
-    /// asked.
+    /// The number of regions, at most 1,024. A call of it also shows what always holds of a
+    /// table.
     pub fn regions(&self) -> u32
         ensures regions { result ≡ self.now.regions }
         ensures sound { IsTable self.now }
@@ -105,7 +105,7 @@ impl RegionTable {
         &self.kinds
     }
 
-    /// The used words of a region: 0 to 4,096, and 0 where it is free.
+    /// The used words of a region: 0 to 4,096, and 0 if it is free.
     pub fn used(&self, region: u32) -> u32
         requires { region < self.now.regions }
         ensures used { result ≡ used_of self.now region }
@@ -115,7 +115,7 @@ impl RegionTable {
         self.used[region as usize]
     }
 
-    /// The used words of a region at the latest flip, where it is live and was then; else 0.
+    /// The used words of a region at the latest flip, if it is live and was then; else 0.
     pub fn flip_mark(&self, region: u32) -> u32
         requires { region < self.now.regions }
         ensures { result ≡ mark_of self.now region }
@@ -123,8 +123,8 @@ impl RegionTable {
         self.marks[region as usize]
     }
 
-    /// The class of the region of an address. It is None exactly where the region is free, and
-    /// `stale` exactly where it is old.
+    /// The class of the region of an address. It is None if and only if the region is free, and
+    /// has `stale` if and only if the region is old.
     pub fn class_of(&self, at: u32) -> Option<Class>
         requires { at / 4096 < self.now.regions }
         ensures none { IfNone result (IsUnclassed self.now (at / 4096)) }
@@ -169,7 +169,7 @@ impl RegionTable {
         area as u32 * (self.top as u32 + 1) + level as u32
     }
 
-    // The class of a region; None where it is free.
+    // The class of a region; None if it is free.
     fn class_at(&self, region: u32) -> Option<u32>
         requires { region < self.now.regions }
         ensures owner { MatchOption result (IsUnclassed self.now region) (λ class. Contains (chain self.now class) region) }

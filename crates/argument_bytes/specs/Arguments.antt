@@ -1,16 +1,16 @@
--- The arguments that bytes are: each one is followed by a NUL byte.
+-- Arguments as bytes: each one is followed by a NUL byte.
 use Rattle.std.specs.Prelude.{◌≡◌, ◌≢◌, ◌⊎◌, ℕ, ◌==◌, if◌then◌else◌, List, [], ◌∷◌, ◌++◌}
 use Rattle.std.specs.List.{fold, Any}
 use Rattle.std.specs.Str.{IsUtf8}
 
 -- bytes, cut at each NUL byte
 pub record Split : Type 0 where
-  -- the pieces that a NUL byte follows
+  -- the pieces that are followed by a NUL byte
   pub done : List (List ℕ)
   -- the bytes after the last NUL byte
   pub begun : List ℕ
 
--- one byte more
+-- after one more byte
 abbrev pub with_byte : Split → ℕ → Split
 with_byte split byte =
     if byte == 0 then record { done = split.done ++ split.begun ∷ []; begun = [] }
@@ -19,7 +19,7 @@ with_byte split byte =
 abbrev pub split_at_nuls : List ℕ → Split
 split_at_nuls bytes = fold with_byte (record { done = []; begun = [] }) bytes
 
--- nothing follows the last NUL byte, and these are the pieces
+-- nothing follows the last NUL byte, and the bytes before are these pieces
 abbrev pub AreArguments : List ℕ → List (List ℕ) → Type 0
 AreArguments bytes pieces = split_at_nuls bytes ≡ record { done = pieces; begun = [] }
 

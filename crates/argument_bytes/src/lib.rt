@@ -1,4 +1,4 @@
-//! The words of a command line as bytes: each one is followed by a NUL byte.
+//! The arguments of a program as bytes: each one is followed by a NUL byte.
 //!
 //! Contracts see the bytes cut at each NUL byte (`specs/Arguments.antt`). The crate has one function, `arguments_of`.
 #![tactic(auto)]
@@ -9,7 +9,7 @@ ghost use Rattle.argument_bytes.specs.Arguments.{AreArguments, IsRefused};
 use std::alloc::{AllocError, Global};
 use std::mem;
 
-/// The arguments that these bytes are: each one is followed by a NUL byte. None if the last one has none, or one isn't UTF-8.
+/// The arguments in these bytes: each one is followed by a NUL byte. None if the last one isn't, or if one isn't UTF-8.
 pub fn arguments_of(alloc: Global, bytes: &[u8]) -> Result<Option<Vec<String>>, AllocError>
     ensures arguments { IfOk result (λ found. IfSome found (λ words. AreArguments bytes.now (map string_bytes words.items))) }
     ensures refused { result ≡ Ok None → IsRefused bytes.now }

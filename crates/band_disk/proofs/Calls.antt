@@ -1,4 +1,4 @@
--- The calls of a log's entries, and what one entry more makes of them.
+-- The calls of a log's entries, and the effect of one more entry on them.
 use Rattle.std.proofs.Common.{◌≡◌, ℕ, ◌+◌, ◌≤◌, List, [], ◌∷◌, ◌++◌, length, take, drop, sum_by, vec_capacity, refl, sym, ◌∙◌, ap, arith, length-append}
 use Rattle.std.proofs.lemmas.List.{take_all, drop_all, drop_at, drop-append-le, take-append-le, drop-drop, length_push, length-drop}
 use Rattle.std.proofs.lemmas.List.Sums.{fold_push, sum_by-append}
@@ -16,7 +16,7 @@ calls_of-append (Write at len ∷ entries) rest written =
 calls_of-append (Sync ∷ entries) rest written = ap (λ (l : List Call). Synced ∷ l) (calls_of-append entries rest written)
 calls_of-append (Restart ∷ entries) rest written = ap (λ (l : List Call). Restarted ∷ l) (calls_of-append entries rest written)
 
--- bytes behind theirs don't change the calls
+-- bytes after those of the entries don't change the calls
 pub calls_of-longer : (entries : List Entry) (written more : List ℕ) → written_size entries ≤ length written → calls_of entries (written ++ more) ≡ calls_of entries written
 calls_of-longer [] written more le = refl
 calls_of-longer (Write at len ∷ entries) written more le =
@@ -38,7 +38,7 @@ writes_in-append (Wrote at piece ∷ calls) rest = ap (λ (l : Writes). (at, pie
 writes_in-append (Synced ∷ calls) rest = writes_in-append calls rest
 writes_in-append (Restarted ∷ calls) rest = writes_in-append calls rest
 
--- one write more
+-- one more write
 pub calls_of-write : (entries : List Entry) (written piece : List ℕ) (at len : ℕ) → written_size entries ≡ length written → len ≡ length piece
     → calls_of (entries ++ Write at len ∷ []) (written ++ piece) ≡ calls_of entries written ++ Wrote at piece ∷ []
 calls_of-write entries written piece at len size long =
@@ -95,7 +95,7 @@ noted_write old new at piece is place room entries capacity written wide taken f
     unsynced_now : unsynced (log_calls new) ≡ unsynced (log_calls old) ++ (at, piece) ∷ []
     unsynced_now = ap unsynced calls ∙ fold_push unsynced_after [] (log_calls old) (Wrote at piece)
 
--- the log with a sync or a restart, after which nothing is left to sync
+-- the log with a sync or a restart, after which everything is synced
 pub noted_settled : (old new : Log) (entry : Entry) (call : Call) → ((written : List ℕ) → calls_of (entry ∷ []) written ≡ call ∷ []) → written_size (entry ∷ []) ≡ 0 → ((writes : Writes) → unsynced_after writes call ≡ [])
     → IsLog old → length old.entries.items + 1 ≤ new.taken → new.taken ≤ old.places → new.taken ≡ old.taken + entries_of call
     → new.entries.items ≡ old.entries.items ++ entry ∷ [] → vec_capacity old.entries ≤ vec_capacity new.entries

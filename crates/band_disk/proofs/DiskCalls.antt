@@ -9,7 +9,7 @@ use Rattle.band_disk.proofs.Invariant.{contents_push, writes_are}
 use Rattle.band_disk.proofs.Laying.{with_writes-append}
 use Rattle.band_disk.proofs.Tears.{torn_lost}
 
--- the calls with this one more, or without it
+-- the calls with or without this one added
 abbrev pub calls_with : Bool → List Call → Call → List Call
 calls_with true calls call = calls ++ call ∷ []
 calls_with false calls call = calls
@@ -60,7 +60,7 @@ sync_images old new true within w image is =
     subst (image_of old) (sym (at_contents _ _ image (contents_went old new Synced w) is)) (image_whole old.room (contents old).synced (contents old).writes within)
 sync_images old new false within w image is = at_contents _ _ image (contents_same old new Synced w) is
 
--- where the call succeeded it was noted
+-- if the call succeeded it was logged
 pub on_ok : {E : Type 0} (result : Result (Unit {0}) E) (b : Bool) (P : Type 0) → is_ok result ≡ b → (b ≡ true → P) → OnOk result P
 on_ok (Ok x) b P is holds = holds (sym is)
 on_ok (Err e) b P is holds = tt
@@ -74,7 +74,7 @@ restart_went old new is = subst (λ (d : MemoryDisk). Went old d Restarted (not 
     by true = record { start = refl; tear = refl; room = refl; calls = refl }
     by false = record { start = refl; tear = refl; room = refl; calls = refl }
 
--- nothing was left to sync where no restart was noted
+-- if no restart was logged, everything was synced
 all_synced : (old : MemoryDisk) → not (length (unsynced old.calls) == 0) ≡ false → (contents old).writes ≡ []
 all_synced old none = writes_are old.tear old.start old.calls ∙ nil_from_length (unsynced old.calls) (grind (arith, nat_tests))
 

@@ -10,7 +10,7 @@ use Rattle.band_disk.proofs.Tears.{torn_laid, torn_lost}
 
 -- Images
 
--- an image after a write more is one of those before, with that write torn
+-- an image after one more write is an image before it, with that write torn
 pub image_push : (bytes : List ℕ) (writes : Writes) (at : ℕ) (piece image : List ℕ) → IsImage bytes (writes ++ (at, piece) ∷ []) image → (was : List ℕ) × IsImage bytes writes was × Torn at (length piece) was image
 image_push bytes [] at piece image is = (bytes, refl, subst (λ (i : List ℕ). Torn at (length piece) bytes i) (sym is.2) is.1)
 image_push bytes (write ∷ writes) at piece image is =
@@ -32,7 +32,7 @@ image_spoiled room bytes (write ∷ writes) within =
     let spoil = replicate (length write.1) 255 in
     (overwritten write.0 spoil bytes, torn_laid write.0 (length write.1) spoil bytes within.0 (length-replicate (length write.1) 255), image_spoiled room (overwritten write.0 spoil bytes) writes within.2)
 
--- so what a restart leaves is an image
+-- so the result of a restart is an image
 pub image_left : (room tear : ℕ) (bytes : List ℕ) (writes : Writes) → AreWithin room bytes writes → IsImage bytes writes (left_by tear bytes writes)
 image_left room tear bytes writes within = by (tear == 0) (tear == 1)
   where
@@ -43,12 +43,12 @@ image_left room tear bytes writes within = by (tear == 0) (tear == 1)
 
 -- Moments
 
--- the same disk after so many of its calls
+-- the same disk after this many of its calls
 same_as_of : (old new : MemoryDisk) (moment : ℕ) (image : List ℕ) → new.start ≡ old.start → new.tear ≡ old.tear → take moment new.calls ≡ take moment old.calls → image_of (as_of moment new) image ≡ image_of (as_of moment old) image
 same_as_of old new moment image start tear calls i =
     IsImage (contents_of (tear i) (start i) (calls i)).synced (contents_of (tear i) (start i) (calls i)).writes image
 
--- a call that isn't noted takes no time
+-- a call that isn't logged takes no time
 pub elapses_same : (old new : MemoryDisk) → new.start ≡ old.start → new.tear ≡ old.tear → new.calls ≡ old.calls → Elapses (length old.calls) (length new.calls) (image_since old) (image_since new) (image_of new)
 elapses_same old new start tear calls = record {
   later = omega (arith, ap length calls);
@@ -56,7 +56,7 @@ elapses_same old new start tear calls = record {
   keeps = λ t image le since. (since.0, since.1, omega (arith, since.2, ap length calls), subst (λ (X : Type 0). X) (sym (same_as_of old new since.0 image start tear (ap (take since.0) calls))) since.3);
 }
 
--- a call that is noted is a moment more
+-- a call that is logged adds a moment
 pub elapses_push : (old new : MemoryDisk) (call : Call) → new.start ≡ old.start → new.tear ≡ old.tear → new.calls ≡ old.calls ++ call ∷ [] → Elapses (length old.calls) (length new.calls) (image_since old) (image_since new) (image_of new)
 elapses_push old new call start tear calls = record {
   later = omega (arith, longer);

@@ -1,4 +1,4 @@
--- What each call keeps of a disk in memory.
+-- What each call preserves of a disk in memory.
 use Rattle.std.proofs.Common.{◌≡◌, ℕ, ◌+◌, ◌==◌, true, false, Bool, if◌then◌else◌, ◌≤◌, List, [], ◌∷◌, ◌++◌, length, take, drop, sum_by, fold, refl, sym, ◌∙◌, ap, subst, arith}
 use Rattle.std.proofs.lemmas.List.{length-drop, length-take-le}
 use Rattle.std.proofs.lemmas.List.Sums.{fold_push, sum_by-append}
@@ -19,7 +19,7 @@ writes_from tear contents (call ∷ calls) = writes_from tear (after tear conten
 pub writes_are : (tear : ℕ) (start : List ℕ) (calls : List Call) → (contents_of tear start calls).writes ≡ unsynced calls
 writes_are tear start calls = writes_from tear (record { synced = start; writes = [] }) calls
 
--- the contents after one call more
+-- the contents after one more call
 pub contents_push : (tear : ℕ) (start : List ℕ) (calls : List Call) (call : Call) → contents_of tear start (calls ++ call ∷ []) ≡ after tear (contents_of tear start calls) call
 contents_push tear start calls call = fold_push (after tear) (record { synced = start; writes = [] }) calls call
 
@@ -41,7 +41,7 @@ pub written_is : (log : Log) → IsLog log → sum_by bytes_of (log_calls log) �
 written_is log is = bytes_of-calls_of log.entries.items log.written.items (omega (arith, is.size)) ∙ is.size
 
 module _ (old : Log) (start bytes synced : List ℕ) (room tear : ℕ) (kept : LogInvariant old start bytes synced room tear) where
-  -- the bytes as read are the unsynced writes over the synced bytes
+  -- the bytes as read are the synced bytes with the unsynced writes applied
   pub read_is : bytes ≡ with_writes synced (unsynced (log_calls old))
   read_is = kept.read ∙ ap (with_writes (contents_of tear start (log_calls old)).synced) (writes_are tear start (log_calls old)) ∙ ap (λ (b : List ℕ). with_writes b (unsynced (log_calls old))) (sym kept.durable)
 
@@ -63,7 +63,7 @@ module _ (old : Log) (start bytes synced : List ℕ) (room tear : ℕ) (kept : L
       unsynced_now : unsynced (log_calls new) ≡ unsynced (log_calls old) ++ (at, piece) ∷ []
       unsynced_now = ap unsynced is.calls ∙ fold_push unsynced_after [] (log_calls old) (Wrote at piece)
 
-  -- a call that leaves nothing to sync
+  -- a call after which everything is synced
   pub kept_settled : (new : Log) (call : Call) (left : List ℕ) → IsNoted old call new → left ≡ (after tear (contents_of tear start (log_calls old)) call).synced → ((writes : Writes) → unsynced_after writes call ≡ []) → length left ≤ room → LogInvariant new start left left room tear
   kept_settled new call left is leaves settles short = record {
     is_log = is.log;
@@ -89,7 +89,7 @@ module _ (old : Log) (start bytes synced : List ℕ) (room tear : ℕ) (kept : L
   pub lies_within : AreWithin room (contents_of tear start (log_calls old)).synced (contents_of tear start (log_calls old)).writes
   lies_within = subst (AreWithin room (contents_of tear start (log_calls old)).synced) (sym (writes_are tear start (log_calls old))) (subst (λ (b : List ℕ). AreWithin room b (unsynced (log_calls old))) kept.durable kept.within)
 
-  -- what a restart leaves
+  -- the bytes after a restart
   pub left_is : left_by tear synced (unsynced (log_calls old)) ≡ (after tear (contents_of tear start (log_calls old)) Restarted).synced
   left_is = ap (λ (b : List ℕ). left_by tear b (unsynced (log_calls old))) kept.durable ∙ ap (left_by tear (contents_of tear start (log_calls old)).synced) (sym (writes_are tear start (log_calls old)))
 
@@ -101,7 +101,7 @@ module _ (old : Log) (start bytes synced : List ℕ) (room tear : ℕ) (kept : L
       shorter false true writes within = length-with_writes room synced writes kept.durable_size within
       shorter false false writes within = length-with_writes room synced (spoiled writes) kept.durable_size (spoiled_within room synced synced writes refl within)
 
--- a call that was made
+-- a call that was logged
 pub made : (old counted_one new : MemoryDisk) (call : Call) → true ≡ accepts old call → counted_one ≡ counted old → new ≡ noted counted_one call → new ≡ after_call old call
 made old counted_one new call goes is_counted is_new =
     is_new ∙ ap (λ d. noted d call) is_counted ∙ ap (λ (b : Bool). if b then noted (counted old) call else failed (counted old)) goes

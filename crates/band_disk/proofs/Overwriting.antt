@@ -1,10 +1,10 @@
--- A piece over bytes, part within them and part past their end.
+-- Overwriting bytes with a piece, partly within them and partly past their end.
 use Rattle.std.proofs.Common.{◌≡◌, inl, inr, ℕ, ◌+◌, ◌-◌, ◌≤◌, min, max, List, ◌++◌, length, take, drop, replicate, sym, ◌∙◌, ap, arith, append_assoc, take-append-drop}
 use Rattle.std.proofs.lemmas.Bool.{cases_lt}
 use Rattle.std.proofs.lemmas.List.{append-nil, length-replicate, length-take-le, take_all, drop_all, replicate-append-replicate}
 use Rattle.band_disk.specs.Disks.{overwritten}
 
--- the part past the end stands behind the rest
+-- the part past the end follows the rest
 pub overwritten_parts : (at w : ℕ) (piece bytes : List ℕ) → at ≤ length bytes → w ≡ min (length piece) (length bytes - at) → overwritten at (take w piece) bytes ++ drop w piece ≡ overwritten at piece bytes
 overwritten_parts at w piece bytes fits is = elim (cases_lt w (length piece)) [
   | inl some ↦
@@ -21,7 +21,7 @@ overwritten_parts at w piece bytes fits is = elim (cases_lt w (length piece)) [
       ∙ append-nil (overwritten at piece bytes)
 ]
 
--- the same of one byte in each place
+-- the same for one byte repeated
 pub spoiled_parts : (at n w end byte : ℕ) (bytes laid : List ℕ) → at ≤ length bytes → w ≡ min n (length bytes - at) → end ≡ max (length bytes) (at + n) → laid ≡ overwritten at (replicate w byte) bytes → length laid ≡ length bytes
     → take end laid ++ replicate (end - length laid) byte ≡ overwritten at (replicate n byte) bytes
 spoiled_parts at n w end byte bytes laid fits is last is_laid long = elim (cases_lt w n) [

@@ -1,4 +1,4 @@
--- What a torn write may leave.
+-- Possible results of a torn write.
 use Rattle.std.proofs.Common.{◌≡◌, ℕ, ◌+◌, ◌≤◌, List, ◌++◌, length, take, drop, refl, sym, ◌∙◌, ap, arith, append_assoc, length-append}
 use Rattle.std.proofs.lemmas.List.{take_at, drop_at, length-take-le}
 use Rattle.band_disk.specs.Disks.{Torn, overwritten}
@@ -8,7 +8,7 @@ use Rattle.band_disk.proofs.Laying.{length-overwritten}
 pub torn_lost : (at n : ℕ) (bytes : List ℕ) → Torn at n bytes bytes
 torn_lost at n bytes = record { before = refl; after = refl; no_shorter = omega arith; no_longer = omega arith }
 
--- and it may leave any bytes in its range
+-- and it may write any bytes in its range
 pub torn_laid : (at n : ℕ) (piece bytes : List ℕ) → at ≤ length bytes → length piece ≡ n → Torn at n bytes (overwritten at piece bytes)
 torn_laid at n piece bytes place long =
     let size = length-overwritten at piece bytes place in

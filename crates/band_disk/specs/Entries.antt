@@ -1,4 +1,4 @@
--- How a log stands in memory: its entries, and beside them the bytes of its writes, one write after another.
+-- The representation of a log in memory: its entries, and separately the bytes of its writes, one write after another.
 use Rattle.std.specs.Prelude.{◌≡◌, ℕ, ◌+◌, ◌-◌, ◌<◌, ◌≤◌, List, [], ◌∷◌, ◌++◌, length, take, drop, sum_by, vec_capacity}
 use Rattle.band_disk.specs.declared.log.Entry.{Entry}
 use Rattle.band_disk.specs.declared.log.Entry.TheVariants.{Write, Sync, Restart}
@@ -30,7 +30,7 @@ entries_behind log = drop log.first log.entries.items
 abbrev pub bytes_behind : Log → List ℕ
 bytes_behind log = drop log.first_byte log.written.items
 
--- the memory that was taken is enough, the counts are right, and the writes since the last sync stand where the log says
+-- the allocated memory is enough, the counts are right, and the writes since the last sync are at the log's positions
 pub record IsLog (log : Log) : Type 0 where
   pub places : log.places ≤ vec_capacity log.entries
   pub space : log.space ≤ vec_capacity log.written
@@ -44,10 +44,10 @@ pub record IsLog (log : Log) : Type 0 where
   pub first_byte : log.first_byte ≤ length log.written.items
   pub size_behind : written_size (entries_behind log) ≡ length log.written.items - log.first_byte
   pub writes_behind : writes_in (calls_of (entries_behind log) (bytes_behind log)) ≡ unsynced (log_calls log)
-  -- nothing else stands there
+  -- there is nothing else
   pub all : length (unsynced (log_calls log)) ≡ length log.entries.items - log.first
 
--- the log with one more call
+-- the log after one more call
 pub record IsNoted (old : Log) (call : Call) (new : Log) : Type 0 where
   pub log : IsLog new
   pub calls : log_calls new ≡ log_calls old ++ call ∷ []

@@ -9,10 +9,10 @@ pub as_of-all : (disk : MemoryDisk) (count : ℕ) (image : List ℕ) → length 
 as_of-all disk count image le =
     ap (λ (calls : List Call). IsImage (contents_of disk.tear disk.start calls).synced (contents_of disk.tear disk.start calls).writes image) (take_all count disk.calls le)
 
--- this moment is one of those since an earlier one
+-- the present moment is one of those since an earlier moment
 pub memory_counts_now : (disk : MemoryDisk) (t : ℕ) (image : List ℕ) → t ≤ length disk.calls → image_of disk image → image_since disk t image
 memory_counts_now disk t image le now = (length disk.calls, le, omega arith, subst (λ (X : Type 0). X) (sym (as_of-all disk (length disk.calls) image (omega arith))) now)
 
--- since this moment there is no other
+-- since the present moment there is no other moment
 pub memory_only_now : (disk : MemoryDisk) (image : List ℕ) → image_since disk (length disk.calls) image → image_of disk image
 memory_only_now disk image since = subst (λ (X : Type 0). X) (as_of-all disk since.0 image since.1) since.3

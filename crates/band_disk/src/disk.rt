@@ -1,4 +1,4 @@
-//! A disk that may stop at any moment.
+//! The trait of a disk that may crash at any moment.
 ghost use Rattle.std.specs.Prelude.{◌≡◌, ◌+◌, ◌<◌, ◌≤◌, ◌^◌, ℕ, List, length, take, drop, OnOk};
 ghost use Rattle.outer_ports.specs.Ports.{HasCause, next_count};
 ghost use Rattle.band_disk.specs.Disks.{Elapses, Follows, Only, Torn, overwritten};
@@ -7,42 +7,42 @@ ghost use Rattle.band_disk.specs.Disks.{Elapses, Follows, Only, Torn, overwritte
 #[derive(Debug, Drop, Clone, Copy, PartialEq, Eq)]
 pub struct DiskFault;
 
-/// Bytes that outlive a stop. What was written since the last sync may be torn by it: it leaves an image of the
-/// disk, in which each range that was written, and what is past the old end, may hold any bytes.
+/// Bytes that survive a crash. A crash may tear what was written since the last sync: in a possible post-crash state (an image)
+/// of the disk, each range that was written, and what is past the old end, may contain any bytes.
 pub trait BandDisk {
-    /// The bytes that a read gives.
+    /// The bytes that a read returns.
     ghost bytes: { Self → List ℕ };
 
-    /// How many bytes it has room for.
+    /// The number of bytes that the disk has room for.
     ghost space: { Self → ℕ };
 
-    /// The images that a stop at this moment may leave.
+    /// The possible states after a crash at this moment.
     ghost images: { Self → List ℕ → Type 0 };
 
-    /// The moment, a number that doesn't fall.
+    /// The moment, a number that never falls.
     ghost clock: { Self → ℕ };
 
-    /// The images that a stop at some moment from that one on might have left, during a call or between two.
+    /// The possible states after a crash at some moment from that one on, during a call or between two.
     ghost images_since: { Self → ℕ → List ℕ → Type 0 };
 
-    /// How often it failed. A count of 2^64 - 1 stays there, and is said to have risen.
+    /// How many calls failed. The count saturates at 2^64 - 1, and counts as risen from then on.
     ghost faults: { Self → ℕ };
 
-    /// How many writes and syncs it was asked for, a count of 64 bits, which stays at its type's end.
+    /// How many writes and syncs were requested: a 64-bit count, which saturates.
     ghost changes: { Self → ℕ };
 
-    /// How many bytes it has.
+    /// The number of bytes of the disk.
     fn size(&self) -> u64
         ensures { result ≡ length (bytes self.now) };
 
-    /// How many bytes it has room for: at least as many as it has, and fewer than 2^63. The room never changes.
+    /// The number of bytes that the disk has room for: at least its size, and fewer than 2^63. The room never changes.
     fn room(&self) -> u64
         ensures room { result ≡ space self.now }
         ensures within { length (bytes self.now) ≤ result }
         ensures below { result < 2 ^ 63 };
 
-    /// Reads the bytes from this place on, as many as the slice has. They must be within the size. Where the call
-    /// failed, the slice may hold any bytes.
+    /// Reads bytes from this position on until the slice is full. They must be within the size. If the call
+    /// fails, the slice may contain any bytes.
     fn read_at(&mut self, at: u64, into: &mut [u8]) -> Result<(), DiskFault>
         requires { at + length into.old ≤ length (bytes self.old) }
         ensures read { OnOk result (into.new ≡ take (length into.old) (drop at (bytes self.old))) }
@@ -53,9 +53,9 @@ pub trait BandDisk {
         ensures cause { HasCause (faults self.old) (faults self.new) result }
         ensures changes { changes self.new ≡ changes self.old };
 
-    /// Writes bytes over those from this place on, and past the end. The place must be within the size or at
-    /// its end, and the bytes within the room. Until a sync, a stop may leave any bytes in their range, also
-    /// where the call failed. After a call that failed no clause says what a read gives.
+    /// Overwrites the bytes from this position on, and past the end. The position must be within the size or at
+    /// its end, and the bytes within the room. Until a sync, a crash may leave any bytes in their range, even
+    /// if the call failed. After a call that failed, no clause says what a read returns.
     fn write_at(&mut self, at: u64, from: &[u8]) -> Result<(), DiskFault>
         requires place { at ≤ length (bytes self.old) }
         requires room { at + length from.now ≤ space self.old }
@@ -66,7 +66,7 @@ pub trait BandDisk {
         ensures cause { HasCause (faults self.old) (faults self.new) result }
         ensures changes { changes self.new ≡ next_count (changes self.old) };
 
-    /// Makes what was written outlive a stop. Where it failed, each image may be possible that was so before.
+    /// Makes what was written survive a crash. If the call fails, each post-crash state that was possible may still be.
     fn sync(&mut self) -> Result<(), DiskFault>
         ensures durable { OnOk result (Only (bytes self.old) (images self.new)) }
         ensures stays { bytes self.new ≡ bytes self.old }
@@ -76,7 +76,7 @@ pub trait BandDisk {
         ensures cause { HasCause (faults self.old) (faults self.new) result }
         ensures changes { changes self.new ≡ next_count (changes self.old) };
 
-    /// Stops the disk and starts it again: it becomes one of its images, with nothing left to sync. It tells no fault, so it counts none.
+    /// Crashes the disk and restarts it: it becomes one of its images, with everything synced. It reports no failure, so it counts none.
     fn restart(&mut self)
         ensures image { images self.old (bytes self.new) }
         ensures durable { Only (bytes self.new) (images self.new) }
@@ -85,9 +85,9 @@ pub trait BandDisk {
         ensures quiet { faults self.new ≡ faults self.old }
         ensures changes { changes self.new ≡ changes self.old };
 
-    /// This moment is one of those since an earlier one.
+    /// The present moment is one of those since an earlier moment.
     ghost counts_now: { (disk : Self) (t : ℕ) (image : List ℕ) → t ≤ clock disk → images disk image → images_since disk t image };
 
-    /// Since this moment there is no other.
+    /// Since the present moment there is no other moment.
     ghost only_now: { (disk : Self) (image : List ℕ) → images_since disk (clock disk) image → images disk image };
 }

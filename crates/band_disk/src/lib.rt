@@ -1,7 +1,7 @@
-//! A disk that may stop at any moment: a trait that says what each of its calls leaves possible for a stop, and
-//! a disk in memory that keeps it.
-//! Contracts see the bytes that a read gives, the images that a stop may leave, now and since an earlier moment,
-//! and a count of faults (`specs/Disks.antt`). Begin with `disk`; `memory` keeps a log of its calls
+//! A disk that may crash at any moment: a trait that says which post-crash states each of its calls leaves possible, and
+//! a disk in memory that implements it.
+//! Contracts see the bytes that a read returns, the possible post-crash states (images), now and since an earlier moment,
+//! and a count of failed calls (`specs/Disks.antt`). Begin with `disk`; `memory` keeps a log of its calls
 //! (`specs/Logs.antt`), from which every image follows.
 #![tactic(auto)]
 

@@ -6,7 +6,7 @@ ghost use Rattle.band_disk.specs.Entries.{IsLog, IsNoted, calls_of, log_calls, w
 use crate::overwrite::{append, overwrite, put, spoil};
 use std::alloc::{AllocError, Global};
 
-/// A call in the log. What was written stands in a list beside, one write after another.
+/// A call in the log. The bytes of writes are stored in a separate list, one write after another.
 #[derive(Clone, Copy, Debug)]
 pub enum Entry {
     Write { at: u32, len: u32 },
@@ -14,17 +14,17 @@ pub enum Entry {
     Restart,
 }
 
-/// The writes, syncs and restarts of a disk, in memory that was taken when it was made.
+/// The writes, syncs and restarts of a disk, in memory that was allocated when the log was made.
 #[derive(Drop)]
 pub struct Log {
     pub entries: Vec<Entry>,
     pub written: Vec<u8>,
-    /// How many entries it has place for, and how many bytes.
+    /// The number of entries that the log has room for, and the number of bytes.
     pub places: usize,
     pub space: usize,
-    /// How many entries are taken, those that are kept for a restart counted.
+    /// The number of entries in use, including those that are reserved for a restart.
     pub taken: usize,
-    /// The first entry since the last sync or restart, and the first of the bytes.
+    /// The first entry since the last sync or restart, and the first byte written since then.
     pub first: usize,
     pub first_byte: usize,
 }
@@ -46,7 +46,7 @@ fn lay_writes(bytes: &mut Vec<u8>, entries: &[Entry], written: &[u8])
     }
 }
 
-/// Writes the byte 255 in each place that these entries wrote.
+/// Writes the byte 255 to each place that these entries wrote.
 fn spoil_writes(bytes: &mut Vec<u8>, entries: &[Entry], written: &[u8])
     requires size { written_size entries.now ≡ length written.now }
     requires within { AreWithin (vec_capacity bytes.old) bytes.old.items (spoiled (writes_in (calls_of entries.now written.now))) }
@@ -64,7 +64,7 @@ fn spoil_writes(bytes: &mut Vec<u8>, entries: &[Entry], written: &[u8])
 }
 
 impl Log {
-    /// An empty log with place for so many entries and bytes.
+    /// An empty log with room for this many entries and bytes.
     pub fn new(alloc: Global, places: usize, space: usize) -> Result<Log, AllocError>
         ensures log { IfOk result IsLog }
         ensures calls { IfOk result (λ log. log_calls log ≡ []) }
@@ -81,7 +81,7 @@ impl Log {
         })
     }
 
-    /// Whether it has place for so many entries and bytes more.
+    /// Whether it has room for this many more entries and bytes.
     pub fn has_place(&self, entries: usize, bytes: usize) -> bool
         requires { IsLog self.now }
         ensures { result ≡ (nat_le (sum_by entries_of (log_calls self.now) + entries) self.now.places
@@ -99,7 +99,7 @@ impl Log {
         self.first == self.entries.len()
     }
 
-    /// Notes a write. It keeps an entry for a restart after it.
+    /// Logs a write. It reserves an entry for a restart after it.
     pub fn note_write(&mut self, at: u32, piece: &[u8])
         requires log { IsLog self.old }
         requires places { sum_by entries_of (log_calls self.old) + 2 ≤ self.old.places }
@@ -118,7 +118,7 @@ impl Log {
         self.taken += 2;
     }
 
-    /// Notes a sync.
+    /// Logs a sync.
     pub fn note_sync(&mut self)
         requires log { IsLog self.old }
         requires places { sum_by entries_of (log_calls self.old) + 1 ≤ self.old.places }
@@ -130,7 +130,7 @@ impl Log {
         self.first_byte = self.written.len();
     }
 
-    /// Notes a restart. A write since the last sync or restart kept an entry for it.
+    /// Logs a restart. A write since the last sync or restart reserved an entry for it.
     pub fn note_restart(&mut self)
         requires log { IsLog self.old }
         requires kept { self.old.first < vec_len self.old.entries }
@@ -141,7 +141,7 @@ impl Log {
         self.first_byte = self.written.len();
     }
 
-    /// Writes what wasn't synced over the bytes.
+    /// Makes the writes that weren't synced.
     pub fn lay(&self, bytes: &mut Vec<u8>)
         requires log { IsLog self.now }
         requires within { AreWithin (vec_capacity bytes.old) bytes.old.items (unsynced (log_calls self.now)) }
@@ -155,7 +155,7 @@ impl Log {
         );
     }
 
-    /// Writes the byte 255 in each place of what wasn't synced.
+    /// Writes the byte 255 to each place of the writes that weren't synced.
     pub fn spoil(&self, bytes: &mut Vec<u8>)
         requires log { IsLog self.now }
         requires within { AreWithin (vec_capacity bytes.old) bytes.old.items (spoiled (unsynced (log_calls self.now))) }

@@ -1,4 +1,4 @@
-//! A disk in memory, which can stop and tear.
+//! A disk in memory that can crash and tear writes.
 ghost use Rattle.std.specs.Prelude.{◌≡◌, ◌+◌, ◌<◌, ◌≤◌, ◌==◌, ℕ, List, length, take, drop, not, is_ok, IfOk, OnOk, vec_capacity, if◌then◌else◌};
 ghost use Rattle.outer_ports.specs.Ports.{HasCause, next_count};
 ghost use Rattle.band_disk.specs.Disks.{Elapses, Follows, Only, Torn, overwritten};
@@ -13,8 +13,8 @@ use outer_ports::NoMemory;
 use std::alloc::Global;
 use std::marker::Model;
 
-/// A disk in memory, all of which is taken when it is made. It keeps a log of its writes, syncs and restarts, so that
-/// what a stop at any earlier moment would have left is known.
+/// A disk in memory. All its memory is allocated when it is made. It keeps a log of its writes, syncs and restarts, so that
+/// the state after a crash at any earlier moment is known.
 #[derive(Drop)]
 pub struct BandMemory {
     start: Vec<u8>,
@@ -52,8 +52,8 @@ impl Model for BandMemory {
         × (m.room ≤ vec_capacity m.bytes) × (m.room ≤ vec_capacity m.synced) };
 }
 
-/// Makes of the synced bytes what a restart leaves: with a tear of 0 they stay, with 1 the log's unsynced writes are
-/// made, and with 2 each place of those is 255.
+/// Changes the synced bytes as a restart does: with a tear of 0 they are unchanged, with 1 the log's unsynced writes are
+/// made, and with 2 or more each byte of those writes is 255.
 #[tactic(auto, using(crate::proofs::Laying::spoiled_within))]
 fn leave(log: &Log, tear: u8, synced: &mut Vec<u8>)
     requires log { IsLog log.now }
@@ -71,7 +71,7 @@ fn leave(log: &Log, tear: u8, synced: &mut Vec<u8>)
     log.spoil(synced);
 }
 
-/// A copy of these bytes in a list with this room.
+/// A copy of these bytes in a list with this capacity.
 fn copy_in(alloc: Global, bytes: &[u8], room: usize) -> Result<Vec<u8>, NoMemory>
     requires { length bytes.now ≤ room }
     ensures items { IfOk result (λ copy. copy.items ≡ bytes.now) }
@@ -83,10 +83,10 @@ fn copy_in(alloc: Global, bytes: &[u8], room: usize) -> Result<Vec<u8>, NoMemory
 }
 
 impl BandMemory {
-    /// A disk with these bytes, all of them synced, and room for so many. Its write or sync with the number
-    /// `stop` fails, counted from 1, and so does each call after it until a restart; with 0 none does. `tear`
+    /// A disk with these bytes, all of them synced, and room for `room` bytes. Its write or sync with the number
+    /// `stop` fails, counted from 1, and so does each call after it until a restart; if `stop` is 0, none does. `tear`
     /// says what a restart makes of writes that weren't synced: with 0 they are lost, with 1 kept, and from 2 on
-    /// all their bytes are 255. A write or sync fails too where the log is full: it has place for a quarter of
+    /// all their bytes are 255. A write or sync also fails if the log is full: it has room for a quarter of
     /// the room in entries, two for each write and one for each sync, and for three times the room in written
     /// bytes.
     pub fn new(
@@ -114,8 +114,8 @@ impl BandMemory {
         })
     }
 
-    /// Counts a write or sync that wants so many entries and bytes of the log, and tells whether it is to be made. Where
-    /// it isn't, it failed.
+    /// Counts a write or sync that needs this many entries and bytes of the log, and returns whether it has to be made. If
+    /// not, it failed.
     fn begin(&mut self, entries: usize, bytes: usize) -> bool
         ensures goes { result ≡ goes self.old entries bytes }
         ensures after { self.new ≡ (if result then counted self.old else failed (counted self.old)) }
@@ -219,7 +219,7 @@ impl BandDisk for BandMemory {
     fn read_at(&mut self, at: u64, into: &mut [u8]) -> Result<(), DiskFault>
         requires { at + length into.old ≤ length (disk_bytes self.old) }
 
-        // What the trait says of each disk.
+        // The clauses of the trait.
         ensures read { OnOk result (into.new ≡ take (length into.old) (drop at (disk_bytes self.old))) }
         ensures stays { disk_bytes self.new ≡ disk_bytes self.old }
         ensures space { self.new.room ≡ self.old.room }
@@ -228,7 +228,7 @@ impl BandDisk for BandMemory {
         ensures cause { HasCause self.old.faults self.new.faults result }
         ensures changes { self.new.count ≡ self.old.count }
 
-        // When it is Ok, and what the disk in memory is after it.
+        // When it is Ok, and the disk in memory after it.
         ensures ok { is_ok result ≡ not self.old.stopped }
         ensures after { self.new ≡ after_read self.old }
     {
@@ -239,7 +239,7 @@ impl BandDisk for BandMemory {
         requires place { at ≤ length (disk_bytes self.old) }
         requires room { at + length from.now ≤ self.old.room }
 
-        // What the trait says of each disk.
+        // The clauses of the trait.
         ensures written { OnOk result (disk_bytes self.new ≡ overwritten at from.now (disk_bytes self.old)) }
         ensures space { self.new.room ≡ self.old.room }
         ensures images { Follows (Torn at (length from.now)) (image_of self.old) (image_of self.new) }
@@ -247,7 +247,7 @@ impl BandDisk for BandMemory {
         ensures cause { HasCause self.old.faults self.new.faults result }
         ensures changes { self.new.count ≡ next_count self.old.count }
 
-        // When it is Ok, and what the disk in memory is after it.
+        // When it is Ok, and the disk in memory after it.
         ensures ok { is_ok result ≡ accepts self.old (Wrote at from.now) }
         ensures after { self.new ≡ after_call self.old (Wrote at from.now) }
     {

@@ -1,8 +1,8 @@
-//! Writing over bytes in memory that was taken before.
+//! Overwriting bytes in memory that was allocated before.
 ghost use Rattle.std.specs.Prelude.{◌≡◌, ◌+◌, ◌<◌, ◌≤◌, ◌++◌, [], ◌∷◌, length, replicate, vec_capacity, vec_len};
 ghost use Rattle.band_disk.specs.Disks.{overwritten};
 
-/// Adds an item to a list that has a place for it.
+/// Appends an item to a list that has room for it.
 pub fn put<T: Drop>(list: &mut Vec<T>, item: T)
     requires { vec_len list.old < vec_capacity list.old }
     ensures items { list.new.items ≡ list.old.items ++ item ∷ [] }
@@ -14,7 +14,7 @@ pub fn put<T: Drop>(list: &mut Vec<T>, item: T)
     }
 }
 
-/// Adds bytes to a list that has places for them.
+/// Appends bytes to a list that has room for them.
 pub fn append(list: &mut Vec<u8>, bytes: &[u8])
     requires { vec_len list.old + length bytes.now ≤ vec_capacity list.old }
     ensures items { list.new.items ≡ list.old.items ++ bytes.now }
@@ -26,7 +26,7 @@ pub fn append(list: &mut Vec<u8>, bytes: &[u8])
     }
 }
 
-/// Writes a piece within the bytes.
+/// Overwrites bytes with a piece that lies within them.
 fn lay(bytes: &mut [u8], at: usize, piece: &[u8])
     requires { at + length piece.now ≤ length bytes.old }
     ensures { bytes.new ≡ overwritten at piece.now bytes.old }
@@ -34,7 +34,7 @@ fn lay(bytes: &mut [u8], at: usize, piece: &[u8])
     bytes[at..at + piece.len()].copy_from_slice(piece);
 }
 
-/// Writes one byte in each of so many places within the bytes.
+/// Sets `len` bytes to one value, within the bytes.
 fn fill(bytes: &mut [u8], at: usize, len: usize, byte: u8)
     requires { at + len ≤ length bytes.old }
     ensures { bytes.new ≡ overwritten at (replicate len byte) bytes.old }
@@ -42,7 +42,7 @@ fn fill(bytes: &mut [u8], at: usize, len: usize, byte: u8)
     bytes[at..at + len].fill(byte);
 }
 
-/// Writes a piece over the bytes from a place on, and past their end.
+/// Overwrites the bytes from a position on with a piece, which may reach past their end.
 #[tactic(auto, using(crate::proofs::Overwriting::overwritten_parts))]
 pub fn overwrite(bytes: &mut Vec<u8>, at: usize, piece: &[u8])
     requires place { at ≤ vec_len bytes.old }
@@ -55,7 +55,7 @@ pub fn overwrite(bytes: &mut Vec<u8>, at: usize, piece: &[u8])
     append(bytes, &piece[within..]);
 }
 
-/// Writes one byte in each of so many places from one on, and past the end.
+/// Sets `len` bytes from a position on to one value; they may reach past the end.
 #[tactic(auto, using(crate::proofs::Overwriting::spoiled_parts))]
 pub fn spoil(bytes: &mut Vec<u8>, at: usize, len: usize, byte: u8)
     requires place { at ≤ vec_len bytes.old }
@@ -72,7 +72,7 @@ pub fn spoil(bytes: &mut Vec<u8>, at: usize, len: usize, byte: u8)
     }
 }
 
-/// Makes the bytes those of a slice.
+/// Replaces the bytes with those of a slice.
 pub fn replace(bytes: &mut Vec<u8>, with: &[u8])
     requires { length with.now ≤ vec_capacity bytes.old }
     ensures items { bytes.new.items ≡ with.now }

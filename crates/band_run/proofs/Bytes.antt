@@ -6,7 +6,7 @@ use Rattle.world_text.proofs.reading_laws.ReadLaws.{eq_number}
 use Rattle.line_input.specs.Lines.{Line, lines_of, onto}
 use Rattle.line_input.specs.Reader.{no_feed}
 
--- the line feed of a line, where it stands
+-- the line feed of a line, if it has one
 abbrev pub feed_of : Line → List ℕ
 feed_of line = cond line.whole (10 ∷ []) []
 
@@ -15,7 +15,7 @@ abbrev pub bytes_of : List Line → List ℕ
 bytes_of [] = []
 bytes_of (line ∷ lines) = line.text ++ (feed_of line ++ bytes_of lines)
 
--- no line has a line feed in it, and each but the last has one behind it
+-- no line contains a line feed in its text, and each except the last is followed by one
 abbrev pub AreCut : List Line → Type 0
 AreCut [] = ⊤
 AreCut (line ∷ lines) = (no_feed line.text ≡ true) × ((line.whole ≡ true) ⊎ (lines ≡ [])) × AreCut lines
@@ -28,7 +28,7 @@ onto_cut : (x : ℕ) (lines : List Line) → x == 10 ≡ false → AreCut lines 
 onto_cut x [] other cut = (rw other refl, inr refl, tt)
 onto_cut x (line ∷ lines) other cut = (rw (other, cut.0) refl, cut.1, cut.2)
 
--- the lines of the bytes are cut, and their bytes are these
+-- the lines of the bytes are cut, and joined again they are the bytes
 pub record Again (bytes : List ℕ) : Type 0 where
   pub is : bytes_of (lines_of bytes) ≡ bytes
   pub cut : AreCut (lines_of bytes)

@@ -1,4 +1,4 @@
--- Each list of bytes holds saves, or is no store.
+-- Each list of bytes contains saves, is no store, or is damaged.
 use Rattle.std.proofs.Common.{◌≡◌, ◌≢◌, ◌⊎◌, inl, inr, ⊎_elim, ℕ, zero, suc, ◌<◌, ◌≤◌, List, [], ◌∷◌, ◌++◌, length, take, drop, Option, Some, None, refl, sym, ◌∙◌, ap, arith, append_assoc, length-append, take-append-drop}
 use Rattle.std.specs.List.{AllByRecursion}
 use Rattle.std.proofs.lemmas.Bool.{cases_Bool, cases_eq, cases_lt}
@@ -32,7 +32,7 @@ size_of n after = big_number 4 (take 4 (drop n after))
 abbrev rest_of : ℕ → List ℕ → List ℕ
 rest_of n after = drop 4 (drop n after)
 
--- what a head is, if bytes have one
+-- what the head is, if the bytes begin with one
 pub record OnlyHead (n : ℕ) (after name : List ℕ) (size : ℕ) (behind : List ℕ) : Type 0 where
   pub named : name ≡ name_of n after
   pub sized : size ≡ size_of n after
@@ -127,7 +127,7 @@ record_or_not (n ∷ after) =
 
 -- All records
 
--- the first records, and what ends them
+-- the first records, and what follows the last of them
 pub record Ends (tail : List ℕ) : Type 0 where
   pub saves : List Save
   pub good : AllByRecursion IsSave saves

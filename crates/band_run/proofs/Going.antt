@@ -16,7 +16,7 @@ use Rattle.band_run.specs.Bands.{AtSome, Given, IsFirst, IsImageOf, IsUnfit, Ban
 use Rattle.band_run.specs.Replies.{reply_text}
 use Rattle.band_run.specs.Answers.{Answers, Starts}
 use Rattle.band_run.specs.Openings.{Finds}
-use Rattle.band_run.specs.Steps.{Acted, Did, DidNot, GoesOnAnyway, RanTo, Stands, Tells}
+use Rattle.band_run.specs.Steps.{Acted, Asks, Did, DidNot, GoesOnAnyway, RanTo, Stands, Tells}
 use Rattle.band_run.proofs.Openings.{no_replies, replies_more, replies_stay}
 use Rattle.band_run.proofs.Runs.{calm_more, faults_more, last_more, runs_more, some_last, some_more, some_run, text_more}
 
@@ -33,11 +33,11 @@ gathered_then : {P Q R : List ℕ → Type 0} {pending pending' : List ℕ} (tex
 gathered_then {P} {Q} {R} {pending} {pending'} text first then =
     subst (λ (w : List ℕ). Gathered P R pending' w) (append-nil text) (gathered_more [] first (subst (λ (w : List ℕ). Gathered Q R pending' w) (sym (append-nil pending)) then))
 
-module _ {D : Type 0} (bytes : D → List ℕ) (space : D → ℕ) (images : D → List ℕ → Type 0) (clock : D → ℕ) (images_since : D → ℕ → List ℕ → Type 0) (faults : D → ℕ)
+module _ {D : Type 0} (bytes : D → List ℕ) (space : D → ℕ) (images : D → List ℕ → Type 0) (clock : D → ℕ) (images_since : D → ℕ → List ℕ → Type 0) (faults changes : D → ℕ)
     (only_now : (disk : D) (image : List ℕ) → images_since disk (clock disk) image → images disk image) where
-  pub going_start : (old : D) (store : Store) → store ≡ store_specs.closed → GoesOnAnyway bytes space images clock images_since faults old old store [] []
+  pub going_start : (old : D) (store : Store) → store ≡ store_specs.closed → GoesOnAnyway bytes space images clock images_since faults changes old old store [] []
   going_start old store shut = record {
-    replies = no_replies store.opened (faults old) (ap (λ t. t.opened) shut);
+    replies = no_replies store.opened (faults old) (changes old) (ap (λ t. t.opened) shut);
     one_run = λ given saves starts. record {
       steps = [];
       run = tt;
@@ -59,11 +59,11 @@ module _ {D : Type 0} (bytes : D → List ℕ) (space : D → ℕ) (images : D �
         images_are = λ image now. first_image (bytes old) given.refusal saves image starts.holds (starts.synced image now);
       }
 
-  module _ (old now new : D) (store : Store) (done : List BandCommand) (text : List ℕ) (going : GoesOnAnyway bytes space images clock images_since faults old now store done text) where
-    pub going_more : (command : BandCommand) (store' : Store) (reply : Reply) → Did bytes space images clock images_since command store store' now new (Ok reply) → faults now ≤ faults new → Tells reply (faults now) (faults new) → Finds command store.opened store'.opened reply
-        → GoesOnAnyway bytes space images clock images_since faults old new store' (done ++ command ∷ []) (text ++ reply_text reply)
-    going_more command store' reply did later told finds = record {
-      replies = replies_more store.opened store'.opened done text (faults old) (faults now) (faults new) command reply going.replies finds later told;
+  module _ (old now new : D) (store : Store) (done : List BandCommand) (text : List ℕ) (going : GoesOnAnyway bytes space images clock images_since faults changes old now store done text) where
+    pub going_more : (command : BandCommand) (store' : Store) (reply : Reply) → Did bytes space images clock images_since command store store' now new (Ok reply) → faults now ≤ faults new → Tells reply (faults now) (faults new) → Finds command store.opened store'.opened reply → Asks reply (changes now) (changes new)
+        → GoesOnAnyway bytes space images clock images_since faults changes old new store' (done ++ command ∷ []) (text ++ reply_text reply)
+    going_more command store' reply did later told finds asks = record {
+      replies = replies_more store.opened store'.opened done text (faults old) (faults now) (faults new) (changes old) (changes now) (changes new) command reply going.replies finds later told asks;
       one_run = λ given saves starts.
           let g = going.one_run given saves starts in
           let d = did given (bytes old) (last_state (start saves) g.steps) g.stands in
@@ -87,9 +87,9 @@ module _ {D : Type 0} (bytes : D → List ℕ) (space : D → ℕ) (images : D �
           };
     }
 
-    pub answers_undone : (later : List BandCommand) → DidNot bytes space images clock images_since store now new → faults new ≡ faults now → Answers bytes space images clock images_since faults old new done later text
-    answers_undone later did same = record {
-      replies = replies_stay done text (faults old) (faults now) (faults new) going.replies.so_far same;
+    pub answers_undone : (later : List BandCommand) → DidNot bytes space images clock images_since store now new → faults new ≡ faults now → changes new ≡ changes now → Answers bytes space images clock images_since faults changes old new done later text
+    answers_undone later did same unasked = record {
+      replies = replies_stay done text (faults old) (faults now) (faults new) (changes old) (changes now) (changes new) going.replies.so_far same unasked;
       one_run = λ given saves starts.
           let g = going.one_run given saves starts in
           let u = did given (bytes old) (last_state (start saves) g.steps) g.stands in
@@ -112,7 +112,7 @@ module _ {D : Type 0} (bytes : D → List ℕ) (space : D → ℕ) (images : D �
           };
     }
 
-  pub answers_of : (old now : D) (store : Store) (done later : List BandCommand) (text : List ℕ) → GoesOnAnyway bytes space images clock images_since faults old now store done text → Answers bytes space images clock images_since faults old now done later text
+  pub answers_of : (old now : D) (store : Store) (done later : List BandCommand) (text : List ℕ) → GoesOnAnyway bytes space images clock images_since faults changes old now store done text → Answers bytes space images clock images_since faults changes old now done later text
   answers_of old now store done later text going = record {
     replies = going.replies.so_far;
     one_run = λ given saves starts.
@@ -134,8 +134,8 @@ module _ {D : Type 0} (bytes : D → List ℕ) (space : D → ℕ) (images : D �
 
   -- a run that stopped at a command
   pub ran_stopped : (held held' held'' : List ℕ → Type 0) (pending pending' : List ℕ) (old now new : D) (store store' : Store) (commands done later : List BandCommand) (command : BandCommand) (text : List ℕ) (stop : Stop) → commands ≡ done ++ command ∷ later
-      → GoesOnAnyway bytes space images clock images_since faults old now store done text → Gathered held held' pending text → faults now ≤ faults new → Acted bytes space images clock images_since faults command store store' now new held' held'' pending pending' (Err stop)
-      → RanTo (Answers bytes space images clock images_since faults old new) commands held held'' pending' (Err stop)
+      → GoesOnAnyway bytes space images clock images_since faults changes old now store done text → Gathered held held' pending text → faults now ≤ faults new → Acted bytes space images clock images_since faults changes command store store' now new held' held'' pending pending' (Err stop)
+      → RanTo (Answers bytes space images clock images_since faults changes old new) commands held held'' pending' (Err stop)
   ran_stopped held held' held'' pending pending' old now new store store' commands done later command text Write is going first rises a =
       let cut = gathered_cut text (reply_text a.0) a.3.0 a.3.1 (gathered_more a.3.0 first a.3.2) in (
         done ++ command ∷ [],
@@ -143,9 +143,9 @@ module _ {D : Type 0} (bytes : D → List ℕ) (space : D → ℕ) (images : D �
         text ++ reply_text a.0,
         cut.0,
         is ∙ sym (append_assoc done (command ∷ []) later),
-        answers_of old new store' (done ++ command ∷ []) later (text ++ reply_text a.0) (going_more old now new store done text going command store' a.0 a.1 rises a.2 a.4),
+        answers_of old new store' (done ++ command ∷ []) later (text ++ reply_text a.0) (going_more old now new store done text going command store' a.0 a.1 rises a.2 a.4 a.5),
         cut.1,
         cut.2,
       )
   ran_stopped held held' held'' pending pending' old now new store store' commands done later command text (Tell trouble) is going first rises a =
-      (done, command ∷ later, text, a.0, is, omega arith, answers_undone old now new store done text going (command ∷ later) a.1 a.3, gathered_then text first a.2)
+      (done, command ∷ later, text, a.0, is, omega arith, answers_undone old now new store done text going (command ∷ later) a.1 a.3 a.4, gathered_then text first a.2)

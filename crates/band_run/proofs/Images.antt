@@ -1,4 +1,4 @@
--- The images of states.
+-- The images of states: the possible post-crash states of a disk.
 use Rattle.std.proofs.Common.{◌≡◌, inl, ℕ, List, false, Option, Some, None, sym, subst}
 use Rattle.band_store.specs.band_disk.Disks.{LeavesOnly, ReadsOnly}
 use Rattle.band_store.proofs.band_disk.Moments.{started, weakened}
@@ -8,12 +8,12 @@ use Rattle.band_run.specs.declared.reply.Reply.{Reply}
 use Rattle.band_run.specs.Bands.{Given, IsImageOf, BandState, closed}
 use Rattle.band_run.specs.Steps.{Stands, Undone}
 
--- an image that holds the saves of a state
+-- an image that contains the saves of a state
 pub image_holds : (refusal : Option Reply) (first : List ℕ) (s : BandState) (image : List ℕ) → refusal ≡ None → Holds s.saves image → IsImageOf refusal first s image
 image_holds None first s image fit holds = inl holds
 image_holds (Some refusal) first s image fit holds = absurd cc
 
--- one with a pending save or without it
+-- an image with a pending save or without it
 pub image_torn : (refusal : Option Reply) (first : List ℕ) (s : BandState) (save : Save) (image : List ℕ) → refusal ≡ None → IsWithOrWithout s.saves save image → IsImageOf refusal first (record s { pending = Some save; opened = false }) image
 image_torn None first s save image fit holds = holds
 image_torn (Some refusal) first s save image fit holds = absurd cc

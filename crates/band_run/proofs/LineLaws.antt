@@ -1,4 +1,4 @@
--- What an accepted line is, where a command may stand.
+-- What an accepted line is, if it isn't part of a file.
 use Rattle.std.proofs.Common.{◌≡◌, ◌⊎◌, inl, inr, ℕ, List, [], ◌∷◌, ◌++◌, length, drop, Bool, true, false, ◌==◌, cond, codes, Result, Ok, Err, refl, sym, ap, ◌∙◌, subst, arith}
 use Rattle.std.specs.Prelude.{bytes_eq}
 use Rattle.std.proofs.lemmas.List.{append-nil}
@@ -14,12 +14,12 @@ use Rattle.band_run.specs.declared.reading.line.BandLine.{BandLine}
 use Rattle.band_run.specs.declared.reading.line.BandLine.TheVariants as L
 use Rattle.band_run.specs.Lines.{IsNamed, alone, band_line, line_in, name_in}
 
--- a test that was passed or failed
+-- a test that succeeded or failed
 either_ok : {A E : Type 0} (b : Bool) (one other : Result A E) (x : A) → cond b one other ≡ Ok x → ((b ≡ true) × (one ≡ Ok x)) ⊎ ((b ≡ false) × (other ≡ Ok x))
 either_ok true one other x is = inl (refl, is)
 either_ok false one other x is = inr (refl, is)
 
--- the words of a line that says this
+-- the words of a line with this meaning
 abbrev LineOf : List ℕ → ℕ → List (List ℕ) → BandLine → Type 0
 LineOf head count words L.Open = (head ≡ codes "open") × (count ≡ 1)
 LineOf head count words (L.Save name) = (head ≡ codes "save") × (count ≡ 2) × (first_word words ≡ name) × (is_name name ≡ true)
@@ -106,7 +106,7 @@ spelled text (L.Load name) row is = (row ∙ two_words (words_of text) (codes "l
 spelled text L.List row is = (row ∙ one_word (words_of text) (codes "list") is.0 is.1, tt)
 spelled text L.End row is = (row ∙ one_word (words_of text) (codes "end") is.0 is.1, tt)
 
--- an accepted line is the text of what it says
+-- an accepted line is the text of its meaning
 pub line_spelled : (text : List ℕ) (line : BandLine) → band_line text ≡ Ok line → (text ≡ line_text line) × IsNamed line
 line_spelled text line is =
     let g = guard_ok (is_well_formed text) (line_in (first_word (words_of text)) (length (words_of text)) (drop 1 (words_of text))) BadLine line is in

@@ -13,13 +13,13 @@ found [] (suc i) band is = absurd (cc (is))
 found (b ∷ bs) zero band is = (omega arith, cc)
 found (b ∷ bs) (suc i) band is = let r = found bs i band is in (omega (arith, r.0), r.1)
 
--- the line of one name more
+-- the line of one more name
 pub lines_more : (bands : List (List ℕ × ℕ)) (i : ℕ) (band : List ℕ × ℕ) → Some band ≡ slice_get bands i → list_text (take (i + 1) bands) ≡ list_text (take i bands) ++ band_line band
 lines_more bands i band is =
     let r = found bands i band is in
     parts_more band_line bands i band r.0 ∙ ap (λ b. list_text (take i bands) ++ band_line b) r.1
 
--- a name stands at each place up to the end
+-- there is a name at each position up to the end
 pub some_there : (bands : List (List ℕ × ℕ)) (i : ℕ) → i < length bands → None ≡ slice_get bands i → ⊥
 some_there [] i below is = omega arith
 some_there (b ∷ bs) zero below is = cc (is)

@@ -1,5 +1,5 @@
--- A load and a list, and the run's steps.
-use Rattle.std.proofs.Common.{◌≡◌, ◌⊎◌, inl, inr, ℕ, List, true, false, Bool, Result, Ok, Err, refl, sym, ◌∙◌, ap}
+-- A load and a list, and the transitions of the run.
+use Rattle.std.proofs.Common.{◌≡◌, ◌⊎◌, inl, inr, ℕ, List, true, false, Bool, Result, Ok, Err, refl, sym, ◌∙◌, ap, arith}
 use Rattle.std.specs.Prelude.{if◌then◌else◌, IfOk, OnErr}
 use Rattle.lisp_graph.specs.store_word.declared.faults.NoMemory.{NoMemory}
 use Rattle.band_store.specs.band_disk.Disks.{ReadsOnly}
@@ -13,7 +13,7 @@ use Rattle.band_run.specs.declared.reply.Reply.{Reply}
 use Rattle.band_run.specs.declared.reply.Reply.TheVariants as R
 use Rattle.band_run.specs.Bands.{Given, IsImageOf, BandState, closed, list_reply}
 use Rattle.band_run.specs.Replies.{is_fault, list_text}
-use Rattle.band_run.specs.Steps.{Did, Done, Stands, Tells}
+use Rattle.band_run.specs.Steps.{Asks, Did, Done, Stands, Tells}
 use Rattle.band_run.proofs.Images.{image_closed, leaves_read, leaves_still, stands_still, undone_still}
 
 abbrev list_by : Bool → List ℕ → Reply
@@ -62,10 +62,14 @@ pub did_list : {D : Type 0} (bytes : D → List ℕ) (space : D → ℕ) (images
 did_list bytes space images clock images_since only_now store disk (Ok reply) shut listed = λ given first s stands. list_done bytes space images clock images_since only_now given first s store store disk disk stands reply refl refl shut listed
 did_list bytes space images clock images_since only_now store disk (Err _) shut listed = λ given first s stands. undone_still bytes space images clock images_since only_now given first s store disk disk refl stands
 
--- where nothing is asked of the disk, a reply that is no fault tells that, and so does none
+-- if the disk isn't used, a reply that isn't `fault` agrees with an unchanged count
 pub calm_tells : (result : Result Reply NoMemory) (faults : ℕ) → IfOk result (λ reply. is_fault reply ≡ false) → IfOk result (λ reply. Tells reply faults faults)
 calm_tells (Ok reply) faults calm = record { cause = λ is. absurd (let same : false ≡ true = sym calm ∙ is in cc); quiet = λ _. refl }
 calm_tells (Err _) faults calm = tt
+
+pub asks_nothing : (result : Result Reply NoMemory) (changes : ℕ) → IfOk result (λ reply. Asks reply changes changes)
+asks_nothing (Ok reply) changes = omega arith
+asks_nothing (Err _) changes = tt
 
 pub stays_on_err : (result : Result Reply NoMemory) (faults : ℕ) → OnErr result (faults ≡ faults)
 stays_on_err (Ok _) faults = tt

@@ -1,4 +1,4 @@
--- A disk that was restarted, and a store that was opened on it.
+-- A disk that was restarted, and the store that was opened on it.
 use Rattle.std.proofs.Common.{◌≡◌, ◌⊎◌, inl, inr, ℕ, List, length, Option, Some, None, Result, Ok, Err, refl, sym, ◌∙◌, ap, subst}
 use Rattle.std.specs.Prelude.{IfSome}
 use Rattle.band_store.specs.band_disk.Disks.{Elapses, LeavesOnly, Only, ReadsOnly}
@@ -16,7 +16,7 @@ use Rattle.band_run.specs.Bands.{Given, IsImageOf, IsUnfit, Opens, BandState, cl
 use Rattle.band_run.specs.Steps.{Done, Stands}
 use Rattle.band_run.proofs.Images.{image_closed, image_holds}
 
--- what is wanted is answered
+-- the answer is the one that is wanted
 answered : (wanted count : ℕ) → IsOpenAnswer (Ok wanted) (Ok count) → count ≡ wanted
 answered wanted count (inl e) = cc
 answered wanted count (inr (inl e)) = absurd (cc (e))
@@ -52,7 +52,7 @@ same_place wanted at (inl e) = cc
 same_place wanted at (inr (inl e)) = absurd (cc (e))
 same_place wanted at (inr (inr e)) = absurd (cc (e))
 
--- what `open` answered of bytes
+-- what `open` answers for these bytes
 pub record Answers (bytes : List ℕ) (result : Result ℕ OpenFault) : Type 0 where
   pub holds : (saves : List Save) → Holds saves bytes → IsOpenAnswer (Ok (length (directory saves))) result
   pub not_a_store : IsNoStore bytes → IsOpenAnswer (Err O.NotAStore) result

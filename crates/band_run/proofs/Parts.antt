@@ -1,4 +1,4 @@
--- Parts that were gathered one after the other.
+-- Parts that were gathered one after another.
 use Rattle.std.proofs.Common.{◌≡◌, ℕ, ◌+◌, ◌<◌, List, [], ◌++◌, length, take, drop, get_or, sym, subst, ap, ◌∙◌, append_assoc, take-append-drop}
 use Rattle.std.proofs.lemmas.List.{append-nil, drop_more}
 use Rattle.std.proofs.lemmas.List.Concat.{flat_map-append}
@@ -8,7 +8,7 @@ use Rattle.outer_ports.specs.Buffers.{Gathered}
 use Rattle.outer_ports.proofs.Gains.{cut_behind, cut_longer, parts_more}
 use Rattle.outer_ports.proofs.Pending.{gathered_more, gathered_nothing}
 
--- all parts, cut before and behind one of them
+-- all parts, split into those before one of them, that one, and those after it
 all_parts : {X : Type 0} (f : X → List ℕ) (parts : List X) (i : ℕ) (d : X) → i < length parts → flat_map f parts ≡ flat_map f (take i parts) ++ (f (get_or parts i d) ++ flat_map f (drop (i + 1) parts))
 all_parts f parts i d below =
     ap (flat_map f) (sym (take-append-drop i parts)) ∙ flat_map-append f (take i parts) (drop i parts)

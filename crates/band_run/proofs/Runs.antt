@@ -1,4 +1,4 @@
--- Runs of commands, one after the other.
+-- Runs of commands, one after another.
 use Rattle.std.proofs.Common.{◌≡◌, inl, inr, ℕ, ◌+◌, ◌-◌, ◌<◌, ◌≤◌, ◌^◌, List, [], ◌∷◌, ◌++◌, length, true, false, Bool, Option, Some, None, refl, ◌∙◌, ap, arith}
 use Rattle.std.specs.Prelude.{IfSome, nat_lt, if◌then◌else◌}
 use Rattle.std.proofs.lemmas.List.{append-nil}
@@ -15,7 +15,7 @@ use Rattle.band_run.specs.Bands.{AtSome, Given, IsUnfit, Runs, Saves, BandState,
 use Rattle.band_run.specs.Replies.{is_fault, reply_text}
 use Rattle.band_run.proofs.Openings.{quiet_more, rises_more}
 
--- one command more
+-- one more command
 pub runs_more : (given : Given) (old : BandState) (commands : List BandCommand) (steps : List Stepped) (command : BandCommand) (step : Stepped) → Runs given old commands steps → Step given (last_state old steps) command step.reply step.state → Runs given old (commands ++ command ∷ []) (steps ++ step ∷ [])
 runs_more given old [] [] command step run more = (more, tt)
 runs_more given old [] (x ∷ xs) command step run more = absurd run
@@ -32,7 +32,7 @@ some_more P old [] step h = inl h
 some_more P old (x ∷ xs) step (inl h) = inl h
 some_more P old (x ∷ xs) step (inr h) = inr (some_more P x.state xs step h)
 
--- the last state is one of them
+-- the last state is one of the states of a run
 pub some_last : (P : BandState → Type 0) (old : BandState) (steps : List Stepped) → P (last_state old steps) → AtSome P old steps
 some_last P old [] h = h
 some_last P old (x ∷ xs) h = inr (some_last P x.state xs h)
@@ -42,17 +42,17 @@ text_more steps step =
     flat_map-append (λ (x : Stepped). reply_text x.reply) steps (step ∷ [])
     ∙ ap (λ l. text_of steps ++ l) (flat_map-cons (λ (x : Stepped). reply_text x.reply) step [] ∙ append-nil (reply_text step.reply))
 
--- A count of faults that stays below its type's end rises with each fault.
+-- A count of failed calls that isn't saturated rises with each reply `fault`.
 pub faults_more : (before now after : ℕ) (steps : List Stepped) (step : Stepped) → (now < 2 ^ 64 - 1 → faults_in steps + before ≤ now) → now ≤ after → (is_fault step.reply ≡ true → Rose now after)
     → after < 2 ^ 64 - 1 → faults_in (steps ++ step ∷ []) + before ≤ after
 faults_more before now after steps step so_far later cause below = rises_more (λ (x : Stepped). is_fault x.reply) before now after steps step so_far later cause below
 
--- Where none of the replies is a fault the count is as it was.
+-- If none of the replies is `fault`, the count is unchanged.
 pub calm_more : (before now after : ℕ) (steps : List Stepped) (step : Stepped) → (faults_in steps ≡ 0 → now ≡ before) → (is_fault step.reply ≡ false → after ≡ now)
     → faults_in (steps ++ step ∷ []) ≡ 0 → after ≡ before
 calm_more before now after steps step so_far quiet none = quiet_more (λ (x : Stepped). is_fault x.reply) before now after steps step so_far quiet none
 
--- Every state has a step without a fault
+-- From every state there is a transition whose reply isn't `fault`
 
 abbrev is_calm : Given → BandState → BandCommand → Type 0
 is_calm given s command = (step : Stepped) × Step given s command step.reply step.state × (is_fault step.reply ≡ false)

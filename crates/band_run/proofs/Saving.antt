@@ -1,4 +1,4 @@
--- A save, and the run's step.
+-- A save, and the transition of the run.
 use Rattle.std.proofs.Common.{◌≡◌, ◌≢◌, ◌⊎◌, inl, inr, ⊎_elim, ℕ, ◌+◌, ◌≤◌, List, [], ◌∷◌, ◌++◌, length, true, false, Bool, Option, Some, None, Result, Ok, Err, refl, sym, ◌∙◌, ap, subst, arith}
 use Rattle.std.specs.Prelude.{nat_lt, if◌then◌else◌}
 use Rattle.band_store.specs.band_disk.Disks.{LeavesOnly}
@@ -51,7 +51,7 @@ same_refusal store room s save false here there gate =
     ap (λ (o : Bool). refusal_of (checked_by o (nat_lt 1048576 (length save.text)) (nat_lt room (store.gate + 7 + length save.name + length save.text)) (length save.text) (store.gate + 7 + length save.name + length save.text) (store.gate + 6 + length save.name + length save.text))) here
     ∙ ap (λ (o : Bool). refused_by o (nat_lt 1048576 (length save.text)) (nat_lt room (room_for s.saves save)) (length save.text) (room_for s.saves save)) (sym there)
 
--- the steps, by what was checked
+-- the transitions, by the result of the checks
 saves_ok : (c : Result ℕ SaveFault) (s : BandState) (save : Save) → IsSaveAnswer c (Ok tt) → Saves (refusal_of c) s save (R.Saved save.name) (record s { saves = s.saves ++ save ∷ [] })
 saves_ok (Ok gate) s save a = inl (refl, refl)
 saves_ok (Err fault) s save a = absurd (cc (a))
@@ -60,7 +60,7 @@ saves_fault : (c : Result ℕ SaveFault) (s : BandState) (save : Save) → IsSav
 saves_fault (Ok gate) s save a = inr (refl, refl)
 saves_fault (Err fault) s save a = let same : fault ≡ S.Disk = cc in subst (λ f. Saves (refusal_of (Err f)) s save R.Fault (record s { pending = Some save; opened = false })) (sym same) (inr (refl, refl))
 
--- a store that isn't open answers that
+-- a store that isn't open answers `closed`
 open_when : (store : Store) (room : ℕ) (save : Save) (opened : Bool) → store.opened ≡ opened → (result : Result (Unit {0}) SaveFault) → result ≢ Err S.Closed → IsSaveAnswer (checked store room save) result → store.opened ≡ true
 open_when store room save true is result other a = is
 open_when store room save false is result other a = absurd (other (subst (λ (o : Bool). IsSaveAnswer (checked_by o (nat_lt 1048576 (length save.text)) (nat_lt room (store.gate + 7 + length save.name + length save.text)) (length save.text) (store.gate + 7 + length save.name + length save.text) (store.gate + 6 + length save.name + length save.text)) result) is a))
@@ -79,7 +79,7 @@ module _ {D : Type 0} (bytes : D → List ℕ) (space : D → ℕ) (images : D �
   open_here : (result : Result (Unit {0}) SaveFault) → result ≢ Err S.Closed → IsSaveAnswer (checked store (space old) save) result → s.opened ≡ true
   open_here result other a = sym stands.opened ∙ open_when store (space old) save store.opened refl result other a
 
-  -- any moment of a save leaves an image of the state before it or behind it
+  -- a crash at any moment of a save results in an image of the state before it or after it
   pub save_done : space new ≡ space old → IsSaveAnswer (checked store (space old) save) (Ok tt) → ((saves : List Save) → IsReady store (bytes old) (images old) saves → IsReady store' (bytes new) (images new) (saves ++ save ∷ []))
       → ((saves : List Save) → IsReady store (bytes old) (images old) saves → LeavesOnly clock images_since old new (IsWithOrWithout saves save)) → Done bytes space images clock images_since given first s (C.Save save.name save.text) (R.Saved save.name) store' old new
   save_done space_is a saved moments =

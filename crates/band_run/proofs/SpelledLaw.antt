@@ -1,4 +1,4 @@
--- An accepted input is the lines of its commands, and `end`.
+-- An accepted input consists of the lines of its commands, and `end`.
 use Rattle.std.proofs.Common.{◌≡◌, ◌⊎◌, inl, inr, ℕ, ◌+◌, List, [], ◌∷◌, ◌++◌, length, Bool, true, false, cond, Ok, refl, sym, ap, ◌∙◌, subst, ◌≤◌, ◌^◌, arith}
 use Rattle.std.specs.Prelude.{flat_map}
 use Rattle.std.proofs.lemmas.Bool.{cases_Bool}
@@ -24,7 +24,7 @@ spells_end input bytes text feed ends last within = record {
   is = ap (λ xs. xs ++ (text ++ feed)) ends.bytes_are ∙ ap (λ t. flat_map command_lines input.commands ++ (t ++ feed)) ends.text_is;
 }
 
--- a line feed or none
+-- a line feed, or nothing
 abbrev feed_if : Bool → List ℕ
 feed_if b = cond b (10 ∷ []) []
 
@@ -50,7 +50,7 @@ ends_within place next line bytes count is =
     one_at true = omega arith
     one_at false = omega arith
 
--- how many bytes there are behind a whole line
+-- how many bytes there are after a whole line
 more_count : (place next : InputReader BandInput) (text bytes : List ℕ) → place.bytes ≡ length bytes → V.judged_as band_rules place text (length text + 1) ≡ Ok next → next.bytes ≡ length (bytes ++ (text ++ 10 ∷ []))
 more_count place next text bytes count is =
     let p = passed band_rules place text (length text + 1) next is in

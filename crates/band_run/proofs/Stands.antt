@@ -1,4 +1,4 @@
--- What the lines so far are.
+-- What the lines so far amount to.
 use Rattle.std.proofs.Common.{◌≡◌, ◌⊎◌, inl, inr, ℕ, ◌+◌, ◌≤◌, ◌^◌, min, List, [], ◌∷◌, ◌++◌, length, true, false, codes, Option, Some, None, Result, Ok, Err, All, refl, sym, ap, ◌∙◌, subst, arith}
 use Rattle.std.specs.Prelude.{IfSome, flat_map}
 use Rattle.std.proofs.lemmas.Bool.{cases_Bool}
@@ -29,7 +29,7 @@ use Rattle.band_run.specs.Verdict.{band_rules, command_next, file_next, line_in,
 use Rattle.band_run.specs.Spelled.{IsAllowed, IsWholeFile, command_lines}
 use Rattle.band_run.proofs.LineLaws.{line_spelled}
 
--- The lines of a file so far, as a world file by itself is judged. So many bytes were read at most before them.
+-- The lines of a file so far, as a world file alone is judged. At most this many bytes were read before them.
 pub record FileStands (file : BandFile) (bytes : ℕ) : Type 0 where
   pub name : is_name file.name ≡ true
   pub going : is_closed file.builder.part ≡ false
@@ -45,14 +45,14 @@ abbrev pub begun : Option BandFile → List ℕ
 begun None = []
 begun (Some file) = codes "save " ++ (file.name ++ 10 ∷ file.text)
 
--- The bytes so far, of which there are so many, are the lines of the commands, and those of a save that isn't whole.
+-- The bytes so far, `count` of them, are the lines of the commands, followed by those of a save that isn't whole.
 pub record Stands (input : BandInput) (count : ℕ) (bytes : List ℕ) : Type 0 where
   pub each : All IsAllowed input.commands
   pub file : IfSome input.file (λ file. FileStands file count)
   pub going : input.ended ≡ false
   pub is : bytes ≡ flat_map command_lines input.commands ++ begun input.file
 
--- The line `end` stands behind the commands.
+-- The line `end` follows the commands.
 pub record Ends (input : BandInput) (bytes text : List ℕ) : Type 0 where
   pub each : All IsAllowed input.commands
   pub ended : input.ended ≡ true
@@ -64,7 +64,7 @@ pub record Ends (input : BandInput) (bytes text : List ℕ) : Type 0 where
 abbrev whole_line : List ℕ → Line
 whole_line text = record { text = text; whole = true }
 
--- what is known of the file behind one more line
+-- what holds of the file after one more line
 pub record FileGoes (file : BandFile) (text : List ℕ) (builder : WorldReader) (bytes : ℕ) : Type 0 where
   pub place : InputReader WorldFile
   pub builder_is : place.judge.builder ≡ builder
@@ -98,7 +98,7 @@ file_goes file bytes text step builder stands none within short said =
           ∙ ap (λ (s : V.Said WorldFile). V.decided s (λ behind. V.judged F.file_rules behind rest)) judged;
     }
 
--- a file that is closed by its last line is a world file
+-- a file that its last line closes is a world file
 file_whole : (file : BandFile) (text : List ℕ) (builder : WorldReader) (bytes : ℕ) → FileGoes file text builder bytes → is_closed builder.part ≡ true → IsWholeFile (text_with file text)
 file_whole file text builder bytes goes closed =
     let lines : lines_of (text_with file text) ≡ goes.lines ++ [] = ap lines_of (sym (append-nil (text_with file text))) ∙ goes.cuts [] in
@@ -121,7 +121,7 @@ one_more commands command bytes added is same =
     ∙ flat_map_more command_lines [] commands command
     ∙ sym (append-nil (flat_map command_lines (commands ++ command ∷ [])))
 
--- behind a command of one line, where there are `more` bytes
+-- after a command of one line, if there are `more` bytes
 stands_command : (input : BandInput) (count more : ℕ) (command : BandCommand) (bytes text : List ℕ) → Stands input count bytes → input.file ≡ None → IsAllowed command → text ++ 10 ∷ [] ≡ command_lines command
     → Stands (with_command input command) more (bytes ++ (text ++ 10 ∷ []))
 stands_command input count more command bytes text stands none allowed same = record {
@@ -133,7 +133,7 @@ stands_command input count more command bytes text stands none allowed same = re
       ∙ ap (λ f. flat_map command_lines (input.commands ++ command ∷ []) ++ begun f) (sym none);
 }
 
--- behind the line that begins a save
+-- after the line that begins a save
 stands_save : (input : BandInput) (count more : ℕ) (name bytes text : List ℕ) → Stands input count bytes → input.file ≡ None → is_name name ≡ true → text ≡ codes "save " ++ name
     → Stands (record input { file = Some (new_file name) }) more (bytes ++ (text ++ 10 ∷ []))
 stands_save input count more name bytes text stands none named same = record {
@@ -154,7 +154,7 @@ stands_save input count more name bytes text stands none named same = record {
       ∙ ap (λ xs. flat_map command_lines input.commands ++ xs) (ap (λ t. t ++ 10 ∷ []) same ∙ append_assoc (codes "save ") name (10 ∷ []));
 }
 
--- what is known behind one more line
+-- what holds after one more line
 abbrev pub Goes : BandInput → ℕ → List ℕ → List ℕ → Type 0
 Goes input count bytes text = Stands input count (bytes ++ (text ++ 10 ∷ [])) ⊎ Ends input bytes text
 

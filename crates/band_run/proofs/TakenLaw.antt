@@ -1,4 +1,4 @@
--- The lines of commands, and `end` behind them, are an accepted input.
+-- The lines of commands, followed by `end`, are an accepted input.
 use Rattle.std.proofs.Common.{◌≡◌, ◌⊎◌, inl, inr, ℕ, ◌+◌, ◌≤◌, ◌^◌, List, [], ◌∷◌, ◌++◌, length, Bool, true, false, cond, codes, Some, None, Ok, Err, All, refl, sym, ap, ◌∙◌, subst, arith}
 use Rattle.std.specs.Prelude.{flat_map}
 use Rattle.std.proofs.lemmas.Bool.{cases_Bool}
@@ -29,11 +29,11 @@ use Rattle.band_run.proofs.TakenLines.{line_feed, line_short, line_taken}
 
 -- One line
 
--- behind one more line of this size
+-- after one more line of this size
 abbrev behind : InputReader BandInput → ℕ → BandInput → InputReader BandInput
 behind place size input = record { judge = input; lines = place.lines + 1; bytes = place.bytes + size }
 
--- a line where a command may stand
+-- a line that isn't part of a file
 line_judged : (place : InputReader BandInput) (after : BandInput) (line : BandLine) (size : ℕ) → IsNamed line → place.judge.file ≡ None → place.judge.ended ≡ false → place.bytes + size ≤ 2 ^ 40 → command_next (place.lines + 1) place.judge (Ok line) ≡ Ok after
     → V.judged_as band_rules place (line_text line) size ≡ Ok (behind place size after)
 line_judged place after line size named none going within next =
@@ -50,7 +50,7 @@ line_steps place after line more named none going within next =
 
 -- What is reached
 
--- behind these commands and so many bytes, where the next command may stand
+-- after these commands and this many bytes, and not inside a file
 pub record Reaches (commands : List BandCommand) (bytes : ℕ) (next : InputReader BandInput) : Type 0 where
   pub commands_are : next.judge.commands ≡ commands
   pub file : next.judge.file ≡ None

@@ -1,4 +1,4 @@
--- A line that is spelled is accepted, where a command may stand.
+-- The line that spells a command or `end` is accepted, if it isn't part of a file.
 use Rattle.std.proofs.Common.{◌≡◌, ℕ, ◌≤◌, List, [], ◌∷◌, ◌++◌, length, Bool, true, false, ◌==◌, ◌||◌, codes, cond, Ok, refl, sym, ap, ◌∙◌, arith}
 use Rattle.std.specs.Prelude.{nat_lt}
 use Rattle.std.specs.List.{list_all}
@@ -48,7 +48,7 @@ name_read name named = rw named refl
 named_good : (head name : List ℕ) → is_word head ≡ true → is_name name ≡ true → list_all is_word (head ∷ name ∷ []) ≡ true
 named_good head name good named = rw (good, name_word name named) refl
 
--- the text of a line says what it is the text of
+-- the text of a line means that line
 pub line_taken : (line : BandLine) → IsNamed line → band_line (line_text line) ≡ Ok line
 unfolding line_in
 line_taken L.Open named = let f = line_formed (codes "open") [] (refl {a = true}) in rw (f.0, f.1) (refl {a = Ok L.Open})

@@ -7,3 +7,4 @@ pub mod Outcome
 pub mod Lines
 pub mod Verdict
 pub mod Spelled
+pub mod Disk

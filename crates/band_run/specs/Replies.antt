@@ -3,15 +3,15 @@ use Rattle.std.specs.Prelude.{ℕ, List, [], ◌∷◌, ◌++◌, Bool, true, fa
 use Rattle.band_run.specs.declared.reply.Reply.{Reply}
 use Rattle.band_run.specs.declared.reply.Reply.TheVariants as R
 
--- a line of a word and a number
+-- a line with a word and a number
 abbrev pub number_line : List ℕ → ℕ → List ℕ
 number_line word number = word ++ (codes " " ++ (decimal number ++ 10 ∷ []))
 
--- a line of a word and a name
+-- a line with a word and a name
 abbrev pub name_line : List ℕ → List ℕ → List ℕ
 name_line word name = word ++ (codes " " ++ (name ++ 10 ∷ []))
 
--- the line of a name whose last text has so many bytes
+-- the line of a name whose last text has this many bytes
 abbrev pub band_line : List ℕ × ℕ → List ℕ
 band_line band = codes "band " ++ (band.0 ++ (codes " " ++ (decimal band.1 ++ 10 ∷ [])))
 
@@ -33,7 +33,7 @@ reply_text (R.Listed lines) = lines
 reply_text R.Closed = codes "closed" ++ 10 ∷ []
 reply_text R.Fault = codes "fault" ++ 10 ∷ []
 
--- the reply tells that the disk failed
+-- the reply says that the disk failed
 abbrev pub is_fault : Reply → Bool
 is_fault R.Fault = true
 is_fault _ = false

@@ -15,14 +15,14 @@ command_lines (C.Save name text) = codes "save " ++ (name ++ 10 ∷ text)
 command_lines (C.Load name) = codes "load " ++ (name ++ 10 ∷ [])
 command_lines C.List = codes "list" ++ 10 ∷ []
 
--- the text is that of a world file, and its last line has its line feed
+-- the text is that of a world file, and its last line ends with a line feed
 pub record IsWholeFile (text : List ℕ) : Type 0 where
   pub world : World
   pub says : world_verdict text ≡ Ok world
   pub front : List ℕ
   pub feed : text ≡ front ++ 10 ∷ []
 
--- a name is a name, and what is saved is a whole world file
+-- the command's name is valid, and what it saves is a whole world file
 abbrev pub IsAllowed : BandCommand → Type 0
 IsAllowed (C.Save name text) = (is_name name ≡ true) × IsWholeFile text
 IsAllowed (C.Load name) = is_name name ≡ true
@@ -36,7 +36,7 @@ pub record Spells (commands : List BandCommand) (input : List ℕ) : Type 0 wher
   pub last : (feed ≡ 10 ∷ []) ⊎ (feed ≡ [])
   pub is : input ≡ flat_map command_lines commands ++ (codes "end" ++ feed)
 
--- The law above the fold over lines: an input that is accepted is the spelling of its commands, and each spelling is accepted.
+-- The law about the fold over lines: an accepted input is a spelling of its commands, and each spelling is accepted.
 pub record AcceptsSpellings : Type 0 where
   pub only : (input : List ℕ) (commands : List BandCommand) → verdict input ≡ Ok commands → Spells commands input
   pub all : (input : List ℕ) (commands : List BandCommand) → Spells commands input → verdict input ≡ Ok commands

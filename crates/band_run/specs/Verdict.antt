@@ -1,4 +1,4 @@
--- What an input says, line by line, up to the first line that breaks a rule.
+-- What an input means, line by line, up to the first line that breaks a rule.
 use Rattle.std.specs.Prelude.{ℕ, List, [], ◌∷◌, ◌++◌, true, false, if◌then◌else◌, Option, Some, None, Result, Ok, Err}
 use Rattle.world_text.specs.declared.reading.reason.Reason.{Reason}
 use Rattle.world_text.specs.declared.reading.reason.Reason.TheVariants.{BadLine}
@@ -22,11 +22,11 @@ use Rattle.band_run.specs.Lines.{band_line}
 abbrev pub start : BandInput
 start = record { commands = []; file = None; ended = false }
 
--- what a line says: the input with it, or the trouble with it
+-- what a line leads to: the input including it, or the trouble with it
 abbrev pub Said : Type 0
 Said = Result BandInput RunError
 
--- behind one more command
+-- after one more command
 abbrev pub with_command : BandInput → BandCommand → BandInput
 with_command input command = record input { commands = input.commands ++ command ∷ [] }
 
@@ -34,7 +34,7 @@ with_command input command = record input { commands = input.commands ++ command
 abbrev pub new_file : List ℕ → BandFile
 new_file name = record { name = name; text = []; builder = opening_place true }
 
--- behind a line of this number where a command may stand
+-- after the line of this number, which isn't part of a file
 abbrev pub command_next : ℕ → BandInput → Result BandLine Reason → Said
 command_next number input (Ok L.Open) = Ok (with_command input C.Open)
 command_next number input (Ok (L.Save name)) = Ok (record input { file = Some (new_file name) })
@@ -43,25 +43,25 @@ command_next number input (Ok L.List) = Ok (with_command input C.List)
 command_next number input (Ok L.End) = Ok (record input { ended = true })
 command_next number input (Err reason) = Err (T.Line number reason)
 
--- the bytes of a file, each line of it with its line feed
+-- the text of a file, each line of it with its line feed
 abbrev pub text_with : BandFile → List ℕ → List ℕ
 text_with file text = file.text ++ (text ++ 10 ∷ [])
 
--- Behind a line of a file, which has this number. The line that closes its world makes it a command.
+-- After a line of a file, which has this number. The line that closes its world makes it a command.
 abbrev pub file_next : ℕ → BandInput → BandFile → List ℕ → WorldSaid → Said
 file_next number input file text (Ok (step, builder)) =
     if is_closed builder.part then Ok (with_command (record input { file = None }) (C.Save file.name (text_with file text)))
     else Ok (record input { file = Some (record file { text = text_with file text; builder = builder }) })
 file_next number input file text (Err fault) = Err (world_trouble number file.builder.world.areas fault)
 
--- what a text says as the line of this number
+-- what a text leads to as the line of this number
 abbrev pub line_in : ℕ → BandInput → Option BandFile → List ℕ → Said
 line_in number input None text = command_next number input (band_line text)
 line_in number input (Some file) text = file_next number input file text (line_at file.builder text)
 
 -- All lines
 
--- How the lines of an input are judged. They are whole behind `end`; an empty input is judged as an empty line.
+-- How the lines of an input are judged. They are whole after `end`; an empty input is judged as an empty line.
 abbrev pub band_rules : Rules BandInput (List BandCommand)
 band_rules = record {
   is_whole = λ input. input.ended;

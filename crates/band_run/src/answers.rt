@@ -6,7 +6,7 @@ ghost use Rattle.band_store.specs.Store.{IsOpenOn};
 ghost use Rattle.band_run.specs.declared.reading.command.BandCommand.TheVariants as C;
 ghost use Rattle.band_run.specs.Replies.{band_line, is_fault, list_text};
 ghost use Rattle.band_run.specs.Openings.{Finds};
-ghost use Rattle.band_run.specs.Steps.{Did, IsUsable, Tells};
+ghost use Rattle.band_run.specs.Steps.{Asks, Did, IsUsable, Tells};
 
 use crate::reading::BandCommand;
 use crate::reply::Reply;
@@ -24,6 +24,8 @@ fn open<D: BandDisk>(store: &mut BandStore, disk: &mut D) -> Result<Reply, NoMem
     ensures usable { OnOk result (IsUsable store.new (D.bytes disk.new) (D.images disk.new)) }
     ensures tells { IfOk result (λ reply. Tells reply (D.faults disk.old) (D.faults disk.new)) }
     ensures quiet { OnErr result (D.faults disk.new ≡ D.faults disk.old) }
+    ensures asks { IfOk result (λ reply. Asks reply (D.changes disk.old) (D.changes disk.new)) }
+    ensures unasked { OnErr result (D.changes disk.new ≡ D.changes disk.old) }
     ensures later { D.faults disk.old ≤ D.faults disk.new }
 {
     disk.restart();
@@ -49,6 +51,8 @@ fn save<D: BandDisk>(
     ensures usable { OnOk result (IsUsable store.new (D.bytes disk.new) (D.images disk.new)) }
     ensures tells { IfOk result (λ reply. Tells reply (D.faults disk.old) (D.faults disk.new)) }
     ensures quiet { OnErr result (D.faults disk.new ≡ D.faults disk.old) }
+    ensures asks { IfOk result (λ reply. Asks reply (D.changes disk.old) (D.changes disk.new)) }
+    ensures unasked { OnErr result (D.changes disk.new ≡ D.changes disk.old) }
     ensures later { D.faults disk.old ≤ D.faults disk.new }
 {
     match store.save(disk, name, text) {
@@ -61,7 +65,7 @@ fn save<D: BandDisk>(
     }
 }
 
-/// Loads the last text of a name.
+/// Loads the text last saved under a name.
 fn load<D: BandDisk>(store: &mut BandStore, disk: &mut D, name: &Name) -> Result<Reply, NoMemory>
     requires { IsUsable store.old (D.bytes disk.old) (D.images disk.old) }
     ensures did { Did D.bytes D.space D.images D.clock D.images_since (C.Load name.now) store.old store.new disk.old disk.new result }
@@ -69,6 +73,8 @@ fn load<D: BandDisk>(store: &mut BandStore, disk: &mut D, name: &Name) -> Result
     ensures usable { OnOk result (IsUsable store.new (D.bytes disk.new) (D.images disk.new)) }
     ensures tells { IfOk result (λ reply. Tells reply (D.faults disk.old) (D.faults disk.new)) }
     ensures quiet { OnErr result (D.faults disk.new ≡ D.faults disk.old) }
+    ensures asks { IfOk result (λ reply. Asks reply (D.changes disk.old) (D.changes disk.new)) }
+    ensures unasked { OnErr result (D.changes disk.new ≡ D.changes disk.old) }
     ensures later { D.faults disk.old ≤ D.faults disk.new }
 {
     match store.load(disk, name) {
@@ -80,7 +86,7 @@ fn load<D: BandDisk>(store: &mut BandStore, disk: &mut D, name: &Name) -> Result
     }
 }
 
-/// The line of a name with the length of its text in bytes.
+/// Appends the line of a name, with the length of its text in bytes.
 #[tactic(auto, using(std::proofs::Common::append_assoc))]
 fn push_band(lines: &mut Text, name: &Name, size: u32) -> Result<(), NoMemory>
     ensures { OnOk result (lines.new ≡ lines.old ++ band_line (name.now, size)) }
@@ -121,7 +127,7 @@ fn list(alloc: Global, store: &BandStore) -> Result<Reply, NoMemory>
     Ok(Reply::Listed { lines })
 }
 
-/// Does what a command asks, and answers it.
+/// Runs a command, and returns its reply.
 pub fn answer<D: BandDisk>(
     alloc: Global,
     store: &mut BandStore,
@@ -134,6 +140,8 @@ pub fn answer<D: BandDisk>(
     ensures usable { OnOk result (IsUsable store.new (D.bytes disk.new) (D.images disk.new)) }
     ensures tells { IfOk result (λ reply. Tells reply (D.faults disk.old) (D.faults disk.new)) }
     ensures quiet { OnErr result (D.faults disk.new ≡ D.faults disk.old) }
+    ensures asks { IfOk result (λ reply. Asks reply (D.changes disk.old) (D.changes disk.new)) }
+    ensures unasked { OnErr result (D.changes disk.new ≡ D.changes disk.old) }
     ensures later { D.faults disk.old ≤ D.faults disk.new }
 {
     match command {

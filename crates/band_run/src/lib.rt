@@ -1,13 +1,14 @@
-//! Runs over saved bands: an input is read and judged whole, then its commands are run on a store and its disk, and their replies
+//! Runs over saved bands: the whole input is read and judged, then its commands are run on a store and its disk, and their replies
 //! are written.
 //!
-//! Contracts say for each status what was read of the input and what was written (`specs/Outcome.antt`), that the replies are those
-//! of one run of the definition (`specs/Bands.antt`), and what each image of the disk holds (`specs/Answers.antt`). Begin with
-//! `top` and `run`; `answers` has one function for each command. `reading` reads an input line by line and answers its commands, the
-//! text of each save with them, or the trouble with the first line that breaks a rule (`specs/Verdict.antt`, and `specs/Lines.antt`).
+//! For each status, contracts say what was read of the input and what was written (`specs/Outcome.antt`), that the replies are those
+//! of one run of the definition (`specs/Bands.antt`), and what each possible post-crash state of the disk contains (`specs/Answers.antt`). Begin with
+//! `top` and `run`; `answers` has one function for each command. `reading` reads an input line by line and returns its commands, each save
+//! with its text, or the trouble with the first line that breaks a rule (`specs/Verdict.antt` and `specs/Lines.antt`).
 #![tactic(auto)]
 
 mod answers;
+mod disk;
 mod input;
 mod laws;
 mod reading;
@@ -16,6 +17,7 @@ mod run;
 mod top;
 
 pub use band_store::BandMemory;
+pub use disk::new_disk;
 pub use laws::every_disk_has_a_start;
 pub use line_input::{RunError, report};
 pub use reading::{

@@ -1,4 +1,4 @@
-//! The whole input of a run: read and judged before its first command.
+//! Reading and judging the whole input, before its first command is run.
 
 mod command;
 mod input;

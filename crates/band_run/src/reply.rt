@@ -1,6 +1,6 @@
 //! Replies.
-ghost use Rattle.std.specs.Prelude.{flat_map};
-ghost use Rattle.outer_ports.specs.Ports.{HasCause};
+ghost use Rattle.std.specs.Prelude.{flat_map, OnErr};
+ghost use Rattle.outer_ports.specs.Ports.{FailedLast, HasCause};
 ghost use Rattle.outer_ports.specs.Buffers.{Gathers};
 ghost use Rattle.band_run.specs.Replies.{name_line, number_line, reply_text};
 
@@ -8,19 +8,19 @@ use itoa::Buffer;
 use lisp_graph::{Name, Text};
 use outer_ports::{Sink, SinkBuffer, SinkFault};
 
-/// What a command answers.
+/// The answer to a command.
 #[derive(Debug, Drop)]
 pub enum Reply {
-    /// The store was opened, and has so many names.
+    /// The store was opened, and has this many names.
     Opened { count: u32 },
     /// The disk has no store.
     NotAStore,
-    /// The first gate that is open and has no record behind it is the byte with this number, from 0.
+    /// The first gate that is open and isn't followed by a record is the byte with this number, counted from 0.
     Damaged { at: u64 },
     Saved { name: Name },
-    /// The text has so many bytes, more than 1,048,576.
+    /// The text has this many bytes, more than 1,048,576.
     TooLarge { size: u64 },
-    /// The disk would need room for so many bytes.
+    /// The disk would need room for this many bytes.
     Full { end: u64 },
     Loaded { text: Text },
     NoBand { name: Name },
@@ -32,7 +32,7 @@ pub enum Reply {
     Fault,
 }
 
-/// Gathers these parts behind what is pending, one after the other, so that a line needn't be put together first.
+/// Gathers these parts after what is pending, one after another, so that a line needn't be put together first.
 fn gather_parts<K: Sink>(
     buffer: &mut SinkBuffer,
     sink: &mut K,
@@ -41,6 +41,7 @@ fn gather_parts<K: Sink>(
     ensures gathers { Gathers (K.stands sink.old) (K.stands sink.new)
         buffer.old.pending buffer.new.pending (flat_map (λ part. part.now) parts.now) result }
     ensures cause { HasCause (K.faults sink.old) (K.faults sink.new) result }
+    ensures last { OnErr result (FailedLast (K.faults sink.old) (K.faults sink.new) (K.failed sink.new)) }
 {
     for part in parts {
         buffer.gather(sink, part)?;
@@ -48,7 +49,7 @@ fn gather_parts<K: Sink>(
     Ok(())
 }
 
-/// Gathers a line of a word and a number.
+/// Gathers a line with a word and a number.
 fn gather_number<K: Sink>(
     buffer: &mut SinkBuffer,
     sink: &mut K,
@@ -58,6 +59,7 @@ fn gather_number<K: Sink>(
     ensures gathers { Gathers (K.stands sink.old) (K.stands sink.new)
         buffer.old.pending buffer.new.pending (number_line word.now number) result }
     ensures cause { HasCause (K.faults sink.old) (K.faults sink.new) result }
+    ensures last { OnErr result (FailedLast (K.faults sink.old) (K.faults sink.new) (K.failed sink.new)) }
 {
     let mut digits = Buffer::new();
     gather_parts(
@@ -67,7 +69,7 @@ fn gather_number<K: Sink>(
     )
 }
 
-/// Gathers a line of a word and a name.
+/// Gathers a line with a word and a name.
 fn gather_name<K: Sink>(
     buffer: &mut SinkBuffer,
     sink: &mut K,
@@ -77,11 +79,12 @@ fn gather_name<K: Sink>(
     ensures gathers { Gathers (K.stands sink.old) (K.stands sink.new)
         buffer.old.pending buffer.new.pending (name_line word.now name.now) result }
     ensures cause { HasCause (K.faults sink.old) (K.faults sink.new) result }
+    ensures last { OnErr result (FailedLast (K.faults sink.old) (K.faults sink.new) (K.failed sink.new)) }
 {
     gather_parts(buffer, sink, &[word, b" ", name.as_bytes(), b"\n"])
 }
 
-/// Gathers a reply behind what is pending.
+/// Gathers a reply after what is pending.
 pub fn gather_reply<K: Sink>(
     buffer: &mut SinkBuffer,
     sink: &mut K,
@@ -90,6 +93,7 @@ pub fn gather_reply<K: Sink>(
     ensures gathers { Gathers (K.stands sink.old) (K.stands sink.new)
         buffer.old.pending buffer.new.pending (reply_text reply.now) result }
     ensures cause { HasCause (K.faults sink.old) (K.faults sink.new) result }
+    ensures last { OnErr result (FailedLast (K.faults sink.old) (K.faults sink.new) (K.failed sink.new)) }
 {
     match reply {
         Reply::Opened { count } => gather_number(buffer, sink, b"opened", u64::from(*count)),

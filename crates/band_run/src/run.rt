@@ -1,6 +1,6 @@
 //! The loop over the commands.
 ghost use Rattle.std.specs.Prelude.{◌≡◌, ◌≢◌, ◌≤◌, [], Err, IfErr, OnOk};
-ghost use Rattle.outer_ports.specs.Ports.{Rose};
+ghost use Rattle.outer_ports.specs.Ports.{FailedLast, Rose};
 ghost use Rattle.band_store.specs.Store.{closed};
 ghost use Rattle.band_run.specs.Answers.{Answers};
 ghost use Rattle.band_run.specs.Steps.{Acted, IsUsable, RanTo};
@@ -13,7 +13,7 @@ use line_input::{RunError, Stop};
 use outer_ports::{Sink, SinkBuffer};
 use std::alloc::Global;
 
-/// Does what a command asks, and gathers its reply.
+/// Runs a command, and gathers its reply.
 fn act<K: Sink, D: BandDisk>(
     alloc: Global,
     store: &mut BandStore,
@@ -23,10 +23,11 @@ fn act<K: Sink, D: BandDisk>(
     command: &BandCommand,
 ) -> Result<(), Stop>
     requires { IsUsable store.old (D.bytes disk.old) (D.images disk.old) }
-    ensures acted { Acted D.bytes D.space D.images D.clock D.images_since D.faults command.now store.old store.new disk.old disk.new
+    ensures acted { Acted D.bytes D.space D.images D.clock D.images_since D.faults D.changes command.now store.old store.new disk.old disk.new
         (K.stands sink.old) (K.stands sink.new) buffer.old.pending buffer.new.pending result }
     ensures usable { OnOk result (IsUsable store.new (D.bytes disk.new) (D.images disk.new)) }
     ensures write { IfErr result (λ stop. stop ≡ Stop.Write → Rose (K.faults sink.old) (K.faults sink.new)) }
+    ensures last { IfErr result (λ stop. stop ≡ Stop.Write → FailedLast (K.faults sink.old) (K.faults sink.new) (K.failed sink.new)) }
     ensures later { K.faults sink.old ≤ K.faults sink.new }
     ensures quiet { result ≢ Err Stop.Write → K.faults sink.new ≡ K.faults sink.old }
     ensures later_disk { D.faults disk.old ≤ D.faults disk.new }
@@ -41,7 +42,7 @@ fn act<K: Sink, D: BandDisk>(
     }
 }
 
-/// Answers command after command, up to where the run has to stop.
+/// Answers one command after another, until the run has to stop.
 pub fn run<K: Sink, D: BandDisk>(
     alloc: Global,
     commands: &[BandCommand],
@@ -52,9 +53,10 @@ pub fn run<K: Sink, D: BandDisk>(
 ) -> Result<(), Stop>
     requires closed { store.old ≡ closed }
     requires pending { buffer.old.pending ≡ [] }
-    ensures ran { RanTo (Answers D.bytes D.space D.images D.clock D.images_since D.faults disk.old disk.new) commands.now
+    ensures ran { RanTo (Answers D.bytes D.space D.images D.clock D.images_since D.faults D.changes disk.old disk.new) commands.now
         (K.stands sink.old) (K.stands sink.new) buffer.new.pending result }
     ensures write { IfErr result (λ stop. stop ≡ Stop.Write → Rose (K.faults sink.old) (K.faults sink.new)) }
+    ensures last { IfErr result (λ stop. stop ≡ Stop.Write → FailedLast (K.faults sink.old) (K.faults sink.new) (K.failed sink.new)) }
     ensures later { K.faults sink.old ≤ K.faults sink.new }
     ensures quiet { result ≢ Err Stop.Write → K.faults sink.new ≡ K.faults sink.old }
 {

@@ -1,6 +1,6 @@
 //! The top call.
 ghost use Rattle.std.specs.Prelude.{◌≡◌, ◌≢◌, ◌⊎◌, ℕ, List, [], Some, Ok};
-ghost use Rattle.outer_ports.specs.Ports.{Rose};
+ghost use Rattle.outer_ports.specs.Ports.{FailedLast, Rose};
 ghost use Rattle.line_input.specs.Statuses.{Closed, code, trouble_line};
 ghost use Rattle.band_run.specs.declared.reading.command.BandCommand.{BandCommand};
 ghost use Rattle.band_run.specs.Verdict.{verdict};
@@ -13,12 +13,12 @@ use line_input::{RunError, Status, report};
 use outer_ports::{Sink, Source};
 use std::alloc::Global;
 
-/// All that a program over saved bands does. `words` are the words after its name, of which it takes none: where there is one it
-/// answers 7 and writes the line `error: usage`, or answers 1 where the sink fails in that.
+/// Everything that a program over saved bands does. `words` are the program's arguments. It takes none: if there is one it
+/// returns 7 and writes the line `error: usage`, or returns 1 if the sink fails in that.
 ///
-/// Else the input is read and judged whole, and only then its commands are run, on a store that is closed at first. It answers 0
-/// where all of them were answered, 1 where the sink failed, 2 and 4 where a line is refused, 3 where the source failed, and 5
-/// where memory ran out, then behind the replies of the commands before. A disk that fails has no status: a command in which it
+/// Otherwise the whole input is read and judged, and only then are its commands run, on a store that is closed at first. It returns 0
+/// if all of them were answered, 1 if the sink failed, 2 or 4 if a line is refused, 3 if the source failed, and 5
+/// if memory ran out; the replies to the commands before were written then. A disk that fails has no status: a command in which it
 /// fails is answered `fault`.
 pub fn run_bands<S: Source, K: Sink, D: BandDisk>(
     alloc: Global,
@@ -27,26 +27,30 @@ pub fn run_bands<S: Source, K: Sink, D: BandDisk>(
     sink: &mut K,
     disk: &mut D,
 ) -> u8
-    // Of an input the run is as its status says, and the replies are those of one run of its commands.
+    // For an input, the run is as its status says, and the replies are those of one run of its commands.
     ensures ran { words.now ≡ [] → ((status : Status) × (result ≡ code status)
         × Ran (S.left source.old) (S.left source.new) (K.stands sink.old) (K.stands sink.new)
-        (Answers D.bytes D.space D.images D.clock D.images_since D.faults disk.old disk.new) status) }
+        (Answers D.bytes D.space D.images D.clock D.images_since D.faults D.changes disk.old disk.new)
+        (Rose (S.faults source.old) (S.faults source.new)) status) }
 
-    // Where a word is given no byte is taken, and the disk is as it was.
+    // If there is an argument, no byte is taken, and the disk is unchanged.
     ensures usage { words.now ≢ [] → ((status : Status) × (result ≡ code status)
         × Closed (K.stands sink.old) (K.stands sink.new) (trouble_line RunError.Usage) Status.Usage status) }
     ensures only { result ≡ 7 → words.now ≢ [] }
     ensures untaken { words.now ≢ [] → source.new ≡ source.old }
     ensures untouched { words.now ≢ [] → disk.new ≡ disk.old }
 
-    // So is the disk where the input is refused or wasn't read.
+    // The disk is also unchanged if the input is refused or wasn't read.
     ensures unrun { (result ≡ 2) ⊎ (result ≡ 3) ⊎ (result ≡ 4) → disk.new ≡ disk.old }
 
-    // The fault of a device is answered only where its count rose.
+    // A device's failure is reported only if its count of failed calls rose.
     ensures read { result ≡ 3 → Rose (S.faults source.old) (S.faults source.new) }
     ensures write { result ≡ 1 → Rose (K.faults sink.old) (K.faults sink.new) }
 
-    // Else the count is as it was. If the sink fails, the source may have failed before it.
+    // If the sink failed, exactly one of its calls did, and that was the latest, so nothing was written after it.
+    ensures last { result ≡ 1 → FailedLast (K.faults sink.old) (K.faults sink.new) (K.failed sink.new) }
+
+    // Otherwise the count is unchanged. If the sink fails, the source may have failed before it.
     ensures quiet_source { result ≢ 3 → result ≢ 1 → S.faults source.new ≡ S.faults source.old }
     ensures quiet_sink { result ≢ 1 → K.faults sink.new ≡ K.faults sink.old }
 

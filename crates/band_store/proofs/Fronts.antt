@@ -1,10 +1,10 @@
--- The bytes that were read into the front of a room.
+-- The bytes that were read into the front of a buffer.
 use Rattle.std.proofs.Common.{◌≡◌, ℕ, ◌+◌, ◌-◌, ◌≤◌, min, List, ◌++◌, length, take, drop, ◌∙◌, ap, subst, arith, take-append-drop}
 use Rattle.std.proofs.lemmas.List.{take_at, length-take, length-drop}
 use Rattle.band_store.specs.declared.format.Gate.{Gate}
 use Rattle.band_store.specs.Gates.{IsGate}
 
--- the front of the room is the front of what was to be read
+-- the front of the buffer is the front of what had to be read
 front_read : (n : ℕ) (into room tail : List ℕ) → n ≤ length room → n ≤ length tail → into ≡ take (length (take n room)) tail → take n (into ++ drop n room) ≡ take n tail
 front_read n into room tail fits enough is =
     let long : length (take n room) ≡ n = omega (arith, length-take n room) in

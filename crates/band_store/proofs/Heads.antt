@@ -23,11 +23,11 @@ pub length-record_of : (save : Save) → length (record_of save) ≡ 5 + length 
 length-record_of save =
     omega (arith, length-append save.name (big_bytes 4 (length save.text) ++ save.text), length-append (big_bytes 4 (length save.text)) save.text, length-big_bytes (length save.text))
 
--- they read back
+-- reading them returns the number
 pub read_back : (x : ℕ) (rest : List ℕ) → x < 2 ^ 32 → big_number 4 (big_bytes 4 x ++ rest) ≡ x
 read_back x rest fits = big_number-reads_back 4 x rest fits
 
--- parts of bytes are bytes
+-- all elements are bytes
 abbrev pub AreBytes : List ℕ → Type 0
 AreBytes xs = (i : ℕ) → get_or xs i 0 < 256
 
@@ -44,18 +44,18 @@ bytes_drop xs n small i = rw (get_or-drop n xs i 0) (small (n + i))
 pub bytes_back : (bytes : List ℕ) → length bytes ≡ 4 → ((i : ℕ) → get_or bytes i 0 < 256) → big_bytes 4 (big_number 4 bytes) ≡ bytes
 bytes_back bytes long small = be_bytes_4 bytes (big_number 4 bytes) long small (omega arith)
 
--- the same front and the same rest, where the fronts are as long
+-- equal lists, split after fronts of equal length, have equal fronts and equal rests
 pub same_parts : (xs xs' ys ys' : List ℕ) → length xs ≡ length xs' → xs ++ ys ≡ xs' ++ ys' → (xs ≡ xs') × (ys ≡ ys')
 same_parts xs xs' ys ys' long e = (
   sym (take_at xs ys (length xs) refl) ∙ ap (take (length xs)) e ∙ take_at xs' ys' (length xs) (sym long),
   sym (drop_at xs ys (length xs) refl) ∙ ap (drop (length xs)) e ∙ drop_at xs' ys' (length xs) (sym long),
 )
 
--- two bytes in front are the same, and so are the rests
+-- if two lists are equal, so are their first bytes and their rests
 pub same_first : (x y : ℕ) (xs ys : List ℕ) → x ∷ xs ≡ y ∷ ys → (x ≡ y) × (xs ≡ ys)
 same_first x y xs ys e = (cc, cc)
 
--- bytes have one head
+-- bytes have at most one head
 pub one_head : (name name' : List ℕ) (size size' : ℕ) (bytes : List ℕ) → IsHead name size bytes → IsHead name' size' bytes → (name ≡ name') × (size ≡ size')
 one_head name name' size size' bytes a b =
     let first = same_first _ _ _ _ (sym a.is ∙ b.is) in
@@ -93,12 +93,12 @@ head_is bytes behind_len word behind len size is is_word is_behind fits named re
 first_and_rest : (bytes : List ℕ) → 0 < length bytes → bytes ≡ get_or bytes 0 0 ∷ take (length bytes - 1) (drop 1 bytes)
 first_and_rest bytes some = drop_more bytes 0 0 some ∙ ap (λ (l : List ℕ). get_or bytes 0 0 ∷ l) (sym (take_rest bytes 1))
 
--- what `Name::read` answered
+-- what `Name::read` returned
 pub name_read : (b : Bool) (name word : List ℕ) → Some name ≡ (if b then Some word else None) → (b ≡ true) × (name ≡ word)
 name_read true name word e = (refl, cc)
 name_read false name word e = absurd cc
 
--- the same of a slice's parts
+-- the same for the parts of a slice
 pub head_read : (bytes word behind name : List ℕ) (size : ℕ) → 0 < length bytes → word ≡ take (get_or bytes 0 0) (take (length bytes - 1) (drop 1 bytes)) → behind ≡ drop (get_or bytes 0 0) (take (length bytes - 1) (drop 1 bytes))
     → get_or bytes 0 0 + 4 ≤ length (take (length bytes - 1) (drop 1 bytes)) → Some name ≡ (if is_name word then Some word else None) → size ≡ big_number 4 behind → size ≤ 1048576 → AreBytes bytes → IsHead name size bytes
 head_read bytes word behind name size some is_word is_behind fits named reads short small =
@@ -131,7 +131,7 @@ head_of_front name size front rest head long =
       is = sym (take-append-drop n front) ∙ ap (λ (l : List ℕ). l ++ drop n front) parts.0 ∙ ap (λ (l : List ℕ). length name ∷ l) (append_assoc name (big_bytes 4 size) (drop n front));
     }
 
--- a head with enough bytes behind it is that of a record with a gate
+-- a head that is followed by enough bytes is that of a record with a gate
 pub record_of_head : (name : List ℕ) (size : ℕ) (bytes : List ℕ) → IsHead name size bytes → 6 + length name + size ≤ length bytes → IsRecordAt name size (1 ∷ bytes)
 record_of_head name size bytes head long =
     let after = head.behind in
@@ -156,7 +156,7 @@ record_of_head name size bytes head long =
     first_of [] some = absurd (omega arith)
     first_of (x ∷ xs) some = (x, xs, refl)
 
--- bytes that are too few, or have no head in front, have no record
+-- bytes that are too few, or don't begin with a head, don't begin with a record
 pub no_record : (front rest : List ℕ) → length front ≡ min 21 (length front + length rest) → HasNoHead front → HasNoRecord (front ++ rest)
 no_record front rest enough none save gate behind good is =
     let head = head_of_record save (gate ∷ behind) (front ++ rest) good is in
@@ -164,7 +164,7 @@ no_record front rest enough none save gate behind good is =
     let name_short : length save.name ≤ 16 = name_le save.name good.name in
     none save.name (length save.text) (head_of_front save.name (length save.text) front rest head (omega (arith, size, length-append front rest, length-append (record_of save) (gate ∷ behind), length-record_of save, name_short)))
 
--- more bytes behind a head
+-- more bytes after a head
 pub longer_head : (name : List ℕ) (size : ℕ) (front rest : List ℕ) → IsHead name size front → IsHead name size (front ++ rest)
 longer_head name size front rest head = record {
   named = head.named;
@@ -173,7 +173,7 @@ longer_head name size front rest head = record {
   is = ap (λ (l : List ℕ). l ++ rest) head.is ∙ ap (λ (l : List ℕ). length name ∷ l) (append_assoc name (big_bytes 4 size ++ head.behind) rest ∙ ap (λ (l : List ℕ). name ++ l) (append_assoc (big_bytes 4 size) head.behind rest));
 }
 
--- nor have bytes that are too few for the record of their head
+-- nor do bytes that are too few for the record of their head
 pub too_long : (name : List ℕ) (size : ℕ) (front rest : List ℕ) → IsHead name size front → length front + length rest < 6 + length name + size → HasNoRecord (front ++ rest)
 too_long name size front rest head short save gate behind good is =
     let same = one_head save.name name (length save.text) size (front ++ rest) (head_of_record save (gate ∷ behind) (front ++ rest) good is) (longer_head name size front rest head) in
@@ -182,7 +182,7 @@ too_long name size front rest head short save gate behind good is =
 -- Gates
 
 module _ (bytes rest : List ℕ) (left : ℕ) (some : 0 < length bytes) (front : length bytes ≡ min 22 left) (all : length bytes + length rest ≡ left) where
-  -- the bytes behind the gate
+  -- the bytes after the gate
   abbrev behind : List ℕ
   behind = take (length bytes - 1) (drop 1 bytes)
 

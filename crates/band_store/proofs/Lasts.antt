@@ -10,7 +10,7 @@ use Rattle.band_store.specs.Directory.{directory, last_text, name_order, named, 
 use Rattle.band_store.specs.Format.{Save}
 use Rattle.band_store.proofs.Texts.{NamedTexts}
 
--- names tie where they have the same bytes
+-- names compare as equal if they have the same bytes
 ties : (x y : List ℕ) → is_eq (name_order x y) ≡ bytes_eq y x
 ties x y = ap is_eq (nat_list_cmp_total.antisymm x y) ∙ turned (name_order y x) ∙ is_eq-slice_cmp y x
   where
@@ -25,7 +25,7 @@ last_by (Some last) same text before = refl
 last_by None true text before = refl
 last_by None false text before = refl
 
--- the last saves stand in the place of what was there
+-- the last saves replace what was there
 lasts : (saves : List Save) (name : List ℕ) (bands : NamedTexts) → named name (fold (λ all (entry : List ℕ × List ℕ). put_name entry.0 entry.1 all) bands (map (λ (save : Save). (save.name, save.text)) saves))
     ≡ cond (is_some (last_text name saves)) (last_text name saves) (named name bands)
 lasts [] name bands = refl

@@ -1,6 +1,7 @@
 mod Fronts
 mod Heads
 mod Lasts
+mod LogRoom
 pub mod Names
 mod Once
 pub mod Records

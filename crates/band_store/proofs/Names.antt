@@ -1,4 +1,4 @@
--- A list of names in order: what a search finds, and what an edit at that place does.
+-- A list of names in order: what a search finds, and what an edit at that position does.
 use Rattle.std.proofs.Common.{◌≡◌, inl, inr, ℕ, zero, suc, ◌+◌, ◌<◌, ◌≤◌, Bool, true, false, ◌&&◌, cond, List, [], ◌∷◌, length, get_or, set, Some, None, refl, sym, ◌∙◌, ap, arith}
 use Rattle.std.specs.declared.cmp.Ordering.{Ordering}
 use Rattle.std.specs.declared.cmp.Ordering.TheVariants.{Less, Equal, Greater}
@@ -28,11 +28,11 @@ less Less e = refl
 less Equal e = absurd cc
 less Greater e = absurd cc
 
--- names that tie are the same
+-- names that compare as equal are equal
 pub same_name : (x y : List ℕ) → name_order x y ≡ Equal → x ≡ y
 same_name = slice_cmp-IsAntisymmetric nat_cmp-IsAntisymmetric
 
--- a name ties with itself
+-- a name compares as equal to itself
 tied : (x : List ℕ) → name_order x x ≡ Equal
 tied x = by (name_order x x) refl
   where
@@ -53,7 +53,7 @@ rises (band ∷ bands) i zero d ordered lt within = absurd (omega arith)
 rises (band ∷ bands) zero (suc j) d ordered lt within = below_at band.0 bands j d (both (below_all name_order band.0 bands) (is_ordered bands) ordered).0 (omega arith)
 rises (band ∷ bands) (suc i) (suc j) d ordered lt within = rises bands i j d (both (below_all name_order band.0 bands) (is_ordered bands) ordered).1 (omega arith) (omega arith)
 
--- the names below a place are less than this one, and those from another place on are greater
+-- the names below one position are less than this one, and those from another position on are greater
 pub record IsNarrowed (bands : Bands) (name : List ℕ) (low high : ℕ) : Type 0 where
   pub order : low ≤ high
   pub within : high ≤ length bands
@@ -75,7 +75,7 @@ narrow_less bands name low high mid ordered is le lt below = record {
 turned : (x y : List ℕ) → name_order x y ≡ Greater → name_order y x ≡ Less
 turned x y e = nat_list_cmp_total.antisymm y x ∙ ap ordering_reverse e
 
--- it is greater
+-- the name is greater
 pub narrow_greater : (bands : Bands) (name : List ℕ) (low high mid : ℕ) → is_ordered bands ≡ true → IsNarrowed bands name low high → low ≤ mid → mid < high → name_order name (name_at bands mid) ≡ Greater → IsNarrowed bands name (mid + 1) high
 narrow_greater bands name low high mid ordered is le lt above = record {
   order = omega arith;
@@ -88,7 +88,7 @@ narrow_greater bands name low high mid ordered is le lt above = record {
   behind = is.behind;
 }
 
--- it is that one
+-- the name is that one
 pub narrow_equal : (bands : Bands) (name : List ℕ) (mid : ℕ) → is_ordered bands ≡ true → mid < length bands → name_order name (name_at bands mid) ≡ Equal → IsAt bands name mid
 narrow_equal bands name mid ordered within ties =
     let here : name_at bands mid ≡ name = sym (same_name name (name_at bands mid) ties) in
@@ -99,12 +99,12 @@ narrow_equal bands name mid ordered within ties =
           ∙ ap ordering_reverse (ap (name_order (name_at bands j)) (sym here) ∙ rises bands j mid nowhere ordered lt within);
     }
 
--- what a comparison with the name that was read says of the name at the place
+-- the result of a comparison with the name that was read, as one with the name at that position
 pub compared : (bands : Bands) (name : List ℕ) (mid : ℕ) (read : List ℕ × Extent) (bytes : List ℕ) (o : Ordering) → mid < length bands → bytes ≡ (get_or bands mid read).0 → o ≡ name_order name bytes → name_order name (name_at bands mid) ≡ o
 compared bands name mid read bytes o within is_read is =
     ap (name_order name) (sym (is_read ∙ ap (λ (b : List ℕ × Extent). b.0) (get_or_default bands mid read nowhere within))) ∙ sym is
 
--- in the list's tail, places are one lower
+-- in the list's tail, positions are one lower
 at_tail : (band : List ℕ × Extent) (bands : Bands) (name : List ℕ) (at : ℕ) → IsAt (band ∷ bands) name (suc at) → IsAt bands name at
 at_tail band bands name at is = record { within = omega (arith, is.within); here = is.here; before = λ j lt. is.before (suc j) (omega arith) }
 
@@ -122,7 +122,7 @@ gap_first band bands name is = record {
   behind = λ j le lt. is.behind (suc j) (omega arith) (omega arith);
 }
 
--- the name's value is the one at its place
+-- the name's value is the one at its position
 pub named_at : (bands : Bands) (name : List ℕ) (at : ℕ) → IsAt bands name at → named name bands ≡ Some (get_or bands at nowhere).1
 named_at [] name at is = absurd (omega (arith, is.within))
 named_at (band ∷ bands) name zero is =
@@ -130,7 +130,7 @@ named_at (band ∷ bands) name zero is =
 named_at (band ∷ bands) name (suc at) is =
     ap (λ o. cond (is_eq o) (Some band.1) (named name bands)) (is.before zero (omega arith)) ∙ named_at bands name at (at_tail band bands name at is)
 
--- a name with a gap has none
+-- a name with a gap has no value
 pub named_gap : (bands : Bands) (name : List ℕ) (at : ℕ) → IsGap bands name at → named name bands ≡ None
 named_gap [] name at is = refl
 named_gap (band ∷ bands) name zero is =
@@ -138,7 +138,7 @@ named_gap (band ∷ bands) name zero is =
 named_gap (band ∷ bands) name (suc at) is =
     ap (λ o. cond (is_eq o) (Some band.1) (named name bands)) (is.before zero (omega arith)) ∙ named_gap bands name at (gap_tail band bands name at is)
 
--- a name that is there gets another value at its place
+-- a name that exists gets another value at its position
 pub put_at : (bands : Bands) (name : List ℕ) (value : Extent) (at : ℕ) → IsAt bands name at → set bands at (name, value) ≡ put_name name value bands
 put_at [] name value at is = absurd (omega (arith, is.within))
 put_at (band ∷ bands) name value zero is =
@@ -148,7 +148,7 @@ put_at (band ∷ bands) name value (suc at) is =
     ap (λ (l : Bands). band ∷ l) (put_at bands name value at (at_tail band bands name at is))
     ∙ ap (λ o. by_order o ((name, value) ∷ band ∷ bands) ((band.0, value) ∷ bands) (band ∷ put_name name value bands)) (sym (is.before zero (omega arith)))
 
--- a new name is added in its gap
+-- a new name is inserted in its gap
 pub put_gap : (bands : Bands) (name : List ℕ) (value : Extent) (at : ℕ) → IsGap bands name at → insert bands at (name, value) ≡ put_name name value bands
 put_gap [] name value zero is = refl
 put_gap [] name value (suc at) is = absurd (omega (arith, is.within))

@@ -1,4 +1,4 @@
--- Bytes hold one list of saves at most, and have one answer.
+-- Bytes contain at most one list of saves, and determine one answer.
 use Rattle.std.proofs.Common.{◌≡◌, ◌⊎◌, inl, inr, ⊎_elim, ℕ, List, [], ◌∷◌, ◌++◌, length, take, Result, Ok, Err, IfOk, IfErr, refl, sym, ◌∙◌, ap, arith, append_assoc, length-append}
 use Rattle.std.proofs.lemmas.List.{take_at}
 use Rattle.std.specs.List.{AllByRecursion}
@@ -12,22 +12,22 @@ use Rattle.band_store.specs.Store.{IsOpenAnswer, IsRefused}
 use Rattle.band_store.proofs.Heads.{head_of_record, one_head, same_first, same_parts}
 use Rattle.band_store.proofs.Texts.{head_of, length-head_of, split_record}
 
--- where records end: a gate that isn't open, or an open one with no record behind it
+-- the end of the records: a gate that isn't open, or an open gate that no record follows
 abbrev IsEnd : List ℕ → Type 0
 IsEnd tail = IsGate tail Shut ⊎ IsGate tail Broken
 
--- some byte stands in front of it
+-- there is at least one byte
 some_left : (saves : List Save) (tail : List ℕ) → IsEnd tail → (x : ℕ) × (rest : List ℕ) × (records saves ++ tail ≡ x ∷ rest)
 some_left [] tail end = ⊎_elim (λ shut. (shut.0, shut.1, shut.3)) (λ broken. (1, broken.0, broken.1)) end
 some_left (save ∷ saves) tail end = (1, (record_of save ++ records saves) ++ tail, refl)
 
--- it isn't the front of a record
+-- the end isn't the beginning of a record
 clash : (save : Save) (tail : List ℕ) (x : ℕ) (rest : List ℕ) → IsSave save → IsEnd tail → tail ≡ 1 ∷ (record_of save ++ x ∷ rest) → ⊥
 clash save tail x rest good end is =
     ⊎_elim (λ shut. shut.2 (same_first shut.0 1 shut.1 (record_of save ++ x ∷ rest) (sym shut.3 ∙ is)).0)
     (λ broken. broken.2 save x rest good (same_first 1 1 broken.0 (record_of save ++ x ∷ rest) (sym broken.1 ∙ is)).1) end
 
--- bytes begin with one record
+-- bytes begin with at most one record
 same_record : (a b : Save) (xs ys : List ℕ) → IsSave a → IsSave b → record_of a ++ xs ≡ record_of b ++ ys → (a ≡ b) × (xs ≡ ys)
 same_record a b xs ys good_a good_b e =
     let same = one_head a.name b.name (length a.text) (length b.text) (record_of a ++ xs) (head_of_record a xs (record_of a ++ xs) good_a refl) (head_of_record b ys (record_of a ++ xs) good_b e) in
@@ -37,7 +37,7 @@ same_record a b xs ys good_a good_b e =
     let texts = same_parts a.text b.text xs ys same.1 behind.1 in
     (λ i. record { name = same.0 i; text = texts.0 i }, texts.1)
 
--- bytes are one list of records, and one end
+-- bytes are at most one list of records, with one end
 once : (saves others : List Save) (tail rest : List ℕ) → AllByRecursion IsSave saves → AllByRecursion IsSave others → IsEnd tail → IsEnd rest → records saves ++ tail ≡ records others ++ rest → (saves ≡ others) × (tail ≡ rest)
 once [] [] tail rest good goods end ends e = (refl, e)
 once [] (other ∷ others) tail rest good goods end ends e =
@@ -53,7 +53,7 @@ once (save ∷ saves) (other ∷ others) tail rest good goods end ends e =
     let later = once saves others tail rest good.1 goods.1 end ends first.1 in
     (λ i. first.0 i ∷ later.0 i, later.1)
 
--- what stands behind the header
+-- what follows the header
 behind_header : (bytes xs ys : List ℕ) → bytes ≡ header ++ xs → bytes ≡ header ++ ys → xs ≡ ys
 behind_header bytes xs ys a b = (same_parts header header xs ys refl (sym a ∙ b)).1
 
@@ -71,7 +71,7 @@ not_both bytes saves at a b =
     let same = once saves b.saves (a.gate ∷ a.behind) (1 ∷ b.behind) a.good b.good (inl (a.gate, a.behind, a.shut, refl)) (inr (b.behind, refl, b.none)) (behind_header bytes _ _ a.is b.is) in
     a.shut (same_first a.gate 1 a.behind b.behind same.1).0
 
--- bytes with a header and records are those of a store
+-- bytes with the header and records are those of a store
 is_store : (bytes : List ℕ) (saves : List Save) (x : ℕ) (tail : List ℕ) → bytes ≡ header ++ (records saves ++ x ∷ tail) → IsNoStore bytes → ⊥
 is_store bytes saves x tail is none =
     ⊎_elim (λ short. omega (arith, ap length is, length-append header (records saves ++ x ∷ tail), length-append (records saves) (x ∷ tail)))
@@ -83,7 +83,7 @@ held_is_store bytes saves holds = is_store bytes saves holds.gate holds.behind h
 pub damaged_is_store : (bytes : List ℕ) (at : ℕ) → IsDamaged at bytes → IsNoStore bytes → ⊥
 damaged_is_store bytes at damaged = is_store bytes damaged.saves 1 damaged.behind damaged.is
 
--- What is answered of bytes
+-- The answer that the bytes determine
 
 module _ (bytes : List ℕ) where
   held_refused : (saves : List Save) (fault : OpenFault) → Holds saves bytes → IsRefused bytes fault → IsOpenAnswer (Ok (length (directory saves))) (Err fault)
@@ -98,11 +98,11 @@ module _ (bytes : List ℕ) where
   damaged_refused at O.Disk damaged _ = inr (inl refl)
   damaged_refused at O.NoMemory damaged _ = inr (inr refl)
 
-  -- the bytes hold saves, and it is told how many names they have
+  -- the bytes contain saves, and the answer is how many names they have
   abbrev pub Opens : ℕ → Type 0
   Opens count = (saves : List Save) × Holds saves bytes × (count ≡ length (directory saves))
 
-  -- each answer has the cause that the bytes have
+  -- an answer and the bytes agree
   pub held_answer : (saves : List Save) (result : Result ℕ OpenFault) → IfOk result Opens → IfErr result (IsRefused bytes) → Holds saves bytes → IsOpenAnswer (Ok (length (directory saves))) result
   held_answer saves (Ok count) opens refused holds =
       inl (ap (λ (n : ℕ). Ok n) (opens.2 ∙ ap (λ (l : List Save). length (directory l)) (holds_once bytes opens.0 saves opens.1 holds)))

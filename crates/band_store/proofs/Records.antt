@@ -1,4 +1,4 @@
--- The records of saves, one after the other, and the index of their names.
+-- The records of saves, one after another, and the index of their names.
 use Rattle.std.proofs.Common.{◌≡◌, ℕ, ◌+◌, ◌<◌, ◌≤◌, Bool, true, false, T, List, [], ◌∷◌, ◌++◌, length, take, drop, fold, sum_by, refl, sym, ◌∙◌, ap, subst, arith, append_assoc, length-append, take-append-drop}
 use Rattle.std.specs.List.{AllByRecursion}
 use Rattle.std.specs.declared.cmp.Ordering.{Ordering}
@@ -16,7 +16,7 @@ use Rattle.band_store.specs.Gates.{IsGate, IsRecordAt}
 use Rattle.band_store.proofs.Heads.{length-record_of}
 use Rattle.band_store.proofs.Names.{Bands}
 
--- one save more
+-- one more save
 
 pub good_push : (saves : List Save) (save : Save) → AllByRecursion IsSave saves → IsSave save → AllByRecursion IsSave (saves ++ save ∷ [])
 good_push [] save good is = (is, tt)
@@ -46,7 +46,7 @@ index_push saves save =
     ap last_of (placed_push first_gate saves save)
     ∙ fold_push (λ bands entry. put_name entry.0 entry.1 bands) [] (placed first_gate saves) (save.name, record { at = gate_behind saves + 6 + length save.name; size = length save.text })
 
--- names that are put in order stay in order
+-- names in order remain in order after `put_name`
 pub ordered_put : {X : Type 0} (name : List ℕ) (value : X) (bands : List (List ℕ × X)) → is_ordered bands ≡ true → is_ordered (put_name name value bands) ≡ true
 ordered_put name value bands ordered = is_true (is_ordered (put_name name value bands)) (is_sorted-put name_order nat_list_cmp_total name value bands (subst T (sym ordered) tt))
   where
@@ -54,7 +54,7 @@ ordered_put name value bands ordered = is_true (is_ordered (put_name name value 
     is_true true t = refl
     is_true false t = absurd t
 
--- one name more at most
+-- at most one more name
 longer_by : (o : Ordering) (a b c : Bands) (n : ℕ) → length a ≤ n → length b ≤ n → length c ≤ n → length (by_order o a b c) ≤ n
 longer_by Less a b c n p q r = p
 longer_by Equal a b c n p q r = q
@@ -69,14 +69,14 @@ ordered_from : {X : Type 0} (entries bands : List (List ℕ × X)) → is_ordere
 ordered_from [] bands ordered = ordered
 ordered_from (entry ∷ entries) bands ordered = ordered_from entries (put_name entry.0 entry.1 bands) (ordered_put entry.0 entry.1 bands ordered)
 
--- the last values of names stand in the names' order
+-- names with their last values are in order
 pub ordered_last : {X : Type 0} (entries : List (List ℕ × X)) → is_ordered (last_of entries) ≡ true
 ordered_last entries = ordered_from entries [] refl
 
 pub ordered_index : (saves : List Save) → is_ordered (index saves) ≡ true
 ordered_index saves = ordered_last (placed first_gate saves)
 
--- Places
+-- Positions
 
 length-records : (saves : List Save) → length (records saves) ≡ sum_by record_size saves
 length-records [] = refl
@@ -86,20 +86,20 @@ length-records (save ∷ saves) =
 pub front_long : (saves : List Save) → length (header ++ records saves) ≡ gate_behind saves
 front_long saves = omega (arith, length-append header (records saves), length-records saves)
 
--- what stands from the gate behind the records on
+-- what lies from the gate after the records on
 pub drop_to_gate : (saves : List Save) (tail bytes : List ℕ) → bytes ≡ header ++ (records saves ++ tail) → drop (gate_behind saves) bytes ≡ tail
 drop_to_gate saves tail bytes is = ap (drop (gate_behind saves)) (is ∙ sym (append_assoc header (records saves) tail)) ∙ drop_at (header ++ records saves) tail (gate_behind saves) (front_long saves)
 
--- and up to it
+-- what lies before that gate
 pub take_to_gate : (saves : List Save) (tail bytes : List ℕ) → bytes ≡ header ++ (records saves ++ tail) → take (gate_behind saves) bytes ≡ header ++ records saves
 take_to_gate saves tail bytes is = ap (take (gate_behind saves)) (is ∙ sym (append_assoc header (records saves) tail)) ∙ take_at (header ++ records saves) tail (gate_behind saves) (front_long saves)
 
 pub size_with : (saves : List Save) (tail bytes : List ℕ) → bytes ≡ header ++ (records saves ++ tail) → length bytes ≡ gate_behind saves + length tail
 size_with saves tail bytes is = ap length is ∙ omega (arith, length-append header (records saves ++ tail), length-append (records saves) tail, length-records saves)
 
--- how far the records were read
+-- How far the records were read
 
--- the records of these saves stand in front of the gate, the names so far are theirs, and some bytes are left from the gate on
+-- the records of these saves precede the gate, the names so far are theirs, and at least one byte follows
 pub record IsWalked (bytes : List ℕ) (bands : Bands) (gate : ℕ) : Type 0 where
   pub saves : List Save
   pub good : AllByRecursion IsSave saves
@@ -130,7 +130,7 @@ module _ (bytes : List ℕ) (bands : Bands) (gate : ℕ) (walked : IsWalked byte
   behind : drop gate bytes ≡ walked.tail
   behind = ap (λ n. drop n bytes) walked.at ∙ drop_to_gate walked.saves walked.tail bytes walked.is
 
-  -- a record more
+  -- one more record
   pub walk_more : (next : Bands) (name : List ℕ) (size at : ℕ) → IsRecordAt name size (drop gate bytes) → at ≡ gate + 6 + length name → next ≡ put_name name (record { at = at; size = size }) bands → IsWalked bytes next (at + size)
   walk_more next name size at is_record is_at puts = record {
     saves = walked.saves ++ save ∷ [];
@@ -183,7 +183,7 @@ module _ (bytes : List ℕ) (bands : Bands) (gate : ℕ) (walked : IsWalked byte
     walked.at,
   )
 
-  -- one that is open with no record behind it is damage
+  -- an open gate that no record follows is damage
   pub walk_broken : IsGate (drop gate bytes) Broken → IsDamaged gate bytes
   walk_broken broken = record {
     saves = walked.saves;
@@ -194,6 +194,6 @@ module _ (bytes : List ℕ) (bands : Bands) (gate : ℕ) (walked : IsWalked byte
     none = broken.2;
   }
 
--- what was found at the gate stands there on the bytes as they were
+-- what was found at the gate is there on the unchanged bytes
 pub found_at : (gate : ℕ) (bytes now : List ℕ) (found is : Gate) → now ≡ bytes → IsGate (drop gate now) found → found ≡ is → IsGate (drop gate bytes) is
 found_at gate bytes now found is same here e = subst (IsGate (drop gate bytes)) e (subst (λ (b : List ℕ). IsGate (drop gate b) found) same here)

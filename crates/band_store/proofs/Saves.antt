@@ -1,4 +1,4 @@
--- What the bytes hold while a save is written, and then.
+-- The contents of the bytes while a save is written, and afterwards.
 use Rattle.std.proofs.Common.{◌≡◌, inl, inr, ⊎_elim, ℕ, ◌+◌, ◌<◌, ◌≤◌, Bool, true, false, if◌then◌else◌, List, [], ◌∷◌, ◌++◌, length, take, drop, Ok, Err, nat_lt, refl, sym, ◌∙◌, ap, subst, arith, append_assoc, length-append, take-append-drop}
 use Rattle.std.proofs.lemmas.Bool.{cases_eq}
 use Rattle.std.proofs.lemmas.Bool.Decides.{nat_tests}
@@ -17,12 +17,12 @@ take_past : (n x : ℕ) (xs ys : List ℕ) → length xs ≡ n → take (n + 1) 
 take_past n x xs ys long =
     ap (take (n + 1)) (sym (append_assoc xs (x ∷ []) ys)) ∙ take_at (xs ++ x ∷ []) ys (n + 1) (omega (arith, length-append xs (x ∷ [])))
 
--- the gate lies within the bytes
+-- the gate is within the bytes
 pub gate_within : (saves : List Save) (bytes : List ℕ) → Holds saves bytes → gate_behind saves < length bytes
 gate_within saves bytes holds = omega (arith, size_with saves (holds.gate ∷ holds.behind) bytes holds.is)
 
 module _ (saves : List Save) (save : Save) (bytes : List ℕ) (holds : Holds saves bytes) (good : IsSave save) where
-  -- a record and a closed gate behind it
+  -- a record, followed by a closed gate
   abbrev pub written : List ℕ
   written = record_of save ++ 0 ∷ []
 
@@ -39,7 +39,7 @@ module _ (saves : List Save) (save : Save) (bytes : List ℕ) (holds : Holds sav
         ∙ append_assoc header (records saves) (holds.gate ∷ drop (gate_behind saves + 1) image);
   }
 
-  -- the bytes with a byte at the gate and the record behind it
+  -- the bytes with this byte at the gate, followed by the record
   with_gate : (byte : ℕ) (image rest : List ℕ) → image ≡ take (gate_behind saves) bytes ++ byte ∷ (written ++ rest) → image ≡ header ++ (records saves ++ byte ∷ (record_of save ++ 0 ∷ rest))
   with_gate byte image rest is =
       is
@@ -56,7 +56,7 @@ module _ (saves : List Save) (save : Save) (bytes : List ℕ) (holds : Holds sav
     is = with_gate 1 image rest is ∙ ap (λ (l : List ℕ). header ++ l) (sym (records_push saves save (0 ∷ rest)));
   }
 
-  -- a stop while the record is written leaves the saves, with this one or without
+  -- a crash while the record is written leaves the saves, with or without this one
   pub torn_with : (image : List ℕ) → IsTornRecord (gate_behind saves) written bytes image → IsWithOrWithout saves save image
   torn_with image torn = ⊎_elim (λ same. inl (same_front image same)) (λ whole. by_gate whole.0 whole.1) torn
     where
@@ -69,7 +69,7 @@ module _ (saves : List Save) (save : Save) (bytes : List ℕ) (holds : Holds sav
         | inr shut ↦ inl (record { good = holds.good; gate = byte; shut = shut; behind = record_of save ++ 0 ∷ drop (gate_behind saves + 1 + length written) bytes; is = with_gate byte image (drop (gate_behind saves + 1 + length written) bytes) is })
       ]
 
-  -- and then they are there with it
+  -- afterwards the bytes contain this save, too
   pub holds_with : (new : List ℕ) → new ≡ overwritten (gate_behind saves) (1 ∷ written) bytes → Holds (saves ++ save ∷ []) new
   holds_with new is = open_gate new (drop (gate_behind saves + length (1 ∷ written)) bytes) is
 
@@ -95,13 +95,13 @@ writable store room save gate is = by store.opened (nat_lt 1048576 (length save.
       next = let same : store.gate + 6 + length save.name + length save.text ≡ gate = cc in sym same;
     }
 
--- a save under way: the store found that it may be written, and these are the bytes of its record with a closed gate behind
+-- a save in progress: the store found that it may be written, and these are the bytes of its record, followed by a closed gate
 pub record IsUnderWay (old : Store) (room gate : ℕ) (save : Save) (piece : List ℕ) : Type 0 where
   pub named : is_name save.name ≡ true
   pub may : checked old room save ≡ Ok gate
   pub piece_is : piece ≡ record_of save ++ 0 ∷ []
 
--- of a name and a text that were read
+-- a save in progress, of a name and a text that were read
 pub under_way : (old : Store) (room gate : ℕ) (name text read_name read_text piece : List ℕ) → read_name ≡ name → read_text ≡ text → is_name name ≡ true
     → Ok gate ≡ checked old room (record { name = read_name; text = read_text }) → piece ≡ record_of (record { name = read_name; text = read_text }) ++ 0 ∷ [] → IsUnderWay old room gate (record { name = name; text = text }) piece
 under_way old room gate name text read_name read_text piece same_name same_text named may made = record {
@@ -114,13 +114,13 @@ module _ (old : Store) (room gate : ℕ) (bytes : List ℕ) (saves : List Save) 
   can : IsWritable old room save gate
   can = writable old room save gate way.may
 
-  -- what a stop leaves at each moment in which its record is written
+  -- the possible post-crash states at each moment while its record is written
   pub save_moments : {D : Type 0} (clock : D → ℕ) (images_since : D → ℕ → List ℕ → Type 0) (disk new : D) → LeavesOnly clock images_since disk new (IsTornRecord at piece bytes) → LeavesOnly clock images_since disk new (IsWithOrWithout saves save)
   save_moments clock images_since disk new =
       weakened clock images_since disk new (IsTornRecord at piece bytes) (IsWithOrWithout saves save)
       (λ image torn. torn_with saves save bytes is.holds (record { name = way.named; text = can.short }) image (subst (λ (X : Type 0). X) (λ i. IsTornRecord ((here ∙ is.next) i) (way.piece_is i) bytes image) torn))
 
-  -- the store and the bytes behind it
+  -- the store and the bytes after the save
   pub saved_open : (new : Store) (after : List ℕ) → new.opened ≡ old.opened → new.bands ≡ put_name save.name (record { at = old.gate + 6 + length save.name; size = length save.text }) old.bands → new.gate ≡ gate
       → after ≡ overwritten at (1 ∷ piece) bytes → IsOpenOn new after (saves ++ save ∷ [])
   saved_open new after opened bands next written = record {

@@ -1,4 +1,4 @@
--- An index of places, and the directory of the texts that stand there.
+-- An index of extents, and the directory of the texts that they contain.
 use Rattle.std.proofs.Common.{◌≡◌, ℕ, ◌+◌, ◌≤◌, cond, Bool, true, false, List, [], ◌∷◌, ◌++◌, length, take, drop, map, fold, slice_get, get_or, zero, suc, ◌<◌, Option, Some, None, refl, sym, ◌∙◌, ap, subst, arith, append_assoc, length-append}
 use Rattle.std.specs.declared.cmp.Ordering.{Ordering}
 use Rattle.std.specs.declared.cmp.Ordering.TheVariants.{Less, Equal, Greater}
@@ -18,20 +18,20 @@ Extents = List (List ℕ × Extent)
 abbrev pub NamedTexts : Type 0
 NamedTexts = List (List ℕ × List ℕ)
 
--- the text stands at the extent
+-- the text lies at the extent
 pub record Stands (bytes : List ℕ) (extent : Extent) (text : List ℕ) : Type 0 where
   pub size : extent.size ≡ length text
   pub here : take extent.size (drop extent.at bytes) ≡ text
   pub within : extent.at + extent.size ≤ length bytes
 
--- the same names, each with an extent at which its text stands
+-- the same names, each with an extent at which its text lies
 abbrev pub Alike : List ℕ → Extents → NamedTexts → Type 0
 Alike bytes [] [] = Unit {0}
 Alike bytes [] (text ∷ texts) = ⊥
 Alike bytes (extent ∷ extents) [] = ⊥
 Alike bytes (extent ∷ extents) (text ∷ texts) = (extent.0 ≡ text.0) × Stands bytes extent.1 text.1 × Alike bytes extents texts
 
--- a record in front of its text, its gate counted
+-- a record before its text, including its gate
 abbrev pub head_of : Save → List ℕ
 head_of save = 1 ∷ length save.name ∷ (save.name ++ big_bytes 4 (length save.text))
 
@@ -67,7 +67,7 @@ module _ (bytes : List ℕ) where
       last_alike es (put_name e.0 e.1 all) ts (put_name t.0 t.1 texts) alike.2
       (subst (λ (name : List ℕ). Alike bytes (put_name e.0 e.1 all) (put_name name t.1 texts)) alike.0 (put_alike e.0 e.1 t.1 all texts alike.1 so_far))
 
-  -- the text of each save stands where it is placed
+  -- the text of each save lies at its extent
   placed_alike : (saves : List Save) (gate : ℕ) (front tail : List ℕ) → length front ≡ gate → bytes ≡ front ++ (records saves ++ tail) → Alike bytes (placed gate saves) (map (λ (save : Save). (save.name, save.text)) saves)
   placed_alike [] gate front tail long is = tt
   placed_alike (save ∷ saves) gate front tail long is = (
@@ -93,7 +93,7 @@ module _ (bytes : List ℕ) where
       behind : drop (gate + 6 + length save.name) bytes ≡ save.text ++ (records saves ++ tail)
       behind = ap (drop (gate + 6 + length save.name)) to_text ∙ drop_at (front ++ head_of save) (save.text ++ (records saves ++ tail)) (gate + 6 + length save.name) head_long
 
--- the index and the directory of what the bytes hold
+-- the index and the directory of the saves that the bytes contain
 pub texts_stand : (saves : List Save) (bytes : List ℕ) → Holds saves bytes → Alike bytes (index saves) (directory saves)
 texts_stand saves bytes holds =
     last_alike bytes (placed first_gate saves) [] (map (λ (save : Save). (save.name, save.text)) saves) [] (placed_alike bytes saves first_gate header (holds.gate ∷ holds.behind) refl holds.is) tt
@@ -105,7 +105,7 @@ find_by : (bytes : List ℕ) (tied : Bool) (e : Extent) (t : List ℕ) (found : 
 find_by bytes true e t found text extent stands rest is = let same : e ≡ extent = cc in (t, refl, subst (λ (x : Extent). Stands bytes x t) same stands)
 find_by bytes false e t found text extent stands rest is = rest is
 
--- a name's extent is where its text stands
+-- the text of a name lies at the name's extent
 pub found_text : (bytes : List ℕ) (name : List ℕ) (es : Extents) (ts : NamedTexts) (extent : Extent) → Alike bytes es ts → named name es ≡ Some extent → (text : List ℕ) × (named name ts ≡ Some text) × Stands bytes extent text
 found_text bytes name [] [] extent alike is = absurd cc
 found_text bytes name [] (t ∷ ts) extent alike is = absurd alike
@@ -138,7 +138,7 @@ same_listing bytes [] (t ∷ ts) alike = absurd alike
 same_listing bytes (e ∷ es) [] alike = absurd alike
 same_listing bytes (e ∷ es) (t ∷ ts) alike = λ i. (alike.0 i, alike.1.size i) ∷ same_listing bytes es ts alike.2 i
 
--- the name and the size at a place
+-- the name and the size at a position
 pub size_here : (es : Extents) (i : ℕ) (d : List ℕ × Extent) → i < length es → slice_get (sizes es) i ≡ Some ((get_or es i d).0, (get_or es i d).1.size)
 size_here [] i d within = absurd (omega arith)
 size_here (e ∷ es) zero d within = refl

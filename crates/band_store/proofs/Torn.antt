@@ -1,4 +1,4 @@
--- What a stop leaves while a record is written.
+-- The possible post-crash states while a record is written.
 use Rattle.std.proofs.Common.{◌≡◌, inl, inr, ℕ, ◌+◌, ◌<◌, ◌≤◌, List, [], ◌∷◌, ◌++◌, length, get_or, take, drop, sym, ◌∙◌, ap, subst, arith, length-append, take-append-drop}
 use Rattle.std.proofs.lemmas.List.{drop_at, drop_more, take-append-le, length-take-le, take-take}
 use Rattle.band_disk.specs.Disks.{LeavesOnly, Torn, overwritten}
@@ -6,7 +6,7 @@ use Rattle.band_disk.proofs.Moments.{joined, weakened}
 use Rattle.band_store.specs.Store.{IsTornRecord}
 
 module _ (gate : ℕ) (bytes old : List ℕ) (within : gate < length old) where
-  -- with the record behind the gate
+  -- the bytes with the record after the gate
   abbrev pub staged : List ℕ
   staged = overwritten (gate + 1) bytes old
 
@@ -16,7 +16,7 @@ module _ (gate : ℕ) (bytes old : List ℕ) (within : gate < length old) where
   staged_long : gate + 1 ≤ length staged
   staged_long = omega (arith, length-append (take (gate + 1) old) (bytes ++ drop (gate + 1 + length bytes) old), front_long)
 
-  -- up to the gate nothing changed
+  -- before the gate nothing changed
   pub front_same : take gate staged ≡ take gate old
   front_same = take-append-le gate (take (gate + 1) old) (bytes ++ drop (gate + 1 + length bytes) old) (omega (arith, front_long)) ∙ take-take gate (gate + 1) old (omega arith)
 
@@ -26,7 +26,7 @@ module _ (gate : ℕ) (bytes old : List ℕ) (within : gate < length old) where
   pub torn_stage : (image : List ℕ) → Torn (gate + 1) (length bytes) old image → IsTornRecord gate bytes old image
   torn_stage image torn = inl torn.before
 
-  -- in each image of the second write the record is whole
+  -- in each image of the second write, the record is whole
   pub torn_gate : (image : List ℕ) → Torn gate 1 staged image → IsTornRecord gate bytes old image
   torn_gate image torn =
       let byte = get_or image gate 0 in
@@ -41,7 +41,7 @@ module _ (gate : ℕ) (bytes old : List ℕ) (within : gate < length old) where
       ∙ ap (λ (l : List ℕ). take gate old ++ 1 ∷ l) behind_gate
       ∙ ap (λ (k : ℕ). take gate old ++ 1 ∷ (bytes ++ drop k old)) same
 
--- at each moment in which the record is written, and then the gate
+-- at each moment while the record is written, and then the gate
 pub record_moments : {D : Type 0} (clock : D → ℕ) (images_since : D → ℕ → List ℕ → Type 0) (disk mid new : D) (gate : ℕ) (bytes old now : List ℕ) → gate < length old → now ≡ overwritten (gate + 1) bytes old
     → LeavesOnly clock images_since disk mid (Torn (gate + 1) (length bytes) old) → LeavesOnly clock images_since mid new (Torn gate 1 now) → LeavesOnly clock images_since disk new (IsTornRecord gate bytes old)
 record_moments clock images_since disk mid new gate bytes old now within is first second =

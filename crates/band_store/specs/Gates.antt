@@ -1,4 +1,4 @@
--- What stands at a gate.
+-- What is at a gate.
 use Rattle.std.specs.Prelude.{◌≡◌, ◌≢◌, ℕ, ◌≤◌, List, ◌∷◌, ◌++◌, length, true}
 use Rattle.byteorder.specs.Endian.{big_bytes}
 use Rattle.lisp_graph.specs.Name.{is_name}
@@ -13,11 +13,11 @@ pub record IsHead (name : List ℕ) (size : ℕ) (bytes : List ℕ) : Type 0 whe
   pub behind : List ℕ
   pub is : bytes ≡ length name ∷ (name ++ (big_bytes 4 size ++ behind))
 
--- they begin with none
+-- the bytes don't begin with them
 abbrev pub HasNoHead : List ℕ → Type 0
 HasNoHead bytes = (name : List ℕ) (size : ℕ) → IsHead name size bytes → ⊥
 
--- an open gate, and behind it a record of this name with a text of this length, and a gate
+-- an open gate, followed by a record of this name with a text of this length, and by a gate
 pub record IsRecordAt (name : List ℕ) (size : ℕ) (bytes : List ℕ) : Type 0 where
   pub save : Save
   pub good : IsSave save
@@ -27,7 +27,7 @@ pub record IsRecordAt (name : List ℕ) (size : ℕ) (bytes : List ℕ) : Type 0
   pub behind : List ℕ
   pub is : bytes ≡ 1 ∷ (record_of save ++ gate ∷ behind)
 
--- what stands at the gate with which the bytes begin
+-- what is at the gate with which the bytes begin
 abbrev pub IsGate : List ℕ → Gate → Type 0
 IsGate bytes Shut = (gate : ℕ) × (behind : List ℕ) × (gate ≢ 1) × (bytes ≡ gate ∷ behind)
 IsGate bytes (Record name size) = IsRecordAt name size bytes

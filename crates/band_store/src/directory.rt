@@ -1,18 +1,18 @@
-//! Names in order, each with where its text stands.
+//! Names in order, each with the extent of its text.
 ghost use Rattle.std.specs.Prelude.{◌≡◌, ◌+◌, ◌≤◌, None, Some, true, MatchResult, OnOk, OnErr, vec_capacity, vec_len};
 ghost use Rattle.band_store.specs.Directory.{IsAt, IsGap, is_ordered, named, put_name};
 
 use lisp_graph::{Name, NoMemory};
 use std::cmp::Ordering;
 
-/// Where a text stands on the disk, and its length, in bytes.
+/// The position of a text on the disk, and its length, in bytes.
 #[derive(Clone, Copy, Debug, Drop, PartialEq, Eq)]
 pub struct Extent {
     pub at: u64,
     pub size: u32,
 }
 
-/// Where the name stands in the list, or else where it would.
+/// The position of the name in the list, or, as an error, the position at which it would be inserted.
 fn place_of(bands: &[(Name, Extent)], name: &[u8]) -> Result<usize, usize>
     requires { is_ordered bands.now ≡ true }
     ensures { MatchResult result (IsAt bands.now name.now) (IsGap bands.now name.now) }
@@ -30,7 +30,7 @@ fn place_of(bands: &[(Name, Extent)], name: &[u8]) -> Result<usize, usize>
     Err(low)
 }
 
-/// Where the text of a name stands.
+/// The extent of the text of a name, if the list has the name.
 pub fn extent_of(bands: &[(Name, Extent)], name: &[u8]) -> Option<Extent>
     requires { is_ordered bands.now ≡ true }
     ensures { result ≡ named name.now bands.now }
@@ -41,7 +41,7 @@ pub fn extent_of(bands: &[(Name, Extent)], name: &[u8]) -> Option<Extent>
     }
 }
 
-/// Gives a name another extent, or adds the name. Memory can run out only for a list that is full.
+/// Gives a name another extent, or inserts the name. Memory can run out only if the list is full.
 pub fn put_name(
     bands: &mut Vec<(Name, Extent)>,
     name: &Name,

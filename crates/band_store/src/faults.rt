@@ -8,33 +8,33 @@ use band_disk::DiskFault;
 use lisp_graph::NoMemory;
 use std::alloc::AllocError;
 
-/// Why a disk isn't opened.
+/// Why a disk can't be opened.
 #[derive(Clone, Copy, Debug, Drop, PartialEq, Eq)]
 pub enum OpenFault {
-    /// It has fewer than 9 bytes, or doesn't begin with the header.
+    /// The disk has fewer than 9 bytes, or doesn't begin with the header.
     NotAStore,
-    /// The gate at this place is open, and behind it stands no record with a gate behind that: the first such gate.
+    /// The gate at this position is open, and isn't followed by a record and a gate. It is the first such gate.
     Damaged { at: u64 },
     /// The disk failed.
     Disk,
     NoMemory,
 }
 
-/// Why a text isn't saved. Each fault but the disk's leaves the disk and the store as they were.
+/// Why a text can't be saved. Each error except `Disk` leaves the disk and the store unchanged.
 #[derive(Clone, Copy, Debug, Drop, PartialEq, Eq)]
 pub enum SaveFault {
     /// The store isn't open.
     Closed,
-    /// The text has so many bytes, more than 1,048,576.
+    /// The text has this many bytes, more than 1,048,576.
     TooLarge { size: u64 },
-    /// The disk would need room for so many bytes.
+    /// The disk would need room for this many bytes.
     Full { end: u64 },
-    /// The disk failed. The save may be on it or not; the store is closed.
+    /// The disk failed. The save may be on the disk or not; the store is closed.
     Disk,
     NoMemory,
 }
 
-/// Why a text isn't loaded.
+/// Why a text can't be loaded.
 #[derive(Clone, Copy, Debug, Drop, PartialEq, Eq)]
 pub enum LoadFault {
     /// The store isn't open.

@@ -7,27 +7,27 @@ use byteorder::{BigEndian, ByteOrder};
 use lisp_graph::Name;
 use std::alloc::{AllocError, Global};
 
-/// What a store begins with.
+/// The first bytes of a store.
 pub const HEADER: &[u8; 8] = b"LISPBND1";
 
-/// How many bytes a text has at most.
+/// The most bytes of a text.
 pub const LONGEST_TEXT: u64 = 1_048_576;
 
-/// How many bytes a record has at most in front of its text, its gate counted.
+/// The most bytes of a record before its text, including its gate.
 pub const LONGEST_HEAD: usize = 22;
 
-/// What stands at a gate.
+/// What is at a gate.
 #[derive(Debug, Drop)]
 pub enum Gate {
-    /// It isn't open.
+    /// The gate is closed.
     Shut,
-    /// It is open, and behind it stands a record of this name with a text of so many bytes, and a gate.
+    /// The gate is open, and is followed by a record of this name, with a text of this many bytes, and by a gate.
     Record { name: Name, size: u32 },
-    /// It is open, and no record with a gate behind it stands there.
+    /// The gate is open, and isn't followed by a record and a gate.
     Broken,
 }
 
-/// The name and the length of the text, where these bytes begin with those of a record.
+/// The name and the length of the text, if these bytes begin with those of a record.
 fn read_head(bytes: &[u8]) -> Option<(Name, u32)>
     ensures { MatchOption result (HasNoHead bytes.now) (λ head. IsHead head.0 head.1 bytes.now) }
 {
@@ -47,7 +47,7 @@ fn read_head(bytes: &[u8]) -> Option<(Name, u32)>
     Some((name, size))
 }
 
-/// What stands at a gate. The bytes are the gate and those behind it, 22 at most, of the `left` that the disk has from the gate on.
+/// What is at a gate. The bytes are the gate and at most 21 bytes after it; from the gate on the disk has `left` bytes.
 pub fn read_gate(bytes: &[u8], left: u64) -> Gate
     requires some { 0 < length bytes.now }
     requires front { length bytes.now ≡ min 22 left }
@@ -65,7 +65,7 @@ pub fn read_gate(bytes: &[u8], left: u64) -> Gate
     Gate::Record { name, size }
 }
 
-/// A record's bytes behind its gate, and a closed gate behind them.
+/// The bytes of a record after its gate, followed by a closed gate.
 pub fn record_bytes(alloc: Global, name: &[u8], text: &[u8]) -> Result<Vec<u8>, AllocError>
     requires name { length name.now ≤ 16 }
     requires text { length text.now ≤ 1048576 }

@@ -13,7 +13,7 @@ use crate::format::{Gate, HEADER, LONGEST_HEAD, read_gate};
 use band_disk::{BandDisk, DiskFault};
 use lisp_graph::Name;
 
-/// Whether the disk begins with the header, and has a gate behind it.
+/// Whether the disk begins with the header, followed by a gate.
 fn has_header<D: BandDisk>(disk: &mut D) -> Result<bool, DiskFault>
     ensures yes { IfOk result (λ yes. yes ≡ true → HasHeader (D.bytes disk.old)) }
     ensures no { IfOk result (λ yes. yes ≡ false → IsNoStore (D.bytes disk.old)) }
@@ -29,7 +29,7 @@ fn has_header<D: BandDisk>(disk: &mut D) -> Result<bool, DiskFault>
     Ok(head == *HEADER)
 }
 
-/// What stands at the gate at this place.
+/// What is at the gate at this position.
 fn gate_at<D: BandDisk>(disk: &mut D, gate: u64) -> Result<Gate, DiskFault>
     requires { gate < length (D.bytes disk.old) }
     ensures gate { IfOk result (IsGate (drop gate (D.bytes disk.old))) }
@@ -45,8 +45,8 @@ fn gate_at<D: BandDisk>(disk: &mut D, gate: u64) -> Result<Gate, DiskFault>
     Ok(read_gate(&room[..len], left))
 }
 
-/// Adds each name on the disk to the list, which is empty, with where its last text stands, and answers the place of the gate
-/// behind the records.
+/// Adds each name on the disk, with the extent of its last text, to the list, which is empty, and returns the position of the gate
+/// after the records.
 pub fn read_directory<D: BandDisk>(
     bands: &mut Vec<(Name, Extent)>,
     disk: &mut D,

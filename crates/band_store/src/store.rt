@@ -16,8 +16,8 @@ use lisp_graph::{Name, NoMemory, Text};
 use std::alloc::Global;
 use std::marker::Model;
 
-/// World texts by name, on a disk that is handed to each call. The store knows where the disk's last text of each name
-/// stands, so while it is open nothing else may change that disk.
+/// World texts by name, on a disk that is passed to each call. The store knows the position of each name's last text on
+/// the disk, so while it is open nothing else may change that disk.
 #[derive(Drop)]
 pub struct BandStore {
     alloc: Global,
@@ -39,7 +39,7 @@ impl Model for BandStore {
 }
 
 impl BandStore {
-    /// A store that isn't open. It takes no memory yet.
+    /// A store that isn't open. It allocates no memory yet.
     pub fn new(alloc: Global) -> BandStore
         ensures { result ≡ closed }
     {
@@ -51,21 +51,21 @@ impl BandStore {
         }
     }
 
-    /// Whether it is open.
+    /// Whether the store is open.
     pub fn is_open(&self) -> bool
         ensures { result ≡ self.now.opened }
     {
         self.opened
     }
 
-    /// How many names it has.
+    /// The number of names.
     pub fn count(&self) -> u32
         ensures { result ≡ length self.now.bands }
     {
         self.bands.len() as u32
     }
 
-    /// The name at this place in the order of the names, and the length of its last text in bytes; None from the count on.
+    /// The name at this position in the order of names, and the length of its last text in bytes; None from the count on.
     pub fn band(&self, index: u32) -> Option<(Name, u32)>
         ensures { result ≡ slice_get (sizes self.now.bands) index }
     {
@@ -76,14 +76,14 @@ impl BandStore {
         Some((band.0.copy(), band.1.size))
     }
 
-    /// Opens the store on a disk that was just made or restarted, and answers how many names it has. It writes nothing. Where
-    /// it fails the store is closed.
+    /// Opens the store on a disk that was just made or restarted, and returns how many names it has. It writes nothing. If
+    /// it fails, the store is closed.
     pub fn open<D: BandDisk>(&mut self, disk: &mut D) -> Result<u32, OpenFault>
         requires { Only (D.bytes disk.old) (D.images disk.old) }
         ensures opened { IfOk result (λ count. (saves : List Save) × IsReady self.new (D.bytes disk.new) (D.images disk.new) saves × (count ≡ length (directory saves))) }
         ensures closed { OnErr result (self.new ≡ closed) }
 
-        // The bytes decide the answer, unless the disk fails or memory runs out.
+        // The bytes determine the result, unless the disk fails or memory runs out.
         ensures ready { IfOk result (λ _. (saves : List Save) → Holds saves (D.bytes disk.old) → IsReady self.new (D.bytes disk.new) (D.images disk.new) saves) }
         ensures holds { (saves : List Save) → Holds saves (D.bytes disk.old) → IsOpenAnswer (Ok (length (directory saves))) result }
         ensures not_a_store { IsNoStore (D.bytes disk.old) → IsOpenAnswer (Err OpenFault.NotAStore) result }
@@ -93,7 +93,7 @@ impl BandStore {
         ensures quiet { result ≢ Err OpenFault.Disk → D.faults disk.new ≡ D.faults disk.old }
         ensures later { D.faults disk.old ≤ D.faults disk.new }
 
-        // A stop at any moment leaves the bytes as they were, and no write or sync is asked for.
+        // After a crash at any moment the bytes are unchanged, and no write or sync is requested.
         ensures reads { ReadsOnly D.bytes D.space D.images D.clock D.images_since disk.old disk.new }
         ensures changes { D.changes disk.new ≡ D.changes disk.old }
     {
@@ -109,7 +109,7 @@ impl BandStore {
         Ok(count)
     }
 
-    /// Where the gate behind a record of this save would stand, or why it can't be written on a disk with this room.
+    /// The position that the gate after a record of this save would have, or why the record can't be written on a disk with this room.
     fn next_gate(&self, room: u64, name: &[u8], text: &[u8]) -> Result<u64, SaveFault>
         requires gate { self.now.opened ≡ true → self.now.gate < 2 ^ 63 }
         requires name { length name.now ≤ 16 }
@@ -129,7 +129,7 @@ impl BandStore {
         Ok(end - 1)
     }
 
-    /// Adds a name whose text is to stand behind the next gate, or moves it there.
+    /// Adds a name whose text will follow the next gate; if the name exists, its extent becomes that text's.
     fn add(&mut self, name: &Name, size: u32) -> Result<(), NoMemory>
         requires { self.old.gate < 2 ^ 63 }
         ensures ok { OnOk result (self.new ≡ record self.old {
@@ -146,8 +146,8 @@ impl BandStore {
         Ok(())
     }
 
-    /// Saves a text of at most 1,048,576 bytes under a name, behind what the disk holds. Once it answers Ok the save outlives
-    /// a stop; where the disk fails it may be on the disk or not, and the store is closed. Each other fault changes nothing.
+    /// Saves a text of at most 1,048,576 bytes under a name, after what the disk contains. Once it returns Ok, the save survives
+    /// a crash; if the disk fails, the save may be on the disk or not, and the store is closed. Each other error changes nothing.
     pub fn save<D: BandDisk>(
         &mut self,
         disk: &mut D,
@@ -158,11 +158,11 @@ impl BandStore {
         ensures saved { OnOk result ((saves : List Save) → IsReady self.old (D.bytes disk.old) (D.images disk.old) saves →
             IsReady self.new (D.bytes disk.new) (D.images disk.new) (saves ++ record { name = name.now; text = text.now } ∷ [])) }
 
-        // A stop at any moment leaves the saves as they were, with this one more or without it.
+        // After a crash at any moment the saves are unchanged, with or without this one added.
         ensures any_moment { (saves : List Save) → IsReady self.old (D.bytes disk.old) (D.images disk.old) saves →
             LeavesOnly D.clock D.images_since disk.old disk.new (IsWithOrWithout saves (record { name = name.now; text = text.now })) }
 
-        // When each fault comes, and what it changes.
+        // When each error occurs, and what it changes.
         ensures answer { IsSaveAnswer (checked self.old (D.space disk.old) (record { name = name.now; text = text.now })) result }
         ensures failed { result ≡ Err SaveFault.Disk → self.new ≡ closed }
         ensures stays { IfErr result (λ fault. fault ≢ SaveFault.Disk → (self.new ≡ self.old) × (disk.new ≡ disk.old)) }
@@ -171,7 +171,7 @@ impl BandStore {
         ensures later { D.faults disk.old ≤ D.faults disk.new }
         ensures space { D.space disk.new ≡ D.space disk.old }
 
-        // It asks for four writes and syncs, and where it fails for no more.
+        // It requests four writes and syncs, and at most four if it fails.
         ensures four { OnOk result (D.changes disk.new ≡ with_more 4 (D.changes disk.old)) }
         ensures no_more { D.changes disk.new ≤ D.changes disk.old + 4 }
     {
@@ -191,7 +191,7 @@ impl BandStore {
         }
     }
 
-    /// The last text that was saved under a name. It writes nothing. Where the disk fails the store is closed.
+    /// The text last saved under a name. It writes nothing. If the disk fails, the store is closed.
     pub fn load<D: BandDisk>(&mut self, disk: &mut D, name: &Name) -> Result<Text, LoadFault>
         requires { self.old.opened ≡ true → (saves : List Save) × IsReady self.old (D.bytes disk.old) (D.images disk.old) saves }
         ensures text { IfOk result (λ text. (saves : List Save) → IsReady self.old (D.bytes disk.old) (D.images disk.old) saves → named name.now (directory saves) ≡ Some text) }
@@ -203,7 +203,7 @@ impl BandStore {
         ensures quiet { result ≢ Err LoadFault.Disk → D.faults disk.new ≡ D.faults disk.old }
         ensures later { D.faults disk.old ≤ D.faults disk.new }
 
-        // A stop at any moment leaves the bytes as they were, and no write or sync is asked for.
+        // After a crash at any moment the bytes are unchanged, and no write or sync is requested.
         ensures reads { ReadsOnly D.bytes D.space D.images D.clock D.images_since disk.old disk.new }
         ensures changes { D.changes disk.new ≡ D.changes disk.old }
     {

@@ -1,4 +1,4 @@
-//! Writing to a disk so that it outlives a stop.
+//! Writing to a disk so that the writes survive a crash.
 ghost use Rattle.std.specs.Prelude.{◌≡◌, ◌+◌, ◌<◌, ◌≤◌, ◌^◌, ◌∷◌, length, OnOk};
 ghost use Rattle.band_disk.specs.outer_ports.Ports.{HasCause};
 ghost use Rattle.band_disk.specs.Disks.{LeavesOnly, Only, Torn, overwritten, with_more};
@@ -6,21 +6,21 @@ ghost use Rattle.band_store.specs.Store.{IsTornRecord};
 
 use band_disk::{BandDisk, DiskFault};
 
-/// Writes these bytes over those from a place on, and syncs.
+/// Overwrites the bytes from a position on with these, and syncs.
 fn write_through<D: BandDisk>(disk: &mut D, at: u64, bytes: &[u8]) -> Result<(), DiskFault>
     requires durable { Only (D.bytes disk.old) (D.images disk.old) }
     requires place { at ≤ length (D.bytes disk.old) }
     requires room { at + length bytes.now ≤ D.space disk.old }
 
-    // At Ok the bytes are written and durable.
+    // If it succeeds, the bytes are written and durable.
     ensures written { OnOk result (D.bytes disk.new ≡ overwritten at bytes.now (D.bytes disk.old)) }
     ensures durable { OnOk result (Only (D.bytes disk.new) (D.images disk.new)) }
 
-    // What a stop may leave, at each moment and behind the call.
+    // The possible post-crash states, at each moment of the call and after it.
     ensures any_moment { LeavesOnly D.clock D.images_since disk.old disk.new (Torn at (length bytes.now) (D.bytes disk.old)) }
     ensures now { (image : _) → D.images disk.new image → Torn at (length bytes.now) (D.bytes disk.old) image }
 
-    // The room, faults, and how many writes and syncs there were.
+    // The room, failed calls, and the number of writes and syncs.
     ensures space { D.space disk.new ≡ D.space disk.old }
     ensures cause { HasCause (D.faults disk.old) (D.faults disk.new) result }
     ensures changes { OnOk result (D.changes disk.new ≡ with_more 2 (D.changes disk.old)) }
@@ -31,22 +31,22 @@ fn write_through<D: BandDisk>(disk: &mut D, at: u64, bytes: &[u8]) -> Result<(),
     Ok(())
 }
 
-/// Writes a record behind the gate at this place, which isn't open, and opens the gate only once the record outlives a stop.
+/// Writes a record after the gate at this position, which is closed, and opens the gate only once the record survives a crash.
 pub fn write_record<D: BandDisk>(disk: &mut D, gate: u64, bytes: &[u8]) -> Result<(), DiskFault>
     requires durable { Only (D.bytes disk.old) (D.images disk.old) }
     requires place { gate < length (D.bytes disk.old) }
     requires room { gate + 1 + length bytes.now ≤ D.space disk.old }
     requires fits { D.space disk.old < 2 ^ 63 }
 
-    // At Ok the bytes are written and durable.
+    // If it succeeds, the bytes are written and durable.
     ensures written { OnOk result (D.bytes disk.new ≡ overwritten gate (1 ∷ bytes.now) (D.bytes disk.old)) }
     ensures durable { OnOk result (Only (D.bytes disk.new) (D.images disk.new)) }
 
-    // What a stop may leave, at each moment and behind the call.
+    // The possible post-crash states, at each moment of the call and after it.
     ensures any_moment { LeavesOnly D.clock D.images_since disk.old disk.new (IsTornRecord gate bytes.now (D.bytes disk.old)) }
     ensures now { (image : _) → D.images disk.new image → IsTornRecord gate bytes.now (D.bytes disk.old) image }
 
-    // The room, faults, and how many writes and syncs there were.
+    // The room, failed calls, and the number of writes and syncs.
     ensures space { D.space disk.new ≡ D.space disk.old }
     ensures cause { HasCause (D.faults disk.old) (D.faults disk.new) result }
     ensures changes { OnOk result (D.changes disk.new ≡ with_more 4 (D.changes disk.old)) }

@@ -1,4 +1,4 @@
-//! The index lists. Each call asks first which list the node is in, as a caller that doesn't know would.
+//! The index lists. Each call first looks up which list the node is in, as a caller that doesn't know it would.
 ghost use Rattle.std.specs.Prelude.{◌≡◌, ◌+◌, ◌<◌, ◌^◌, length};
 
 use crate::report::{Measurement, ROUNDS, no_memory, page_at};
@@ -24,7 +24,7 @@ fn push_back(lists: &mut Lists, nodes: u32, count: u32)
     }
 }
 
-// What a node does that is in a list.
+// What a node in a list does.
 #[derive(Clone, Copy)]
 enum Move {
     ToTheEnd,
@@ -50,7 +50,7 @@ fn move_all(lists: &mut Lists, nodes: u32, count: u32, to: Move)
     }
 }
 
-// What comes after each node.
+// The node after each node.
 fn next(lists: &Lists, nodes: u32) -> u64
     requires nodes { lists.now.nodes ≡ nodes }
     requires some { 0 < nodes }

@@ -1,4 +1,4 @@
-//! Times the calls of single crates. Each word names what is timed:
+//! Times the calls of single crates. Each argument names what is timed:
 //!
 //! - `tables`: the lists, the page map and the reference table at 16,384 pages, and the frames at 4,096;
 //! - `memory`: reads and writes of a paged memory beside those of a flat one;

@@ -21,7 +21,7 @@ const SPACE: Space = Space {
     capacity: [0; 6],
 };
 
-/// Uses of a flat memory, and then of a paged one; on standard error, how often this took the time of the flat one.
+/// Uses of a flat memory, and then of a paged one; on standard error, how many times as long as the flat one this took.
 pub fn run(alloc: Global, rt: &(impl Clock + Print + Eprint)) -> io::Result<()> {
     let Ok(mut plain) = PlainMemory::new(alloc, &SPACE) else {
         return Err(no_memory());

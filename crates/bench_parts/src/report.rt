@@ -7,7 +7,7 @@ use std::time::{Clock, Instant};
 /// How often each run of calls is made; its least time counts.
 pub const ROUNDS: u32 = 8;
 
-/// The page of a turn: each page comes once in so many turns, where their number is a power of two, in a scattered order.
+/// The page of a turn: if the number of pages is a power of two, each page occurs once in that many turns, in a scattered order.
 pub fn page_at(turn: u32, pages: u32) -> u32
     requires { 0 < pages }
     ensures { result < pages }
@@ -25,7 +25,7 @@ pub struct Measurement<'a> {
 }
 
 impl<'a> Measurement<'a> {
-    /// No round yet.
+    /// A measurement before its first round.
     pub fn new(name: &'a str, calls: u32) -> Measurement<'a> {
         Measurement {
             name,
@@ -35,7 +35,7 @@ impl<'a> Measurement<'a> {
         }
     }
 
-    /// A round ends that began at `start`.
+    /// Ends a round that began at `start`.
     pub fn end_round(&mut self, rt: &impl Clock, start: Instant, sum: u64) -> io::Result<()> {
         let nanos = u64::try_from(start.elapsed(rt)?.as_nanos()).unwrap_or(u64::MAX);
         self.least = self.least.min(nanos);
@@ -56,7 +56,7 @@ impl<'a> Measurement<'a> {
         eprintln!(rt; "{name}: {each} ns a call")
     }
 
-    /// Prints on standard error how often this took the time of another run of as many calls, in hundredths.
+    /// Prints on standard error the time of this run as a multiple, in hundredths, of that of another run with the same number of calls.
     pub fn compare(&self, rt: &impl Eprint, other: &Measurement) -> io::Result<()> {
         let hundredths = self
             .least
@@ -68,7 +68,7 @@ impl<'a> Measurement<'a> {
     }
 }
 
-/// The error with which a benchmark ends where memory runs out.
+/// The error with which a benchmark ends if memory runs out.
 pub fn no_memory() -> io::Error {
     io::ErrorKind::OutOfMemory.into()
 }

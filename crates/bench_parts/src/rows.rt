@@ -13,7 +13,7 @@ fn level_of(turn: u32) -> Levels {
     Levels::one((turn % 6 + 1) as u8)
 }
 
-// Notes rows that weren't there.
+// Notes rows that weren't in the table.
 fn note(table: &mut RefTable, pages: u32, rows: u32)
     requires size { length table.old.sets ≡ pages }
     requires some { 0 < pages }
@@ -24,7 +24,7 @@ fn note(table: &mut RefTable, pages: u32, rows: u32)
     }
 }
 
-// LookCosts for the next row of a level from scattered pages on.
+// Looks for the next row of a level from scattered pages on.
 fn search(table: &RefTable, pages: u32) -> u64
     requires { 0 < pages }
 {
@@ -59,7 +59,7 @@ fn forget(table: &mut RefTable, pages: u32, rows: u32)
     }
 }
 
-// The calls at so many rows.
+// The calls at this many rows.
 fn run_at(
     rt: &(impl Clock + Print + Eprint),
     table: &mut RefTable,
@@ -96,7 +96,7 @@ fn run_at(
     forgotten.print(rt)
 }
 
-/// The calls at 64, 1,024 and as many rows as there are pages, so that the times show how `note` and `next_from` grow with the rows.
+/// The calls at 64 rows, at 1,024, and at one for each page, so that the times show how `note` and `next_from` grow with the rows.
 pub fn run(alloc: Global, rt: &(impl Clock + Print + Eprint), pages: u32) -> io::Result<()>
     requires some { 0 < pages }
     requires few { pages ≤ 16384 }

@@ -22,7 +22,7 @@ const RESIDENT: u32 = 8_191;
 
 const ALL: u32 = 262_143;
 
-// The address of a use, among so many pages up to a last word.
+// The address of a use, at most `last`, which is the last word of a page.
 fn address(turn: u32, last: u32) -> u32
     ensures { result ≤ last }
 {
@@ -30,7 +30,7 @@ fn address(turn: u32, last: u32) -> u32
 }
 
 // The address after one whose word was read, among those up to a last word. A word has 36 bits, so the last term is 0; by it the
-// next read waits for this one, as it does where a list is followed.
+// next read waits for this one, as it does when a list is followed.
 fn address_after(at: u32, word: Word, last: u32) -> u32
     ensures { result ≤ last }
 {
@@ -80,7 +80,7 @@ pub struct Times {
 }
 
 impl Times {
-    /// Prints how often these took the time of others, in hundredths.
+    /// Prints the times of these as multiples, in hundredths, of those of others.
     pub fn compare(&self, rt: &impl Eprint, others: &Times) -> io::Result<()> {
         for (run, other) in self.runs.iter().zip(others.runs.iter()) {
             run.compare(rt, other)?;
@@ -89,12 +89,12 @@ impl Times {
     }
 }
 
-// A fault of a device that never fails.
+// An I/O error of a device that never fails.
 fn broken() -> io::Error {
     io::ErrorKind::Other.into()
 }
 
-// Reads, and then writes, in so many rounds, of the words up to the last.
+// Reads and then writes the words up to the last, in each round.
 fn read_write<M: Memory, L: Ledger>(
     rt: &(impl Clock + Print + Eprint),
     mem: &mut M,

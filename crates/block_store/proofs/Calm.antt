@@ -1,4 +1,4 @@
--- What blocks leave of words that a collection has scanned.
+-- What calls on blocks do to words that a collection has scanned.
 use Rattle.std.proofs.Common.{◌≡◌, ℕ, zero, suc, ◌+◌, ◌/◌, ◌<◌, inl, inr, refl, sym, ◌∙◌, ap, subst, arith, Some, None}
 use Rattle.store_word.specs.Words.{Parts, address_of}
 use Rattle.store_word.specs.declared.word.Content.{Content}

@@ -1,5 +1,5 @@
--- What is read of a block is settled where it stands.
-use Rattle.std.proofs.Common.{◌≡◌, ℕ, suc, ◌+◌, ◌/◌, ◌<◌, ◌⊎◌, inl, inr, refl, sym, ◌∙◌, ap, subst, arith, List, length, Option, Some, None}
+-- What is read of a block is settled and written back.
+use Rattle.std.proofs.Common.{◌≡◌, ℕ, suc, ◌+◌, ◌/◌, ◌<◌, ◌⊎◌, inl, inr, refl, sym, ◌∙◌, ap, subst, arith, List, length, Option, Some, None, slice_get}
 use Rattle.store_word.specs.Words.{Parts}
 use Rattle.store_word.specs.declared.word.Content.{Content}
 use Rattle.store_word.specs.declared.word.Content.TheVariants.{Struct as StructAt}
@@ -9,7 +9,7 @@ use Rattle.area_space.specs.lisp_graph.declared.object.Body.{Body}
 use Rattle.area_space.specs.lisp_graph.declared.object.Body.TheVariants.{Cons, Block}
 use Rattle.area_space.specs.lisp_graph.declared.world.AreaRule.{AreaRule}
 use Rattle.area_space.specs.lisp_graph.Graph.{is_ref, value_at}
-use Rattle.mem_port.specs.Store.{StoresNothing}
+use Rattle.mem_port.specs.Store.{Stores, StoresNothing}
 use Rattle.mem_port.specs.Store as Memory
 use Rattle.area_space.specs.Table.{Table, IsOld}
 use Rattle.obj_layout.specs.Forwards.{word_at, Final}
@@ -25,9 +25,12 @@ use Rattle.transporter.specs.LiveSame.{IsLiveWord, LiveSameBut}
 use Rattle.transporter.specs.Settling.{CanSettle, HasOld, IsKeptValue, IsSettleable, Settles, SettlesOn, readdressed, reference_of}
 use Rattle.transporter.specs.Transports.{LaterOn}
 use Rattle.transporter.proofs.Fetched.{later-read, settles-read}
+use Rattle.transporter.proofs.Moving.{moves-after_read, stored-writes, writes-moves}
+use Rattle.transporter.specs.Moving.{MovesAtMost}
+use Rattle.obj_layout.proofs.Following.{word_at-read}
 use Rattle.block_store.specs.Headers.{CanFind}
 use Rattle.transporter.specs.Settled.{SettlesAt}
-use Rattle.block_store.specs.Fields.{CanRead, IsFieldPlace, IsReadable, KeepsBlock, ReadsField}
+use Rattle.block_store.specs.Fields.{CanRead, CanSet, IsFieldPlace, IsReadable, KeepsBlock, ReadsField}
 use Rattle.block_store.proofs.Finding.{can_find, header_there, ref_named}
 use Rattle.block_store.proofs.LiveFields.{field_live, field_value}
 use Rattle.block_store.proofs.Stored.{place_low}
@@ -113,7 +116,7 @@ module _ (m : Memory.Store) (t : Table) (content : Content) (index at : ℕ) (p 
           value_is = ap (value_of y.later.map.role) is ∙ y.value (value_at fields index) (value_there k top areas registers s aim n code fields can body);
         }
 
-    -- or a fault came
+    -- or a swap error occurred
     pub field_faulted : (m2 : Memory.Store) (t2 : Table) → ((k : RoleMap) (top : ℕ) (areas : List AreaRule) (registers : List Value) (s : Store) (aim : Condemned) (v : Value) → CanSettle m1 t k top areas registers s aim (word_at m1.words at) v → LaterOn m1 t m2 t2 k top areas s aim)
         → KeepsBlock m t m2 t2 content
     field_faulted m2 t2 later k top areas registers s aim v can =
@@ -167,3 +170,25 @@ field_settled m m1 m2 t t2 content index at p new word stays settles written oth
   where
     same_reference : (a b : ℕ) → StructAt a ≡ StructAt b → a ≡ b
     same_reference a b e = cc
+
+-- A field of a block that isn't old is written
+
+module _ (m : Memory.Store) (t : Table) (content : Content) (index at : ℕ) (written : Parts) (x : CanSet m t content written) (p : IsFieldPlace m.words content index at) (fresh : (a : ℕ) → reference_of content ≡ Some a → IsOld t (a / 4096) → ⊥) where
+  written_live : IsLiveWord t at
+  written_live =
+      let r = refers m t content index at p x.map x.top x.areas x.objects x.aim x.value x.kept x.value_is in
+      let value = x.value_is ∙ ap (λ (v : Value). Some v) r.3 in
+      let named = ref_named x.map content p.is.reference r.0 p.is.is value in
+      let low = place_low m t content index at p x.map x.top x.areas x.objects x.aim r.0 r.1 r.2 x.kept value r.4 in
+      let place : suc (x.map.at r.0) + index ≡ at = ap (λ (a : ℕ). suc a + index) (sym (final_is_place m t x.map x.top x.areas x.objects x.aim x.kept AsBlock p.is.reference r.0 named p.head.at p.is.final)) ∙ sym p.place in
+      subst (λ (a : ℕ). IsLiveWord t a) place (field_live m t x.map x.top x.areas x.objects x.aim x.kept p.is.reference r.0 named r.1 r.2 r.4 index low (fresh p.is.reference (ap reference_of p.is.is)))
+
+  -- nothing moves
+  pub field_moves : (n m' : Memory.Store) → StoresNothing m n → (old w : Parts) → slice_get n.words at ≡ Some old → w ≡ record written { cdr = old.cdr } → Stores n m' at w → MovesAtMost m t m' t 0
+  field_moves n m' reads old w found is stores =
+      let code : w.cdr ≡ (word_at n.words at).cdr = ap (λ (x : Parts). x.cdr) is ∙ ap (λ (x : Parts). x.cdr) (sym (word_at-read n.words n.words at old refl found)) in
+      let low = p.low in
+      let within = p.is.inside in
+      let place = p.place in
+      let size = ap (λ (ws : List Parts). length ws) reads.words in
+      moves-after_read reads (writes-moves (stored-writes at w written_live (omega arith) code stores.words))

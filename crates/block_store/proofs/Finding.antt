@@ -1,4 +1,4 @@
--- What stands where a reference to a block leads.
+-- What is at the address to which a reference to a block leads.
 use Rattle.std.proofs.Common.{◌≡◌, ℕ, suc, ◌+◌, ◌<◌, ◌≤◌, arith, refl, sym, ◌∙◌, ap, subst, List, length, Option, Some, None}
 use Rattle.store_word.specs.Words.{header_of as parts_of}
 use Rattle.store_word.specs.declared.word.Content.{Content}

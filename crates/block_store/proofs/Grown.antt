@@ -1,4 +1,4 @@
--- A block is placed again, written and committed, and its husk is noted.
+-- A block is placed again, written and committed, and its husk is recorded.
 use Rattle.std.proofs.Common.{◌≡◌, ℕ, zero, suc, ◌+◌, ◌-◌, ◌*◌, ◌/◌, ◌<◌, ◌≤◌, ◌^◌, ◌⊎◌, inl, inr, refl, sym, ◌∙◌, ap, subst, arith, List, length, slice_get, slice_index, slice_set, Option, Some, None}
 use Rattle.std.specs.Prelude.{Contains}
 use Rattle.std.proofs.lemmas.Bool.{cases_lt, lt-ltb, le-ltb}
@@ -57,7 +57,7 @@ use Rattle.block_store.proofs.Calm.{none-fresh, opened-stays_fresh}
 use Rattle.transporter.specs.Marking.{IsForward, MarksFollow}
 use Rattle.transporter.proofs.Marked.{marks-first, marks-opened, marks-placed, marks-read, marks-then}
 
--- What a block leaves that has grown: the wider block, its husk, and what the table and the other words have become
+-- The result of growing a block: the wider block, its husk, and the changes of the table and of all other memory
 pub record LeavesGrown (m : Memory.Store) (t : Table) (m' : Memory.Store) (t' : Table) (content : Content) (wanted at : ℕ) : Type 0 where
   pub grows : GrowsBlock m t m' t' content wanted at
   pub husk : (reference here : ℕ) → content ≡ StructAt reference → Final m.words reference here → IsHusk m m' here at wanted
@@ -66,7 +66,7 @@ pub record LeavesGrown (m : Memory.Store) (t : Table) (m' : Memory.Store) (t' : 
   pub stays_fresh : AllFresh m t → AllFresh m' t'
   pub marks : MarksFollow m t m' t'
 
--- A block of so many fields here is written again at the end of its class, where its charge is committed; its old words are a husk
+-- A block of `count` fields at `here` is written again at the end of its class, and its charge is committed there; its old words are a husk
 record Laid (m mid m' : Memory.Store) (t c t' : Table) (here at code count wanted area level : ℕ) : Type 0 where
   area_in : area < areas_of t
   level_in : level < levels_of t
@@ -135,7 +135,7 @@ module _ (m mid m' : Memory.Store) (t c t' : Table) (here at code count wanted a
   commits : c ≡ record (committed t (slot_of t area level) at (suc (grown_length count wanted)) (suc (grown_length count wanted)) New) { pages = c.pages }
   commits = subst (λ (n : ℕ). c ≡ record (committed t (slot_of t area level) at n n New) { pages = c.pages }) wider l.commit
 
--- The ground stands for the objects with the wider block
+-- The ground represents the objects with the wider block
 
 laid_grows : (m mid m' : Memory.Store) (t c t' : Table) (here at code wanted area level : ℕ) (fields : List Value) → Laid m mid m' t c t' here at code (length fields) wanted area level → length fields < wanted → wanted ≤ 2047
     → (k : RoleMap) (top : ℕ) (areas : List AreaRule) (s : Store) (aim : Condemned) (n : ℕ) → GroundInvariant m t k top areas s aim → StandsThere (ground_image m t) k AsBlock here n → (object s n).body ≡ Block code fields
@@ -167,7 +167,7 @@ module _ (m : Memory.Store) (t : Table) (of : Parts) (wanted : ℕ) (x : CanGrow
   on1 : GroundInvariant m1 t x.map x.top x.areas x.objects x.aim
   on1 = kept_on_same m m1 t x.map x.top x.areas x.objects x.aim x.kept reads
 
-  -- a fault stores nothing more
+  -- on a swap error nothing more is stored
   pub grow_stays : (m3 : Memory.Store) → StoresNothing m2 m3 → StaysOn m t m3 t2
   grow_stays m3 stays = stays-faulted reads (opened_at_most m1 t x.map x.top x.areas x.objects x.aim on1 class.area class.level there.area_in there.level_in m2 t2 region opens m3 stays)
 
@@ -317,7 +317,7 @@ module _ (m : Memory.Store) (t : Table) (of : Parts) (wanted : ℕ) (x : CanGrow
             out (inl l) y = let b = y.1 in omega arith
             out (inr l) y = let a = y.0 in omega arith
 
-        -- and left its husk
+        -- and its old place is a husk
         pub block_husk : (reference here : ℕ) → of.content ≡ StructAt reference → Final m.words reference here → IsHusk m m3 here at wanted
         block_husk reference here refers final =
             let base : head.at ≡ here = one_final m.words reference head.at here (subst (λ (a : ℕ). Final m.words a head.at) (same_reference is.reference reference (sym is.is ∙ refers)) is.final) final in
@@ -333,14 +333,14 @@ module _ (m : Memory.Store) (t : Table) (of : Parts) (wanted : ℕ) (x : CanGrow
             same_reference : (a b : ℕ) → StructAt a ≡ StructAt b → a ≡ b
             same_reference a b e = cc
 
-        -- What it leaves of scanned words
+        -- What it does to scanned words
 
         module _ (pages : Adds (page_list t2) (page_list c) (at / 256) ((at + (grown_length head.length wanted + 1) - 1) / 256)) where
           extends : Extends t2 t3 (slot_of t2 class.area class.level) at (grown_length head.length wanted + 1)
           extends = husked-extends (live (slot_of t2 class.area class.level)) (head.length + 1) husk
               (committed-extends t2 c (slot_of t2 class.area class.level) at (grown_length head.length wanted + 1) (grown_length head.length wanted + 1) New c.pages t2.last end_here commit pages)
 
-          -- where its words were placed
+          -- at which address its words were placed
           pub block_placed : (reference here : ℕ) → of.content ≡ StructAt reference → Final m.words reference here → PlacesGrown m t t3 here at wanted
           block_placed reference here refers final =
               let base : head.at ≡ here = one_final m.words reference head.at here (subst (λ (a : ℕ). Final m.words a head.at) (same_reference is.reference reference (sym is.is ∙ refers)) is.final) final in
@@ -454,7 +454,7 @@ module _ (m : Memory.Store) (t : Table) (of : Parts) (wanted : ℕ) (x : CanGrow
       pub old_charged : (slot : ℕ) → Contains (chain c (live slot)) (head.at / 4096) → head.length + 1 ≤ slice_index c.charges (live slot)
       old_charged = husk_enough at end_is m3 laid_is c commit_is
 
-      -- all of it, once the husk is noted
+      -- all of it, once the husk is recorded
       pub new_grown : (t3 : Table) → t3 ≡ husked c (live (slot_of t2 class.area class.level)) (head.length + 1) → IsTable t3 → Adds (page_list t2) (page_list c) (at / 256) ((at + (wide + 1) - 1) / 256) → LeavesGrown m t m3 t3 of.content wanted at
       new_grown t3 husk sound pages =
           let pages_is : Adds (page_list t2) (page_list c) (at / 256) ((at + (grown_length head.length wanted + 1) - 1) / 256) = subst (λ (n : ℕ). Adds (page_list t2) (page_list c) (at / 256) ((at + (n + 1) - 1) / 256)) wide_is pages in

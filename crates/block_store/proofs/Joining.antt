@@ -10,7 +10,7 @@ use Rattle.transporter.specs.Writes.{Writes}
 use Rattle.transporter.proofs.Writing.{writes-more, writes-none}
 use Rattle.block_store.specs.Growing.{grown_word, husk_word}
 
--- words behind those that were written
+-- words that follow those that were written
 pub writes-joined : {old mid new : Store} {at count more : ℕ} {first second : ℕ → Parts} (word : ℕ → Parts) → Writes old mid at count first → Writes mid new (at + count) more second
     → ((i : ℕ) → i < count → first i ≡ word i) → ((i : ℕ) → i < more → second i ≡ word (count + i)) → Writes old new at (count + more) word
 writes-joined {old} {mid} {new} {at} {count} {more} {first} {second} word one two first_is second_is = record {
@@ -32,7 +32,7 @@ writes-joined {old} {mid} {new} {at} {count} {more} {first} {second} word one tw
         let same : count + (i - count) ≡ i = omega arith in
         ap (word_at new.words) place ∙ two.there (i - count) (omega arith) ∙ second_is (i - count) (omega arith) ∙ ap word same
 
--- one word, and those behind it
+-- one word, and those that follow it
 pub writes-behind : {old mid new : Store} {at count : ℕ} {first : Parts} {second : ℕ → Parts} (word : ℕ → Parts) → Stores old mid at first → at < length old.words → Writes mid new (at + 1) count second
     → first ≡ word 0 → ((i : ℕ) → i < count → second i ≡ word (suc i)) → Writes old new at (count + 1) word
 writes-behind {old} {mid} {new} {at} {count} {first} {second} word one inside two first_is second_is =

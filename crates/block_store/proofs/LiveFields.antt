@@ -1,4 +1,4 @@
--- Where the fields of a block stand that isn't old: in used words of live regions.
+-- The fields of a block that isn't old are in used words of live regions.
 use Rattle.std.proofs.Common.{◌≡◌, ℕ, suc, ◌+◌, ◌/◌, ◌<◌, sym, ◌∙◌, ap, subst, arith, List, length, Option, Some}
 use Rattle.std.proofs.lemmas.Option.{slice_get-get_or}
 use Rattle.store_word.specs.Words.{Parts}
@@ -29,7 +29,7 @@ module _ (m : Memory.Store) (t : Table) (k : RoleMap) (top : ℕ) (areas : List 
   pub live_word : (a n : ℕ) → owner (k.role a) ≡ Some n → (IsOld t (a / 4096) → ⊥) → IsLiveWord t a
   live_word = Live.live_word m t k top areas s aim on
 
-  -- where a reference isn't old, neither is what it refers to
+  -- if a reference isn't old, neither is what it refers to
   pub place_fresh : (at n : ℕ) → names_as AsBlock (k.role at) ≡ Some n → (IsOld t (at / 4096) → ⊥) → IsOld t (k.at n / 4096) → ⊥
   place_fresh = Live.place_fresh m t k top areas s aim on AsBlock
 
@@ -50,13 +50,13 @@ module _ (m : Memory.Store) (t : Table) (k : RoleMap) (top : ℕ) (areas : List 
     field_value = value_held k.role (word_at m.words (suc (k.at n) + index)) (field_of (object s n).body index) (value_at fields index) field_there.value
         (ap (λ (b : Rattle.area_space.specs.lisp_graph.declared.object.Body.Body). field_of b index) body ∙ slice_get-get_or fields index V.Nil low)
 
-    -- it stands in the region of the block
+    -- it is in the region of the block
     pub field_near : (suc (k.at n) + index) / 4096 ≡ k.at n / 4096
     field_near = field_there.region
 
     field_role : k.role (suc (k.at n) + index) ≡ Field n index
     field_role = (block_fits (word_at m.words) (classes (ground_image m t)) k s on.kept.roled n (k.at n) role).fields index (let e = size_is in omega arith)
 
-    -- where the reference isn't old, it stands live
+    -- if the reference isn't old, it is in a live region
     pub field_live : (IsOld t (at / 4096) → ⊥) → IsLiveWord t (suc (k.at n) + index)
     field_live fresh = live_word (suc (k.at n) + index) n (ap owner field_role) (subst (λ (r : ℕ). IsOld t r → ⊥) (sym field_there.region) (place_fresh at n named fresh))

@@ -1,4 +1,4 @@
--- Which pages get marks where a field is written.
+-- Which pages get marks when a field is written.
 use Rattle.std.proofs.Common.{◌≡◌, ℕ, suc, ◌+◌, sym, ◌∙◌, ap, subst, arith, List, length, Some}
 use Rattle.store_word.specs.Words.{Parts}
 use Rattle.store_word.specs.declared.word.Content.{Content}

@@ -1,4 +1,4 @@
--- A block that is to grow: where it stands, and what there is room for.
+-- A block that is to grow: its address, and the room that there is for it.
 use Rattle.std.proofs.Common.{◌≡◌, ℕ, zero, suc, ◌+◌, ◌-◌, ◌*◌, ◌/◌, ◌%◌, ◌<◌, ◌≤◌, ◌⊎◌, inl, inr, refl, sym, ◌∙◌, ap, subst, arith, Bool, true, false, List, length, Some}
 use Rattle.std.specs.Prelude.{Contains}
 use Rattle.std.proofs.lemmas.Bool.{cases_lt, cases_eq}
@@ -46,7 +46,7 @@ use Rattle.transporter.proofs.Marked.{no-forward, plain-value}
 pub grow_meaning : (m : Memory.Store) (t : Table) (of : Parts) (wanted : ℕ) → CanGrow m t of wanted → HasMeaning m t of.content
 grow_meaning m t of wanted x = record { map = x.map; top = x.top; areas = x.areas; objects = x.objects; aim = x.aim; kept = x.kept; value = x.value; value_is = x.value_is }
 
--- Where it stands
+-- Its address
 
 module _ (m : Memory.Store) (t : Table) (content : Content) (head : Place) (is : IsHead m.words content head) (k : RoleMap) (top : ℕ) (areas : List AreaRule) (s : Store) (aim : Condemned) (on : GroundInvariant m t k top areas s aim) (n : ℕ) (value : value_of k.role content ≡ Some (V.Ref n)) where
   pub grown_named : names_as AsBlock (k.role is.reference) ≡ Some n
@@ -94,7 +94,7 @@ module _ (m : Memory.Store) (t : Table) (content : Content) (head : Place) (is :
           ap (λ (a : ℕ). a / 4096) (sym there) ∙ field_near m t k top areas s aim on is.reference n grown_named b.0 b.1 b.2 j (omega arith) ∙ ap (λ (a : ℕ). a / 4096) (sym grown_place),
         )
 
-  -- the class in which it stands has its area, and the level of its region
+  -- the class in which it is has its area, and the level of its region
   module _ (class : TableClass) (there : IsLiveIn t head.at class) where
     region_there : region (ground_image m t) head.at ≡ region_at t (head.at / 4096)
     region_there = region_is m t no_rest (head.at / 4096) on.table
@@ -111,7 +111,7 @@ module _ (m : Memory.Store) (t : Table) (content : Content) (head : Place) (is :
     grown_level =
         ap (λ (a : ℕ). (region (ground_image m t) a).level) (sym grown_place) ∙ ap (λ (r : Region). r.level) (region_there ∙ region_here) ∙ slot_level t class.area class.level there.level_in
 
--- A settled word that refers to a block refers to one that stands live
+-- A settled word that refers to a block refers to one in a live region
 
 module _ (m : Memory.Store) (t : Table) (of : Parts) (x : HasMeaning m t of.content) (young : HasOld t of → ⊥) (head : Place) (is : IsHead m.words of.content head) where
   meant : (n : ℕ) × (x.value ≡ V.Ref n)

@@ -29,7 +29,7 @@ use Rattle.block_store.proofs.Finding.{head_tells, ref_named, tells_length}
 pub set_meaning : (m : Memory.Store) (t : Table) (content : Content) (written : Parts) → CanSet m t content written → HasMeaning m t content
 set_meaning m t content written x = record { map = x.map; top = x.top; areas = x.areas; objects = x.objects; aim = x.aim; kept = x.kept; value = x.value; value_is = x.value_is }
 
--- the number of fields, where there is one of this index or none
+-- the number of fields, whether there is one of this index or not
 pub place_tells : (m : Memory.Store) (t : Table) (content : Content) (index at : ℕ) → IsFieldPlace m.words content index at → (count : ℕ) × TellsLength m t content count × (index < count)
 place_tells m t content index at p = (p.head.length, tells_length m t content p.head p.is, p.low)
 

@@ -26,14 +26,14 @@ use Rattle.block_store.specs.Headers.{IsHead}
 
 -- Places
 
--- the field of this index of the block to which the content refers stands at an address
+-- the field of this index of the block to which the content refers is at this address
 pub record IsFieldPlace (words : List Parts) (content : Content) (index at : ℕ) : Type 0 where
   pub head : Head
   pub is : IsHead words content head
   pub low : index < head.length
   pub place : at ≡ suc head.at + index
 
--- the block to which the content refers has so many fields, and none of this index
+-- the block to which the content refers has `count` fields, and none of this index
 pub record LacksField (words : List Parts) (content : Content) (index count : ℕ) : Type 0 where
   pub head : Head
   pub is : IsHead words content head
@@ -42,7 +42,7 @@ pub record LacksField (words : List Parts) (content : Content) (index count : �
 
 -- Writes
 
--- the ground stands for some objects, of which the reference has a value, and the word that is to be written, which has no old address
+-- the ground represents some objects, of which the reference has a value, and so has the word that is to be written, which has no old address
 pub record CanSet (m : Memory.Store) (t : Table) (content : Content) (written : Parts) : Type 0 where
   pub map : RoleMap
   pub top : ℕ
@@ -56,7 +56,7 @@ pub record CanSet (m : Memory.Store) (t : Table) (content : Content) (written : 
   pub new_is : value_of map.role written.content ≡ Some new
   pub young : HasOld t written → ⊥
 
--- whatever objects the ground stood for, it stands for them by the same map, with the value of what was written in the field of this index
+-- whatever objects the ground represented, it represents them by the same map, with the value of what was written in the field of this index
 abbrev pub SetsField : Memory.Store → Table → Memory.Store → Content → ℕ → Content → Type 0
 SetsField m t m' content index written =
     (k : RoleMap) (top : ℕ) (areas : List AreaRule) (s : Store) (aim : Condemned) (n code : ℕ) (fields : List Value) (new : Value)
@@ -69,19 +69,19 @@ WritesField m m' content index word =
     (at to : ℕ) → content ≡ StructAt at → Final m.words at to
     → Memory.Stores m m' (suc to + index) (record word { cdr = (word_at m.words (suc to + index)).cdr })
 
--- no page but that of the field of this index gets marks without a word that may give them
+-- no page except that of the field of this index gets marks without a word that may give them
 abbrev pub MarksField : Memory.Store → Table → Memory.Store → Table → Content → ℕ → Type 0
 MarksField m t m' t' content index = (at to : ℕ) → content ≡ StructAt at → Final m.words at to → MarksFollowBut m t m' t' (suc to + index)
 
 -- Reads
 
--- whatever objects the ground stood for, it stands for them, and the word means the field of this index
+-- whatever objects the ground represented, it represents them, and the word means the field of this index
 abbrev pub ReadsField : Memory.Store → Table → Memory.Store → Table → Content → ℕ → Parts → Type 0
 ReadsField m t m' t' content index word =
     (k : RoleMap) (top : ℕ) (areas : List AreaRule) (registers : List Value) (s : Store) (aim : Condemned) (n code : ℕ) (fields : List Value)
     → CanRead m t k top areas registers s aim content (V.Ref n) → (object s n).body ≡ Block code fields → MeansOn m t m' t' k top areas s aim word (value_at fields index)
 
--- whatever objects the ground stood for, of which the content had a value, it stands for them by a later map
+-- whatever objects the ground represented, of which the content had a value, it represents them by a later map
 abbrev pub KeepsBlock : Memory.Store → Table → Memory.Store → Table → Content → Type 0
 KeepsBlock m t m' t' content =
     (k : RoleMap) (top : ℕ) (areas : List AreaRule) (registers : List Value) (s : Store) (aim : Condemned) (v : Value)

@@ -31,12 +31,12 @@ use Rattle.block_store.specs.Headers.{TellsArea, TellsLength}
 
 -- Words
 
--- the words of a block that grew, one by one: a header, the fields that it had, and NIL in each field behind them
+-- the words of a block that grew, one by one: a header, the fields that it had, and NIL in each field after them
 abbrev pub grown_word : List Parts → ℕ → ℕ → ℕ → ℕ → ℕ → Parts
 grown_word words here code count wide zero = record { cdr = Next; content = Header code wide }
 grown_word words here code count wide (suc i) = if nat_lt i count then word_at words (suc here + i) else record { cdr = Next; content = NilWord }
 
--- the words of the husk where it stood: a HEADER-FORWARD to the block, and NULL
+-- the words of the husk at its old place: a HEADER-FORWARD to the block, and NULL
 abbrev pub husk_word : ℕ → ℕ → Parts
 husk_word at zero = record { cdr = Next; content = HeaderForward at }
 husk_word at (suc i) = null_word
@@ -49,13 +49,13 @@ pub record CanLayAnew (words : List Parts) (head : Head) (to wide : ℕ) : Type 
   pub to_inside : to + wide + 1 ≤ length words
   pub apart : (head.at + head.length + 1 ≤ to) ⊎ (to + wide + 1 ≤ head.at)
 
--- a block is written again at an address, with so many fields, and then a husk where it stood; no other word changes
+-- a block is written again at an address, with `wide` fields, and then a husk in its old place; no other word changes
 pub record LaysAnew (old new : Memory.Store) (head : Head) (at wide : ℕ) : Type 0 where
   pub copied : Memory.Store
   pub writes : Writes old copied at (wide + 1) (grown_word old.words head.at head.code head.length wide)
   pub leaves : Writes copied new head.at (head.length + 1) (husk_word at)
 
--- where a block stood there is its husk now, exactly its words; the words of the grown one stand at another address; no other word has changed
+-- the old place of the block is its husk, exactly its words; the words of the grown block are at another address; no other word has changed
 pub record IsHusk (old new : Memory.Store) (here at wanted : ℕ) : Type 0 where
   pub code : ℕ
   pub count : ℕ
@@ -64,7 +64,7 @@ pub record IsHusk (old new : Memory.Store) (here at wanted : ℕ) : Type 0 where
   pub grown : (i : ℕ) → i < grown_length count wanted + 1 → word_at new.words (at + i) ≡ grown_word old.words here code count (grown_length count wanted) i
   pub others : (a : ℕ) → (Within here (count + 1) a → ⊥) → (Within at (grown_length count wanted + 1) a → ⊥) → word_at new.words a ≡ word_at old.words a
 
--- the words of the grown block are placed in the class of the one that stood there, which is charged for them, and then as many words as that had become a husk
+-- the words of the grown block are placed in the class of the old one, which is charged for them, and then the words of the old one become a husk
 pub record PlacesGrown (m : Memory.Store) (t t' : Table) (here at wanted : ℕ) : Type 0 where
   pub code : ℕ
   pub count : ℕ
@@ -78,7 +78,7 @@ pub record PlacesGrown (m : Memory.Store) (t t' : Table) (here at wanted : ℕ) 
 
 -- Objects
 
--- the ground stands for some objects, of which the word has a value; where that refers to a block, it isn't old, has fewer fields than are wanted, and the quota of its area leaves what it will be charged
+-- the ground represents some objects, of which the word has a value; if that refers to a block, it isn't old, has fewer fields than requested, and its new charge fits the quota of its area
 pub record CanGrow (m : Memory.Store) (t : Table) (of : Parts) (wanted : ℕ) : Type 0 where
   pub map : RoleMap
   pub top : ℕ
@@ -93,7 +93,7 @@ pub record CanGrow (m : Memory.Store) (t : Table) (of : Parts) (wanted : ℕ) : 
   pub quota : (n code : ℕ) (fields : List Value) → value ≡ V.Ref n → (object objects n).body ≡ Block code fields
       → account top objects aim (object objects n).area + suc (grown_length (length fields) wanted) ≤ (rule_of areas (object objects n).area).quota
 
--- The ground stands for these objects by a later map, under which what meant a name means it still, and a reference of this kind to an address means a name. As much charge as before stands old, and so many words were placed.
+-- The ground represents these objects by a later map, under which what meant a name still means it, and a reference of this kind to an address means a name. The charges in old regions are the same, and `words` words were placed.
 pub record LaidOn (m : Memory.Store) (t : Table) (m' : Memory.Store) (t' : Table) (k : RoleMap) (top : ℕ) (areas : List AreaRule) (s s' : Store) (aim : Condemned) (kind : Kind) (at n words : ℕ) : Type 0 where
   pub map : RoleMap
   pub kept : GroundInvariant m' t' map top areas s' aim
@@ -102,14 +102,14 @@ pub record LaidOn (m : Memory.Store) (t : Table) (m' : Memory.Store) (t' : Table
   pub old : old_on m' t' s' aim map.at ≡ old_on m t s aim k.at
   pub placed : t'.placed ≡ t.placed + words
 
--- a block grew: whatever objects the ground stood for, it stands for them with the wider block at an address, and with the husk of the old one in its class
+-- a block grew: whatever objects the ground represented, it represents them with the wider block at an address, and with the husk of the old one in its class
 abbrev pub GrowsBlock : Memory.Store → Table → Memory.Store → Table → Content → ℕ → ℕ → Type 0
 GrowsBlock m t m' t' content wanted at =
     (k : RoleMap) (top : ℕ) (areas : List AreaRule) (s : Store) (aim : Condemned) (n code level : ℕ) (fields : List Value)
     → GroundInvariant m t k top areas s aim → value_of k.role content ≡ Some (V.Ref n) → (object s n).body ≡ Block code fields → (region (ground_image m t) (k.at n)).level ≡ level
     → LaidOn m t m' t' k top areas s (with_grown s n (grown_block (object s n).area code fields (grown_length (length fields) wanted)) (object s n).area level (suc (length fields))) aim AsBlock at n (suc (grown_length (length fields) wanted))
 
--- the block to which the content refers has fewer fields than are wanted, and the quota of its area leaves what it will be charged
+-- the block to which the content refers has fewer fields than requested, and its new charge fits the quota of its area
 pub record GrowsWithin (m : Memory.Store) (t : Table) (content : Content) (wanted : ℕ) : Type 0 where
   pub count : ℕ
   pub area : ℕ

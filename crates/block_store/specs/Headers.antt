@@ -1,4 +1,4 @@
--- What references to blocks lead to, and what is told of it.
+-- What references to blocks lead to, and what calls return about it.
 use Rattle.std.specs.Prelude.{◌≡◌, ℕ, ◌+◌, ◌/◌, ◌<◌, List, length, Some, Contains}
 use Rattle.store_word.specs.Words.{Parts}
 use Rattle.store_word.specs.declared.word.Content.{Content}
@@ -17,13 +17,13 @@ use Rattle.block_store.specs.declared.header.Head.{Head}
 
 -- Words
 
--- a header stands at the final address of a reference to a block, and all words of the block are in the memory
+-- a header is at the final address of a reference to a block, and all words of the block are in the memory
 pub record CanFind (words : List Parts) (content : Content) : Type 0 where
   pub place : (at : ℕ) → content ≡ StructAt at → (to : ℕ) × (to < length words) × Final words at to
   pub header : (at to : ℕ) → content ≡ StructAt at → Final words at to → (code : ℕ) × (count : ℕ) × ((word_at words to).content ≡ Header code count)
   pub inside : (at to code count : ℕ) → content ≡ StructAt at → Final words at to → (word_at words to).content ≡ Header code count → to + count < length words
 
--- the content is a reference to a block, which stands at its final address with this code and so many fields
+-- the content is a reference to a block, which is at its final address with this code and number of fields
 pub record IsHead (words : List Parts) (content : Content) (head : Head) : Type 0 where
   pub reference : ℕ
   pub is : content ≡ StructAt reference
@@ -42,7 +42,7 @@ pub record IsLiveIn (t : Table) (at : ℕ) (class : Class) : Type 0 where
 
 -- Objects
 
--- the ground stands for some objects, of which the content has a value
+-- the ground represents some objects, of which the content has a value
 pub record HasMeaning (m : Memory.Store) (t : Table) (content : Content) : Type 0 where
   pub map : RoleMap
   pub top : ℕ
@@ -53,7 +53,7 @@ pub record HasMeaning (m : Memory.Store) (t : Table) (content : Content) : Type 
   pub value : Value
   pub value_is : value_of map.role content ≡ Some value
 
--- whatever objects the ground stands for, the one to which the content refers is a block of so many fields
+-- whatever objects the ground represents, the one to which the content refers is a block of `count` fields
 abbrev pub TellsLength : Memory.Store → Table → Content → ℕ → Type 0
 TellsLength m t content count =
     (k : RoleMap) (top : ℕ) (areas : List AreaRule) (s : Store) (aim : Condemned) (n : ℕ) → GroundInvariant m t k top areas s aim → value_of k.role content ≡ Some (V.Ref n)

@@ -13,7 +13,7 @@ use Rattle.transporter.specs.lisp_meaning.Roles.{AsBlock, RoleMap}
 use Rattle.transporter.specs.lisp_ground.GroundInvariant.{GroundInvariant}
 use Rattle.transporter.specs.Making.{HasQuota, MadeOn}
 
--- a block of so many fields can be made: the ground stands for some objects, for which there is quota
+-- a block of `count` fields can be made: the ground represents some objects, for which there is quota
 pub record CanMake (m : Memory.Store) (t : Table) (area level count : ℕ) : Type 0 where
   pub map : RoleMap
   pub top : ℕ
@@ -23,7 +23,7 @@ pub record CanMake (m : Memory.Store) (t : Table) (area level count : ℕ) : Typ
   pub kept : GroundInvariant m t map top areas objects aim
   pub quota : HasQuota top areas objects aim area level (suc count)
 
--- a block was made at an address: whatever objects the ground stood for, it stands for them and a new block whose fields are nil
+-- a block was made at an address: whatever objects the ground represented, it represents them and a new block whose fields are nil
 abbrev pub MakesBlock : Memory.Store → Table → Memory.Store → Table → ℕ → ℕ → ℕ → ℕ → ℕ → Type 0
 MakesBlock m t m' t' area level code count at =
     (k : RoleMap) (top : ℕ) (areas : List AreaRule) (s : Store) (aim : Condemned)

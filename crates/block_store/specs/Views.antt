@@ -1,4 +1,4 @@
--- What this crate says of grounds, of their views.
+-- What this crate's contracts state about grounds, in terms of their views.
 use Rattle.std.specs.Prelude.{ℕ}
 use Rattle.area_space.specs.Table.{Table}
 use Rattle.area_space.specs.View.{GroundView}

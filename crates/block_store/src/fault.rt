@@ -9,7 +9,7 @@ pub enum BlockFault {
     /// The word isn't tagged STRUCT.
     NotABlock,
 
-    /// The block has so many fields, and none of this index.
+    /// The block has this number of fields, and none of this index.
     NoField { length: u16 },
 
     /// The swap device failed.

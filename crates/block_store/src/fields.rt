@@ -1,10 +1,10 @@
-//! Fields are read and written.
+//! Reads and writes fields.
 ghost use Rattle.std.specs.Prelude.{◌≡◌, ◌≢◌, ◌↔◌, ℕ, suc, ◌+◌, ◌<◌, ◌≤◌, Err, IfOk, OnOk, OnErr};
 ghost use Rattle.mem_port.specs.View.{TellsIf, shown};
 ghost use Rattle.area_space.specs.View.{view};
 ghost use Rattle.block_store.specs.Faults.{is_fault};
 ghost use Rattle.block_store.specs.Views.{CanSet, IsReadable, KeepsBlock, MarksField, ReadsField, SetsField, TellsLength};
-ghost use Rattle.transporter.specs.Views.{AllFresh, FetchMoves, LiveSame, SettlesAt, PreservesScanned};
+ghost use Rattle.transporter.specs.Views.{AllFresh, FetchMoves, LiveSame, MovesAtMost, SettlesAt, PreservesScanned};
 ghost use Rattle.store_word.specs.Words.{tag_of};
 ghost use Rattle.store_word.specs.declared.word.Content.TheVariants.{Struct as StructAt};
 ghost use Rattle.mem_port.specs.Store.{StoresNothing};
@@ -23,8 +23,8 @@ use std::sync::ledger::Ledger;
 use store_word::{CdrCode, Steps, SwapFault, Tag, Word};
 use transporter::fetch;
 
-// Where the field of this index of the block to which a word refers stands. It takes at most 13
-// steps.
+// The address of the field of this index of the block to which a word refers. It takes at most 13
+// memory accesses.
 fn find_field<M: Memory, L: Ledger>(
     mem: &mut M,
     of: Word,
@@ -53,9 +53,9 @@ fn find_field<M: Memory, L: Ledger>(
 /// Writes a settled word into the field of this index, counted from 0, of the block to which a word
 /// refers. The word there keeps its cdr code.
 ///
-/// `NotABlock` comes exactly where the word isn't tagged STRUCT. `NoField` comes exactly where the
-/// index is at least the number of fields, and the call doesn't answer `Swap`. Whatever is refused
-/// stores nothing. It takes at most 15 steps.
+/// `NotABlock` is returned if and only if the word isn't tagged STRUCT; `NoField` if and only if the
+/// index is at least the number of fields, unless the call returns `Swap`. A refusal
+/// stores nothing. It takes at most 15 memory accesses.
 pub fn set_field<M: Memory, L: Ledger>(
     ground: &mut Ground<M>,
     of: Word,
@@ -70,18 +70,19 @@ pub fn set_field<M: Memory, L: Ledger>(
     ensures written { OnOk result (WritesField (view ground.old).mem.store (view ground.new).mem.store of.content index value) }
     ensures inside { OnOk result ((count : ℕ) × TellsLength (view ground.old) of.content count × (index < count)) }
 
-    // What is refused, and what is left then.
+    // What is refused, and what a refusal leaves unchanged.
     ensures not_a_block { (result ≡ Err BlockFault.NotABlock) ↔ (tag_of of.content ≢ Tag.Struct) }
     ensures no_field { (count : ℕ) → result ≡ Err (BlockFault.NoField count) → TellsLength (view ground.old) of.content count × (count ≤ index) }
     ensures stays { OnErr result (StoresNothing (view ground.old).mem.store (view ground.new).mem.store) }
 
-    // What stays of the ground.
+    // What is unchanged in the ground.
     ensures table { ground.new.table ≡ ground.old.table }
+    ensures moves { (HasOld ground.old.table of → ⊥) → MovesAtMost (view ground.old) (view ground.new) 0 }
     ensures preserves { PreservesScanned (view ground.old) (view ground.new) }
     ensures stays_fresh { AllFresh (view ground.old) → AllFresh (view ground.new) }
     ensures marks { MarksField (view ground.old) (view ground.new) of.content index }
 
-    // Faults and the cost.
+    // Swap errors and the cost.
     ensures tells { TellsIf (view ground.old).mem (view ground.new).mem steps.old steps.new (is_fault result) }
     ensures cost { steps.new ≤ steps.old + 15 }
 {
@@ -92,13 +93,13 @@ pub fn set_field<M: Memory, L: Ledger>(
 }
 
 /// The field of this index, counted from 0, of the block to which a settled word refers, settled and
-/// written back where that changes it. It has no old address, and no cdr code.
+/// written back if that changes it. It has no old address, and no cdr code.
 ///
-/// The caller owes that a collection that runs keeps the block. `NotABlock` comes exactly where the
-/// word isn't tagged STRUCT. `NoField` comes exactly where the index is at least the number of
-/// fields, and the call doesn't answer `Swap`. Where it doesn't, it takes at most 61 steps and 4
-/// for each word that is placed, at most 2,048; where it does, at most 1,024 more. Whatever is
-/// refused leaves every used word of a live region as before; an object may have moved.
+/// The caller must ensure that a running collection keeps the block. `NotABlock` is returned if and only if
+/// the word isn't tagged STRUCT; `NoField` if and only if the index is at least the number of
+/// fields, unless the call returns `Swap`. If it doesn't, it takes at most 61 memory accesses and 4
+/// for each word that is placed, at most 2,048; if it does, at most 1,024 more. Any
+/// refusal leaves every used word of a live region unchanged; an object may have moved.
 pub fn field<M: Memory, L: Ledger>(
     ground: &mut Ground<M>,
     of: Word,
@@ -107,7 +108,7 @@ pub fn field<M: Memory, L: Ledger>(
 ) -> Result<Word, BlockFault>
     requires { IsReadable (view ground.old) of }
 
-    // What is answered, and what is written back for it.
+    // What is returned, and what is written back for it.
     ensures field { IfOk result (ReadsField (view ground.old) (view ground.new) of.content index) }
     ensures fresh { IfOk result (λ word. HasOld ground.new.table word → ⊥) }
     ensures plain { IfOk result (λ word. word.cdr ≡ CdrCode.Next) }
@@ -121,13 +122,13 @@ pub fn field<M: Memory, L: Ledger>(
     ensures not_a_block { (result ≡ Err BlockFault.NotABlock) ↔ (tag_of of.content ≢ Tag.Struct) }
     ensures no_field { (count : ℕ) → result ≡ Err (BlockFault.NoField count) → TellsLength (view ground.old) of.content count × (count ≤ index) }
 
-    // What stays of the ground.
+    // What is unchanged in the ground.
     ensures keeps { KeepsGround (view ground.old) (view ground.new) }
     ensures grows { OnlyGrows ground.old.table ground.new.table }
     ensures live { OnErr result (LiveSame (view ground.old) (view ground.new)) }
     ensures fault { OnErr result (KeepsBlock (view ground.old) (view ground.new) of.content) }
 
-    // Faults and the cost.
+    // Swap errors and the cost.
     ensures tells { TellsIf (view ground.old).mem (view ground.new).mem steps.old steps.new (is_fault result) }
     ensures costs { ReadCosts (view ground.old) (view ground.new) steps.old steps.new (is_fault result) 61 }
 {

@@ -1,4 +1,4 @@
-//! A block grows where it has fewer fields than are wanted.
+//! A block that has fewer fields than requested grows.
 ghost use Rattle.std.specs.Prelude.{◌≡◌, ◌≢◌, ◌↔◌, ℕ, ◌+◌, ◌*◌, ◌<◌, ◌≤◌, ◌^◌, Err, IfOk, OnErr};
 ghost use Rattle.mem_port.specs.View.{TellsIf};
 ghost use Rattle.area_space.specs.View.{view};
@@ -21,8 +21,8 @@ use std::sync::ledger::Ledger;
 use store_word::{Steps, Tag, Word};
 use transporter::place_for;
 
-/// How many fields a block of this length has once it has grown to have the fields wanted, which are
-/// more than its length and at most 2,047: as many, or twice its length and one more, up to 2,047,
+/// The length to which a block of this length grows if `wanted` fields are requested, which are
+/// more than its length and at most 2,047: `wanted`, or twice its length and one more, but at most 2,047,
 /// whichever is more.
 pub fn grown_length(length: u16, wanted: u16) -> u16
     requires more { length < wanted }
@@ -32,15 +32,15 @@ pub fn grown_length(length: u16, wanted: u16) -> u16
     wanted.max((2 * length + 1).min(2047))
 }
 
-/// Makes the block to which a settled word refers a wider one in its class, with at least the fields
-/// wanted, at most 2,047, and answers its address. The new fields are NIL. Where it stood its words
+/// Writes the block to which a settled word refers again in its class, with at least `wanted` fields,
+/// at most 2,047, and returns its address. The new fields are NIL. The words at its old place
 /// become a husk, which stays charged to the class: a HEADER-FORWARD, and NULL. If the wider block
-/// doesn't fit at the end of the class, the free region of the lowest number is opened for it.
+/// doesn't fit at the end of the class, the free region with the lowest number is opened for it.
 ///
-/// The caller owes that the block has fewer fields, and that its new charge fits what the quota of
-/// its area leaves. `NotABlock` comes exactly where the word isn't tagged STRUCT, and `NoField`
-/// never. It takes at most 4 steps for each field wanted and 40. A fault leaves every word as
-/// before, though a region may have been opened for the block, and the count of faults has risen.
+/// The caller must ensure that the block has fewer fields, and that its new charge fits the quota of
+/// its area. `NotABlock` is returned if and only if the word isn't tagged STRUCT, and `NoField`
+/// never. It takes at most 4 memory accesses for each requested field and 40. A swap error leaves every word
+/// unchanged, though a region may have been opened for the block, and the count of swap errors has risen.
 pub fn grow<M: Memory, L: Ledger>(
     ground: &mut Ground<M>,
     of: Word,
@@ -50,7 +50,7 @@ pub fn grow<M: Memory, L: Ledger>(
     requires few { wanted ≤ 2047 }
     requires can { CanGrow (view ground.old) of wanted }
 
-    // What grows, where to, and what is left behind.
+    // What grows, to which address, and what remains at the old place.
     ensures grown { IfOk result (GrowsBlock (view ground.old) (view ground.new) of.content wanted) }
     ensures within { IfOk result (λ at. GrowsWithin (view ground.old) of.content wanted) }
     ensures below { IfOk result (λ at. at < 2 ^ 28) }
@@ -64,12 +64,12 @@ pub fn grow<M: Memory, L: Ledger>(
     ensures not_a_block { (result ≡ Err BlockFault.NotABlock) ↔ (tag_of of.content ≢ Tag.Struct) }
     ensures every_field { (count : ℕ) → result ≢ Err (BlockFault.NoField count) }
 
-    // What stays of the ground.
+    // What is unchanged in the ground.
     ensures preserves { PreservesScanned (view ground.old) (view ground.new) }
     ensures stays_fresh { AllFresh (view ground.old) → AllFresh (view ground.new) }
     ensures marks { MarksFollow (view ground.old) (view ground.new) }
 
-    // What a fault leaves, and that it is counted.
+    // After a swap error, and that it is counted.
     ensures opened { OnErr result (OpensOrStays ground.old.table ground.new.table) }
     ensures fault { OnErr result (StaysOn (view ground.old) (view ground.new)) }
     ensures tells { TellsIf (view ground.old).mem (view ground.new).mem steps.old steps.new (is_fault result) }

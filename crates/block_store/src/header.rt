@@ -1,4 +1,4 @@
-//! A block is found by a reference, and its header read.
+//! Finds a block by a reference, and reads its header.
 ghost use Rattle.std.specs.Prelude.{◌≡◌, ◌≢◌, ◌↔◌, ◌+◌, ◌/◌, ◌<◌, ◌≤◌, ℕ, Err, IfOk};
 ghost use Rattle.mem_port.specs.View.{TellsIf, shown};
 ghost use Rattle.area_space.specs.View.{view};
@@ -18,7 +18,7 @@ use obj_layout::{first_word, resolve_first};
 use std::sync::ledger::Ledger;
 use store_word::{Content, Steps, Tag, Word};
 
-/// Where a block stands, and what its header says.
+/// The address of a block, and what its header says.
 #[derive(Clone, Copy)]
 pub(crate) struct Head {
     pub at: u32,
@@ -26,7 +26,7 @@ pub(crate) struct Head {
     pub length: u16,
 }
 
-// The block to which a word refers. Its header is read once. It takes at most 13 steps.
+// The block to which a word refers. Its header is read once. It takes at most 13 memory accesses.
 pub(crate) fn find<M: Memory, L: Ledger>(
     mem: &mut M,
     of: Word,
@@ -55,9 +55,9 @@ pub(crate) fn find<M: Memory, L: Ledger>(
     }
 }
 
-/// How many fields the block has to which a word refers, 2,047 at most. `NotABlock` comes exactly where the
-/// word isn't tagged STRUCT, `Swap` only where the count of faults rose, and `NoField` never. It takes
-/// at most 13 steps, and stores nothing.
+/// How many fields the block has to which a word refers, 2,047 at most. `NotABlock` is returned if and only if the
+/// word isn't tagged STRUCT, `Swap` only if the count of swap errors rose, and `NoField` never. It takes
+/// at most 13 memory accesses, and stores nothing.
 pub fn length<M: Memory, L: Ledger>(
     ground: &mut Ground<M>,
     of: Word,
@@ -72,7 +72,7 @@ pub fn length<M: Memory, L: Ledger>(
     Ok(head.length)
 }
 
-/// The code of the block to which a word refers, with the same refusals. It takes at most 13 steps,
+/// The code of the block to which a word refers, with the same refusals. It takes at most 13 memory accesses,
 /// and stores nothing.
 pub fn code<M: Memory, L: Ledger>(
     ground: &mut Ground<M>,
@@ -108,7 +108,7 @@ pub struct Extent {
 }
 
 /// The number of fields and the area of the block to which a settled word refers, with the same
-/// refusals. It takes at most 13 steps, and stores nothing.
+/// refusals. It takes at most 13 memory accesses, and stores nothing.
 pub fn measure<M: Memory, L: Ledger>(
     ground: &mut Ground<M>,
     of: Word,

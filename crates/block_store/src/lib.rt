@@ -1,8 +1,8 @@
-//! Blocks over a ground: they are made and grow, their fields are read and written, and their
-//! headers told.
+//! Blocks over a ground: makes them and lets them grow, reads and writes their fields, and reads their
+//! headers.
 //!
-//! A block is a header and its fields, in words that follow one another. Contracts say of each call
-//! what the ground stands for after it, while a collection may run (`specs/Headers.antt`,
+//! A block is a header and its fields, in consecutive words. Contracts specify for each call
+//! what the ground represents after it; a collection may be running (`specs/Headers.antt`,
 //! `specs/Making.antt`, `specs/Fields.antt`, `specs/Growing.antt`). Begin with `header`.
 #![tactic(auto)]
 

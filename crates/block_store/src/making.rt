@@ -22,7 +22,7 @@ use std::sync::ledger::Ledger;
 use store_word::{Steps, SwapFault, Word};
 use transporter::place_for;
 
-// Writes a header and NIL in each field. All their pages are held, so no fault comes. It is a step a
+// Writes a header and NIL in each field. All their pages are held, so no swap error occurs. It takes one memory access a
 // word.
 fn write_block<M: Memory, L: Ledger>(
     mem: &mut M,
@@ -45,7 +45,7 @@ fn write_block<M: Memory, L: Ledger>(
     fill(mem, at + 1, length as u32, Word::nil(), steps)
 }
 
-// Holds the pages of a place for a block, and then writes it. A fault writes nothing.
+// Holds the pages of a place for a block, and then writes it. On a swap error nothing is written.
 fn hold_and_write<M: Memory, L: Ledger>(
     mem: &mut M,
     at: u32,
@@ -68,14 +68,14 @@ fn hold_and_write<M: Memory, L: Ledger>(
     write_block(mem, at, code, length, steps)
 }
 
-/// Makes a block of this code and so many fields, at most 2,047, in an area, at a level, and answers
-/// its address. Each field is NIL. Its charge, one more than its fields, has to fit what the quota
-/// leaves. If its words don't fit at the end of its class, the free region of the lowest number is
+/// Makes a block of this code and number of fields, at most 2,047, in an area, at a level, and returns
+/// its address. Each field is NIL. Its charge, one more than its fields, has to fit the quota of the
+/// area. If its words don't fit at the end of its class, the free region with the lowest number is
 /// opened for them.
 ///
-/// It takes at most a step for each word and one for each of their pages, of which there are at
-/// most 9. A fault makes nothing, though a region may have been opened for the block, and the count
-/// of faults has risen.
+/// It takes at most one memory access for each word and one for each of their pages, of which there are at
+/// most 9. On a swap error nothing is made, though a region may have been opened for the block, and the count
+/// of swap errors has risen.
 pub fn make_block<M: Memory, L: Ledger>(
     ground: &mut Ground<M>,
     area: u8,
@@ -87,20 +87,20 @@ pub fn make_block<M: Memory, L: Ledger>(
     requires few { length ≤ 2047 }
     requires can { CanMake (view ground.old) area level length }
 
-    // What is made, and where.
+    // What is made, and at which address.
     ensures made { IfOk result (MakesBlock (view ground.old) (view ground.new) area level code length) }
     ensures below { IfOk result (λ at. at < 2 ^ 28) }
     ensures words { IfOk result (λ at. (i : ℕ) → i < length + 1 → word_at (view ground.new).mem.store.words (at + i) ≡ block_word code length i) }
     ensures placed { IfOk result (λ at. PlacesNew ground.old.table ground.new.table area level at (length + 1) (length + 1)) }
     ensures needed { OpensAsNeeded ground.old.table ground.new.table (slot_of ground.old.table area level) (length + 1) }
 
-    // What stays of the ground.
+    // What is unchanged in the ground.
     ensures live { LiveSame (view ground.old) (view ground.new) }
     ensures preserves { PreservesScanned (view ground.old) (view ground.new) }
     ensures stays_fresh { AllFresh (view ground.old) → AllFresh (view ground.new) }
     ensures marks { MarksFollow (view ground.old) (view ground.new) }
 
-    // What a fault leaves, and that it is counted.
+    // After a swap error, and that it is counted.
     ensures opened { OnErr result (OpensOrStays ground.old.table ground.new.table) }
     ensures fault { OnErr result (StaysOn (view ground.old) (view ground.new)) }
     ensures tells { Tells (view ground.old).mem (view ground.new).mem steps.old steps.new result }

@@ -1,4 +1,4 @@
-//! The words of a block are written again, wider, and a husk is left where they stood.
+//! Writes the words of a block again, wider, and turns the old ones into a husk.
 ghost use Rattle.std.specs.Prelude.{◌≡◌, ◌+◌, ◌*◌, ◌<◌, ◌≤◌, ℕ, IsOk, OnOk, OnErr, length as list_length, ◌%◌};
 ghost use Rattle.mem_port.specs.View.{Quiet, Tells, shown};
 ghost use Rattle.mem_port.specs.Spans.{HoldsSpan};
@@ -13,7 +13,7 @@ use std::sync::ledger::Ledger;
 use store_word::{Steps, SwapFault, Word};
 use transporter::copy_words;
 
-// How many of the words that are left are on one page.
+// How many of the remaining words are on one page.
 fn on_one_page(at: u32, left: u32) -> u32
     requires { 0 < left }
     ensures some { 0 < result }
@@ -23,7 +23,7 @@ fn on_one_page(at: u32, left: u32) -> u32
     left.min(256 - at % 256)
 }
 
-// Writes one word at so many addresses. Their pages are held, so no fault comes. It is a step a
+// Writes one word at `count` addresses. Their pages are held, so no swap error occurs. It takes one memory access a
 // word.
 pub(crate) fn fill<M: Memory, L: Ledger>(
     mem: &mut M,
@@ -51,8 +51,8 @@ pub(crate) fn fill<M: Memory, L: Ledger>(
     Ok(())
 }
 
-// Writes a block again, with more fields, those behind the old ones NIL. All its pages are held, so
-// no fault comes. It is two steps for each old field, and one for each other word.
+// Writes a block again, with more fields, those after the old ones NIL. All its pages are held, so
+// no swap error occurs. It takes two memory accesses for each old field, and one for each other word.
 fn write_wide<M: Memory, L: Ledger>(
     mem: &mut M,
     head: Head,
@@ -66,11 +66,11 @@ fn write_wide<M: Memory, L: Ledger>(
     requires from_held { HoldsSpan (M.held mem.old) (record { at = head.at; words = head.length + 1 }) }
     requires to_held { HoldsSpan (M.held mem.old) (record { at = to; words = wide + 1 }) }
 
-    // No fault comes, and the block is written.
+    // No swap error occurs, and the block is written.
     ensures sure { IsOk result }
     ensures written { Writes (M.seen mem.old) (M.seen mem.new) to (wide + 1) (grown_word (M.seen mem.old).words head.at head.code head.length wide) }
 
-    // What stays held, faults and the cost.
+    // What stays held, swap errors and the cost.
     ensures held { (page : ℕ) → M.held mem.old page → M.held mem.new page }
     ensures quiet { Quiet (shown M.Memory mem.old) (shown M.Memory mem.new) steps.old steps.new }
     ensures cost { steps.new ≡ steps.old + head.length + wide + 1 }
@@ -89,8 +89,8 @@ fn write_wide<M: Memory, L: Ledger>(
     )
 }
 
-// Leaves the husk of a block that is written again at an address. All its pages are held, so no
-// fault comes. It is a step a word.
+// Writes the husk of a block that is written again at an address. All its pages are held, so no
+// swap error occurs. It takes one memory access a word.
 fn leave_husk<M: Memory, L: Ledger>(
     mem: &mut M,
     head: Head,
@@ -111,8 +111,8 @@ fn leave_husk<M: Memory, L: Ledger>(
     fill(mem, head.at + 1, head.length as u32, Word::null(), steps)
 }
 
-// Holds the pages of a block and of its new place, then writes it there and leaves its husk. A fault
-// writes nothing.
+// Holds the pages of a block and of its new place, then writes it there and makes its old place a husk. On a swap error
+// nothing is written.
 pub(crate) fn lay_anew<M: Memory, L: Ledger>(
     mem: &mut M,
     head: Head,
@@ -122,11 +122,11 @@ pub(crate) fn lay_anew<M: Memory, L: Ledger>(
 ) -> Result<(), SwapFault>
     requires { CanLayAnew (M.seen mem.old).words head to wide }
 
-    // What is written, and what a fault leaves.
+    // What is written, and what a swap error leaves unchanged.
     ensures ok { OnOk result (LaysAnew (M.seen mem.old) (M.seen mem.new) head to wide) }
     ensures err { OnErr result (StoresNothing (M.seen mem.old) (M.seen mem.new)) }
 
-    // Faults and the cost.
+    // Swap errors and the cost.
     ensures tells { Tells (shown M.Memory mem.old) (shown M.Memory mem.new) steps.old steps.new result }
     ensures cost { steps.new ≤ steps.old + 2 * head.length + wide + 20 }
 {

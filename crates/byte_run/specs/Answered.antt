@@ -1,5 +1,5 @@
--- What the programs write for arguments and an input, all of them bytes.
-use Rattle.std.specs.Prelude.{◌≡◌, ◌⊎◌, ℕ, List, [], Option, Some, None}
+-- What the programs write for arguments and an input, both given as bytes.
+use Rattle.std.specs.Prelude.{◌≡◌, ◌⊎◌, ℕ, List, [], Option, is_some, Some, None}
 use Rattle.std.specs.Option.{option_and_then}
 use Rattle.outer_ports.specs.Ports.{Rose}
 use Rattle.paged_machine.specs.Holding.{Holding, MeansFor}
@@ -20,22 +20,23 @@ use Rattle.inside_run.specs.Outcome.{Shows, fail_in}
 abbrev pub RanOut : List ℕ → ℕ → Type 0
 RanOut written status = (status ≡ 5) × ((written ≡ []) ⊎ (written ≡ trouble_line Memory))
 
--- the mode that the bytes of arguments request: none where they are refused
+-- the mode that the bytes of arguments request; none if they are refused
 abbrev pub HasMode : List ℕ → Option Mode → Type 0
 HasMode bytes mode =
     ((arguments : List (List ℕ)) × AreArguments bytes arguments × (mode ≡ option_and_then mode_in (parts_of None arguments)))
     ⊎ (IsRefused bytes × (mode ≡ None))
 
--- the number of the page call that is to fail; none where the arguments are refused
+-- the number of the page call that has to fail; none if the arguments are refused
 abbrev pub HasFail : List ℕ → Option ℕ → Type 0
 HasFail bytes fail = ((arguments : List (List ℕ)) × AreArguments bytes arguments × (fail ≡ fail_in arguments)) ⊎ (IsRefused bytes × (fail ≡ None))
 
--- What the mode demands of the input and of what was written. The source gives the input and never fails; the sink holds what was written.
+-- What the mode requires of the input and of what was written. The source gives the input and never fails; the sink contains what was written.
 abbrev pub Does : Option Mode → List ℕ → List ℕ → Status → Type 0
 Does (Some M.Replay) input written status =
-    (left : List ℕ) × (machine : Holding) × (rose : ℕ) × Ran (Some input) (Some left) (λ had. [] ≡ had) (λ had. written ≡ had) (MeansFor machine.heap) (Rose 0 0) rose status
+    (left : List ℕ) × (machine : Holding) × (rose : ℕ) × (i b w : List ℕ) × Ran (Some input) (Some left) (λ had. [] ≡ had) (λ had. written ≡ had)
+    (record { input = i; taken = b; written = w; stands = MeansFor machine.heap; loaded = is_some machine.heap; source_rose = Rose 0 0; swap_rose = rose }) status
 Does (Some (M.Exercise number count)) input written status =
-    (machine : Holding) × (rose : ℕ) × Exercised number count (λ had. [] ≡ had) (λ had. written ≡ had) (MeansFor machine.heap) rose status
+    (machine : Holding) × (rose : ℕ) × Exercised number count (λ had. [] ≡ had) (λ had. written ≡ had) (MeansFor machine.heap) (is_some machine.heap) rose status
 Does (Some (M.OfFile mode)) input written status = (left : List ℕ) × files.Ran mode (Some input) (Some left) (λ had. [] ≡ had) (λ had. written ≡ had) status
 Does None input written status = Refused (λ had. [] ≡ had) (λ had. written ≡ had) status
 
@@ -47,7 +48,7 @@ pub record IsAnswer (arguments input written : List ℕ) (number : ℕ) : Type 0
   pub is : number ≡ code status
   pub does : Does mode input written status
 
--- what is written for a page call that is to fail, or for refused arguments
+-- what is written if this page call has to fail, or if the arguments are refused
 abbrev pub ShowsFor : Option ℕ → List ℕ → List ℕ → Status → Type 0
 ShowsFor (Some fail) input written status =
     (left : List ℕ) × (machine : Holding) × (rose : ℕ) × Shows (Some input) (Some left) (λ had. [] ≡ had) (λ had. written ≡ had) machine.heap (Rose 0 0) rose status

@@ -1,8 +1,8 @@
-//! What the programs do, over bytes in memory: arguments and an input in, and what is written for them out; and a session that is fed line
+//! What the programs do, over bytes in memory: from arguments and an input to what is written for them; and a session that is fed line
 //! by line.
 //!
-//! Contracts say it in the words of `replay_run` and `inside_run`, with the source and the sink known (`specs/Answered`). Begin with `run`
-//! and `session`.
+//! Contracts use the definitions of `replay_run` and `inside_run`, for a source and a sink whose contents are known (`specs/Answered`). Begin
+//! with `run` and `session`.
 #![tactic(auto)]
 
 mod run;

@@ -13,7 +13,7 @@ use outer_ports::{SinkVec, SwapMemory};
 use replay_run::{Machine, run_lispm};
 use std::alloc::Global;
 
-/// How a run ended, and all that it wrote.
+/// The status with which a run ended, and everything that it wrote.
 #[derive(Drop)]
 pub struct Written {
     /// The status of the program.
@@ -38,7 +38,7 @@ fn answer_of(alloc: Global, status: u8, sink: SinkVec) -> Written
     }
 }
 
-/// Runs `lispm` for these arguments over the input, into an empty sink, and gives the status.
+/// Runs `lispm` with these arguments over the input, into an empty sink, and returns the status.
 fn run_words(alloc: Global, words: &[String], input: &[u8], sink: &mut SinkVec) -> u8
     requires { sink.old.bytes.items ≡ [] }
     ensures { (status : Status) × (result ≡ code status) × Does (mode_of words.now) input.now sink.new.bytes.items status }
@@ -55,12 +55,12 @@ fn run_inside_words(alloc: Global, words: &[String], input: &[u8], sink: &mut Si
 {
     let mut source = SourceSlice { left: input };
     let fail = fail_number(words).unwrap_or(0);
-    let mut machine = Machine::idle(SwapMemory::new(alloc, fail));
-    run_inside(alloc, words, &mut source, sink, &mut machine)
+    let device = SwapMemory::new(alloc, fail);
+    run_inside(alloc, words, &mut source, sink, device).status
 }
 
-/// Does all that the program `lispm` does: gives its status and what it writes. The arguments are those after the program's name, each
-/// followed by a NUL byte. If memory runs out while the answer is kept, the status is 5.
+/// Does everything that the program `lispm` does: returns its status and what it writes. The arguments are those after the program's name, each
+/// followed by a NUL byte. If there is no memory for the answer, the status is 5.
 pub fn run_lispm_bytes(alloc: Global, arguments: &[u8], input: &[u8]) -> Written
     ensures { RanOut result.bytes.items result.status ⊎ IsAnswer arguments.now input.now result.bytes.items result.status }
 {
@@ -73,7 +73,7 @@ pub fn run_lispm_bytes(alloc: Global, arguments: &[u8], input: &[u8]) -> Written
     answer_of(alloc, status, sink)
 }
 
-/// Does all that the program `lispm_inside` does, whose page call with the number in the arguments fails.
+/// Does everything that the program `lispm_inside` does; the page call with the number in the arguments fails.
 pub fn run_inside_bytes(alloc: Global, arguments: &[u8], input: &[u8]) -> Written
     ensures { RanOut result.bytes.items result.status ⊎ IsShown arguments.now input.now result.bytes.items result.status }
 {

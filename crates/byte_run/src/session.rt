@@ -34,7 +34,7 @@ impl ByteSession {
         matches!(self.session.state(), SessionState::Open)
     }
 
-    /// The status of the latest call that changed it: 0 if it goes on, and else the status with which it ended.
+    /// The status of the latest call that changed the session: 0 if it is open, otherwise the status with which it ended.
     pub fn number(&self) -> u8
         ensures { result ≡ number_of self.now.session.state }
     {
@@ -44,7 +44,7 @@ impl ByteSession {
         }
     }
 
-    /// The status of a call that comes when the session has ended: 12 if its input was whole, and else the status with which it ended.
+    /// The status of a call on a session that has ended: 12 if its input was whole, otherwise the status with which it ended.
     pub fn late_number(&self) -> u8
         ensures { result ≡ late_number self.now.session.state }
     {
@@ -62,7 +62,7 @@ impl ByteSession {
         self.session.answer()
     }
 
-    /// Feeds a session that goes on the next line, as `Session::line` says.
+    /// Feeds the next line to an open session, as `Session::line` says.
     pub fn line(&mut self, alloc: Global, text: &[u8])
         requires open { self.old.session.state ≡ SessionState.Open }
         requires one { no_feed text.now ≡ true }
@@ -74,7 +74,7 @@ impl ByteSession {
         self.session.line(alloc, text);
     }
 
-    /// Ends a session that goes on, as `Session::end` says.
+    /// Ends an open session, as `Session::end` says.
     pub fn end(&mut self)
         requires open { self.old.session.state ≡ SessionState.Open }
         ensures does { (fed written : List ℕ) → Does fed written self.old.session → Does fed (written ++ self.new.session.answer) self.new.session }

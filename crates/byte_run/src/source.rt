@@ -1,10 +1,10 @@
-//! A source over bytes that the caller has.
+//! A source over a slice of bytes.
 ghost use Rattle.std.specs.Prelude.{◌≡◌, ◌<◌, ◌≤◌, Some, length, take, IfOk, OnErr};
 ghost use Rattle.outer_ports.specs.Ports.{Gave, HasCause, IsAtEnd};
 
 use outer_ports::{Source, SourceFault};
 
-/// The bytes of a slice that weren't taken yet. It never fails.
+/// The bytes of a slice that weren't yet taken. It never fails.
 #[derive(Drop)]
 pub(crate) struct SourceSlice<'a> {
     pub left: &'a [u8],

@@ -1,4 +1,4 @@
--- A cons that is told by the address of a reference to it.
+-- A cons that is given by the address of a reference to it.
 use Rattle.std.proofs.Common.{◌≡◌, ℕ, ◌/◌, refl, sym, ◌∙◌, ap, subst, List, Some}
 use Rattle.store_word.specs.Words.{Parts}
 use Rattle.store_word.specs.declared.word.Content.{Content}
@@ -21,13 +21,13 @@ use Rattle.cdr_lists.specs.Reading.{CanRead, IsReadable, KeepsCons, ReadsCar, Re
 use Rattle.cdr_lists.specs.Parts.{CanSet, SetOn, SetsCar, SetsCdr}
 use Rattle.cdr_lists.specs.Words.{plain}
 
--- the ground stands for some objects, of which a reference to this address means a cons; where a region is old, the collection that runs keeps this cons
+-- the ground represents some objects, of which a reference to this address means a cons; if a region is old, the collection that runs keeps this cons
 pub record CanReadAt (m : Memory.Store) (t : Table) (k : RoleMap) (top : ℕ) (areas : List AreaRule) (registers : List Value) (s : Store) (aim : Condemned) (at n : ℕ) : Type 0 where
   pub kept : GroundInvariant m t k top areas s aim
   pub named : names_as AsCons (k.role at) ≡ Some n
   pub survives : (region : ℕ) → IsOld t region → IsKeptValue t registers s aim (V.Ref n)
 
--- so it is by some map, and the address isn't old
+-- the same for some map, and the address isn't old
 pub record IsReadableAt (m : Memory.Store) (t : Table) (at : ℕ) : Type 0 where
   pub map : RoleMap
   pub top : ℕ
@@ -157,7 +157,7 @@ settable_at m t of word at is x =
       young = x.young;
     }
 
--- the same of a reference
+-- the same for a reference
 pub set_here : (m : Memory.Store) (t : Table) (at : ℕ) (word : Parts) → CanSet m t (plain (ListAt at)) word → CanSetAt m t at word
 set_here m t at word x = settable_at m t (plain (ListAt at)) word at refl x
 

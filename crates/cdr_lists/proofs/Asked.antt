@@ -1,11 +1,11 @@
--- What a call tells that reads or writes a word after others.
+-- What a call reports that reads or writes a word after others.
 use Rattle.std.proofs.Common.{◌≡◌, ℕ, Bool, true, ◌+◌, ◌≤◌, Err, arith}
 use Rattle.store_word.specs.Faults.{TellsFaults}
 use Rattle.mem_port.specs.Frames.{LeavesRoom}
 use Rattle.mem_port.specs.View.{MemoryView, Quiet, TellsIf}
 use Rattle.mem_port.proofs.Telling.{quiet-then_fault, quiet-twice}
 
--- it met no fault
+-- it met no swap error
 pub asked-then : {v v' v'' : MemoryView} {n n' n'' : ℕ} → Quiet v v' n n' → v''.faults ≡ v'.faults → v''.taken ≡ v'.taken + 1 → n'' ≡ n' + 1 → v'.resident ≤ v''.resident → Quiet v v'' n n''
 asked-then before same taken cost room = quiet-twice before (record { faults = same; honest = omega arith; room = room })
 

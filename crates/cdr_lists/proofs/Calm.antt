@@ -31,19 +31,19 @@ fresh_word t word fresh old = fresh old.0 (reference_is word.content old.0 old.1
 pub live_fresh : (m : Memory.Store) (t : Table) (a : ℕ) → AllFresh m t → IsLiveWord t a → HasOld t (word_at m.words a) → ⊥
 live_fresh m t a all live = fresh_word t (word_at m.words a) (all a live)
 
--- a call that leaves the table left the words of live regions, or made them fresh
+-- a call that doesn't change the table leaves the words of live regions unchanged, or makes them fresh
 pub still_stays_fresh : {m m1 : Memory.Store} (t : Table) → PreservesScanned m t m1 t → AllFresh m t → AllFresh m1 t
 still_stays_fresh {m} {m1} t preserves all a live = elim (preserves.words a live) [
   | inl same ↦ subst (λ (w : Parts). FreshOn t w.content) (sym same) (all a live)
   | inr fresh ↦ fresh
 ]
 
--- A word may be written over, and where it is, its page gets marks as others do
+-- A word may be overwritten, and if it is, its page gets marks as others do
 
--- no forward stands at a final address, nor does after reads
+-- a final address has no forward, nor does it after reads
 pub final_plain : {m n : Memory.Store} {at : ℕ} → IsFinal m.words at → StoresNothing m n → IsForward (word_at n.words at) → ⊥
 final_plain {m} {n} {at} last reads f = no-forward _ (ap (λ (ws : List Parts). forward_of (word_at ws at).content) reads.words ∙ last.no_forward) f
 
--- what was stored has an old address where the value has
+-- what was stored has an old address if the value has
 pub young_stored : (t : Table) (w value : Parts) → w.content ≡ value.content → (HasOld t value → ⊥) → HasOld t w → ⊥
 young_stored t w value is young old = young (old.0, ap reference_of (sym is) ∙ old.1, old.2)

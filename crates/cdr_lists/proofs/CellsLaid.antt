@@ -1,4 +1,4 @@
--- A cell is laid anew as a pair.
+-- A cell is relocated as a pair.
 use Rattle.std.proofs.Common.{◌≡◌, ℕ, suc, ◌+◌, ◌-◌, ◌*◌, ◌/◌, ◌%◌, ◌<◌, ◌≤◌, ◌&&◌, true, false, Bool, nat_eq, refl, sym, ◌∙◌, ap, subst, arith, List, length, slice_get, Option, Some}
 use Rattle.std.specs.Prelude.{Contains}
 use Rattle.std.proofs.lemmas.Grind.{common_steps}

@@ -1,4 +1,4 @@
--- Words are written at a used end and committed: what is live stays.
+-- Words are written at a used end and committed: what is live is unchanged.
 use Rattle.std.proofs.Common.{◌≡◌, ℕ, ◌+◌, ◌<◌, length, refl, subst, arith}
 use Rattle.store_word.specs.Words.{Parts, null_word}
 use Rattle.mem_port.specs.Store.{Stores, StoresNothing}

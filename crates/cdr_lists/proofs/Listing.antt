@@ -45,7 +45,7 @@ next_coded count i low = ap (λ (b : Bool). if b then CdrNil else CdrNext) (ne_e
 nil_coded : (count i : ℕ) → suc i ≡ count → cell_code count i ≡ CdrNil
 nil_coded count i e = ap (λ (b : Bool). if b then CdrNil else CdrNext) (eq-eqb (suc i) count e)
 
--- the cells of a list are fresh where the items are
+-- the cells of a list are fresh if the items are
 pub cells_fresh : (t t2 : Table) (ws : List Parts) (at : ℕ) (registers : List Parts) (items : List ℕ) → OnlyGrows t t2 → ((i : ℕ) → i < length items → word_at ws (at + i) ≡ cell_word registers items i)
     → ((i : ℕ) → i < length items → FreshOn t (item_word registers items i).content) → (i : ℕ) → i < length items → FreshOn t2 (word_at ws (at + i)).content
 cells_fresh t t2 ws at registers items grows cells fresh i low = subst (FreshOn t2) (sym (ap (λ (p : Parts). p.content) (cells i low))) (fresh-grown (item_word registers items i).content grows (fresh i low))

@@ -39,7 +39,7 @@ pub needed_then : {t t1 t2 : Table} {area level words : ℕ} → OpensIfNeeded t
 needed_then (inl same) e = inl (e ∙ same)
 needed_then (inr o) e = inr (record { region = o.region; free = o.free; needed = o.needed; chains = e ∙ o.chains })
 
--- whatever objects the ground stood for, it stands for them
+-- whatever objects the ground represented, it represents them
 abbrev pub KeepsOn : Memory.Store → Table → Memory.Store → Table → Type 0
 KeepsOn m t m' t' = (k : RoleMap) (top : ℕ) (areas : List AreaRule) (s : Store) (aim : Condemned) → GroundInvariant m t k top areas s aim → GroundInvariant m' t' k top areas s aim
 
@@ -69,7 +69,7 @@ module _ (m : Memory.Store) (t : Table) (k : RoleMap) (top : ℕ) (areas : List 
   pub words_low : 0 < words → at < 2 ^ 28
   words_low = Opened.place_low m t k top areas s aim on area level area_in level_in m1 t1 region opens at words end
 
-  -- no charge stands old in another way
+  -- the charges in old regions are unchanged
   pub old_placed : (k2 : RoleMap) (top2 : ℕ) (areas2 : List AreaRule) (s2 : Store) (aim2 : Condemned) → GroundInvariant m t k2 top2 areas2 s2 aim2 → old_on m1 t1 s2 aim2 k2.at ≡ old_on m t s2 aim2 k2.at
   old_placed k2 top2 areas2 s2 aim2 on2 = old-opened m m1 t t1 region area level k2 top2 areas2 s2 aim2 on2 (placed_on k2 top2 areas2 s2 aim2 on2) area_in level_in opens
 
@@ -127,7 +127,7 @@ module _ (m : Memory.Store) (t : Table) (k : RoleMap) (top : ℕ) (areas : List 
   same_used (inl same) r = ap (λ (u : Table). used_of u r) same
   same_used (inr o) r = ap (λ (u : Table). used_of u r) o.table
 
-  -- a fault leaves all words as fresh
+  -- after a swap error all words are as fresh as before
   pub opened_stays_fresh : (m2 : Memory.Store) → StoresNothing m1 m2 → AllFresh m t → AllFresh m2 t1
   opened_stays_fresh m2 stays = stays_fresh-tended m m2 t t1 on.table opens.sound (opened-preserves (opened_live m2 stays) opened_or_same) (λ a l past.
       let same = same_used opened_or_same (a / 4096) in

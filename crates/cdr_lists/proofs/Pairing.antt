@@ -42,7 +42,7 @@ pair_code : (charge : ℕ) → (charge ≡ 2) ⊎ (charge ≡ 3) → PairCode ch
 pair_code charge (inl two) = inl (two, ap second_code two)
 pair_code charge (inr three) = inr (three, ap second_code three)
 
--- the words of a pair are fresh where those are that it was made of
+-- the words of a pair are fresh if those are that it was made of
 pub pair_fresh : (t t2 : Table) (ws : List Parts) (at charge : ℕ) (car cdr : Parts) → OnlyGrows t t2 → word_at ws at ≡ first_word car → word_at ws (at + 1) ≡ second_word charge cdr → FreshOn t car.content → FreshOn t cdr.content
     → (i : ℕ) → i < 2 → FreshOn t2 (word_at ws (at + i)).content
 pair_fresh t t2 ws at charge car cdr grows first second car_fresh cdr_fresh i low = elim (cases_eq i 0) [

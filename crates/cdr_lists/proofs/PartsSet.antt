@@ -23,7 +23,7 @@ use Rattle.transporter.specs.lisp_ground.GroundInvariant.{GroundInvariant}
 use Rattle.transporter.proofs.lisp_ground.Finals.{stands_there}
 use Rattle.transporter.proofs.lisp_ground.StoredOn.{car_stored_on, cdr_stored_on}
 use Rattle.transporter.proofs.lisp_ground.Storing.{kept_on_same, used_inside}
-use Rattle.transporter.proofs.Moving.{fetch_moves-read, same-stores}
+use Rattle.transporter.proofs.Moving.{fetch_moves-read, moves-after_read, same-stores}
 use Rattle.cdr_lists.proofs.Finding.{same_place}
 use Rattle.cdr_lists.proofs.LaidNew.{pair_written}
 use Rattle.cdr_lists.proofs.NewPlaces.{KeepsOn}
@@ -47,7 +47,7 @@ use Rattle.lisp_graph.specs.declared.object.Value.{Value}
 pub marks_cdr : {m m' : Memory.Store} {t t' : Table} {content : Content} → MarksFollow m t m' t' → MarksCdr m t m' t' content
 marks_cdr marks = record { pair = λ at there normal. marks-but (suc at) marks; cell = λ at there other. marks }
 
--- a fact of the error holds of a result that is one or isn't
+-- a fact about an error holds of a result, whether it is one or not
 pub on_err : {A : Type 0} {E : Type 0} (r : Result A E) (P : Type 0) → P → OnErr r P
 on_err (Ok x) P p = tt
 on_err (Err e) P p = p
@@ -57,7 +57,7 @@ pub no_err : {A : Type 0} {E : Type 0} (r : Result A E) (P : Type 0) → IsOk r 
 no_err (Ok x) P ok = tt
 no_err (Err e) P ok = absurd (cc)
 
--- what was inside is, after reads
+-- what was inside still is, after reads
 pub store_inside : {m n : Memory.Store} {a : ℕ} → StoresNothing m n → a < length m.words → a < length n.words
 store_inside {m} {n} {a} reads low = subst (λ (ws : List Parts). a < length ws) (sym reads.words) low
 
@@ -104,7 +104,7 @@ module _ (m : Memory.Store) (t : Table) (at : ℕ) (word : Parts) (can : CanSetA
         let same : old_on n t s aim k.at ≡ old_on m t s aim k.at = refl in
         record { map = y.map; kept = y.kept; refines = y.refines; work = (let w = y.work in omega arith) }
 
-    -- a fault there is one here
+    -- a swap error there is one here
     pub keeps_cons_there : (m' : Memory.Store) (t' : Table) → KeepsConsAt n t m' t' cons → KeepsConsAt m t m' t' at
     keeps_cons_there m' t' keeps k top areas registers s aim name x =
         later_after m n m' t t' k top areas s aim reads (keeps k top areas registers s aim name (can_read_there k top areas registers s aim name x))
@@ -185,7 +185,7 @@ module _ (m n m' : Memory.Store) (content : Content) (at : ℕ) (p : IsConsPlace
       subst (λ (a : ℕ). Stores m m' a (record value { cdr = (word_at m.words a).cdr })) next
       (subst (λ (x : Parts). Stores m m' (at + 1) x) (word_there (at + 1) found) (stores_after m n m' (at + 1) w reads stores))
 
--- no pair stands in the place of a cell
+-- no pair is in the place of a cell
 pub no_pair_there : (m m' : Memory.Store) (content : Content) (at : ℕ) (value : Parts) → IsConsPlace m.words content at → (word_at m.words at).cdr ≢ Normal → WritesCdr m m' content value
 no_pair_there m m' content at value p ne to q normal = absurd (ne (ap (λ (a : ℕ). (word_at m.words a).cdr) (same_place m.words content at to p q) ∙ normal))
 
@@ -193,19 +193,20 @@ no_pair_there m m' content at value p ne to q normal = absurd (ne (ap (λ (a : �
 pub no_cell_there : (m m' : Memory.Store) (t t' : Table) (content : Content) (at : ℕ) (value : Parts) → IsConsPlace m.words content at → (word_at m.words at).cdr ≡ Normal → RelaysCdr m t m' t' content value
 no_cell_there m m' t t' content at value p normal to q ne = absurd (ne (ap (λ (a : ℕ). (word_at m.words a).cdr) (same_place m.words content to at q p) ∙ normal))
 
--- a cell was laid anew after some reads
+-- a cell was relocated after some reads
 pub relaid_there : (m n m' : Memory.Store) (t t' : Table) (content : Content) (at : ℕ) (value : Parts) → IsConsPlace m.words content at → StoresNothing m n → RelaysCell n t m' t' at value → RelaysCdr m t m' t' content value
 relaid_there m n m' t t' content at value p reads x to q ne = subst (λ (a : ℕ). RelaysCell m t m' t' a value) (same_place m.words content at to p q) (record {
   between = x.between;
   table = x.table;
   moves = fetch_moves-read reads x.moves same-stores;
+  few = moves-after_read reads x.few;
   grows = x.grows;
   settled = subst (λ (w : Parts). Settles t x.table w (word_at x.between.words at)) (ap (λ (ws : List Parts). word_at ws at) reads.words) x.settled;
   lays = x.lays;
   others = record { table = x.others.table; words = λ a apart l. x.others.words a apart l ∙ ap (λ (ws : List Parts). word_at ws a) reads.words };
 })
 
--- a fault came after some reads
+-- a swap error occurred after some reads
 pub cell_at_most : (m n m' : Memory.Store) (t t' : Table) (content : Content) (at : ℕ) → IsConsPlace m.words content at → (word_at m.words at).cdr ≢ Normal → StoresNothing m n → SettlesWordAtMost n t m' t' at → SettlesCellAtMost m t m' t' content
 cell_at_most m n m' t t' content at p ne reads (inl live) = inl (live-then (live-read reads) live)
 cell_at_most m n m' t t' content at p ne reads (inr x) = inr (record {
@@ -237,7 +238,6 @@ relay_written m0 m1 m2 m3 m4 cell at first second w reads one two three is pair_
       forward_at = stored_there m3 m4 cell w three (omega arith) ∙ ap (λ (p : Parts). Some p) is;
     }
 
--- a pair stands there, so no cell was laid anew, and the table is the same
-pub no_pair_table : (m : Memory.Store) {t t' : Table} (content : Content) (at : ℕ) → IsConsPlace m.words content at → (word_at m.words at).cdr ≢ Normal
-    → (to : ℕ) → IsConsPlace m.words content to → (word_at m.words to).cdr ≡ Normal → t' ≡ t
-no_pair_table m content at p ne to q normal = absurd (ne (ap (λ (a : ℕ). (word_at m.words a).cdr) (same_place m.words content at to p q) ∙ normal))
+-- no pair is there, so each fact about one holds
+pub no_pair_else : {A : Type 0} (m : Memory.Store) (content : Content) (at : ℕ) → IsConsPlace m.words content at → (word_at m.words at).cdr ≢ Normal → (to : ℕ) → IsConsPlace m.words content to → (word_at m.words to).cdr ≡ Normal → A
+no_pair_else m content at p ne to q normal = absurd (ne (ap (λ (a : ℕ). (word_at m.words a).cdr) (same_place m.words content at to p q) ∙ normal))

@@ -1,4 +1,4 @@
--- What a cell that is laid anew does to scanned words.
+-- What a cell that is relocated does to scanned words.
 use Rattle.std.proofs.Common.{◌≡◌, ℕ, ◌+◌, ◌/◌, ◌<◌, ◌⊎◌, inl, inr, refl, sym, ◌∙◌, ap, subst, arith, List, length, Some, None}
 use Rattle.std.proofs.lemmas.Bool.{cases_eq}
 use Rattle.store_word.specs.Words.{Parts, null_word}
@@ -27,11 +27,11 @@ module _ (m m1 m2 : Memory.Store) (t room t2 : Table) (v : IsTable t) (v2 : IsTa
       let is = ap (λ (p : Parts). p.content) (got-word_at m2.words cell _ w.forward_at) in
       subst (FreshOn t2) (sym is) (live-fresh (HeaderForward at) at v2 (end-alive room t2 slot at 2 x) refl)
 
-  -- the words but the cell's are those that were written before the forward
+  -- the words except the cell's are those that were written before the forward
   behind : (a : ℕ) → (a ≡ cell → ⊥) → word_at m2.words a ≡ word_at w.mid.words a
   behind a ne = get_or_same m2.words w.mid.words a null_word ((stores_within w.mid m2 cell (plain (HeaderForward at)) w.rest).others a (λ h. let low = h.0 in let high = h.1 in ne (omega arith)))
 
-  -- no word but the cell's and the pair's changes
+  -- no word changes except the cell's and the pair's
   pub relay_rest : (a : ℕ) → (a ≡ cell → ⊥) → (Within at 2 a → ⊥) → word_at m2.words a ≡ word_at m.words a
   relay_rest a ne apart = behind a ne ∙ w.pair.others a apart ∙ ap (λ (ws : List Parts). word_at ws a) same
 
@@ -44,7 +44,7 @@ module _ (m m1 m2 : Memory.Store) (t room t2 : Table) (v : IsTable t) (v2 : IsTa
         | inr ne ↦ inl (relay_rest a ne apart)
       ]
 
-  -- the pair stands behind what was used
+  -- the pair lies past what was used
   behind_live : (a : ℕ) → IsLiveWord t a → Within at 2 a → ⊥
   behind_live a l = used-apart room t2 slot at 2 x a (let u = l.used in let r = (opened-grows v opens).used (a / 4096) in omega arith)
 
@@ -71,7 +71,7 @@ module _ (m m1 m2 : Memory.Store) (t room t2 : Table) (v : IsTable t) (v2 : IsTa
   pub relay_forward : word_at m2.words cell ≡ plain (HeaderForward at)
   relay_forward = got-word_at m2.words cell _ w.forward_at
 
-  -- where the words of the pair are fresh
+  -- if the words of the pair are fresh
   pub relay_stays_fresh : IsLiveWord t cell → FreshOn t2 first.content → FreshOn t2 second.content → AllFresh m t → AllFresh m2 t2
   relay_stays_fresh live car cdr = laid-stays_fresh m m2 t room t2 slot at 2 v v2 opens x relay_preserves new
     where

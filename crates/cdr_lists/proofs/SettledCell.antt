@@ -1,4 +1,4 @@
--- A cell whose car was settled is laid anew.
+-- A cell whose car was settled is relocated.
 use Rattle.std.proofs.Common.{◌≡◌, ℕ, ◌⊎◌, inl, inr, refl, sym, ◌∙◌, ap, subst, arith, List, None}
 use Rattle.std.specs.Prelude.{OnOk, Result, Ok, Err}
 use Rattle.store_word.specs.Words.{Parts}
@@ -15,7 +15,7 @@ use Rattle.transporter.specs.lisp_meaning.Roles.{RoleMap, value_of}
 use Rattle.transporter.proofs.lisp_meaning.Frames.{refined}
 use Rattle.transporter.specs.Growth.{Grows}
 use Rattle.transporter.specs.LiveSame.{IsLiveWord, LiveSame, LiveSameBut, OnlyGrows}
-use Rattle.transporter.specs.Moving.{FetchMoves}
+use Rattle.transporter.specs.Moving.{FetchMoves, MovesAtMost}
 use Rattle.transporter.specs.Settling.{CanSettle, HasOld, IsSettleable, Settles, SettlesOn, content_to, readdressed}
 use Rattle.transporter.specs.Preserving.{AllFresh, FreshOn}
 use Rattle.transporter.specs.Transports.{LaterOn, StaysOn}
@@ -62,7 +62,7 @@ set_later m m2 t t2 at word can grows x = record {
   young = λ old. can.young (old.0, old.1, old-before grows old.2);
 }
 
--- a settled word is a forward only where the word before it was
+-- a settled word is a forward only if the word before it was
 settled_forward : {t t' : Table} {old new : Parts} → Settles t t' old new → forward_of old.content ≡ None → forward_of new.content ≡ None
 settled_forward {t} {t'} {old} {new} x none = go x.is
   where
@@ -82,7 +82,7 @@ module _ (m : Memory.Store) (t : Table) (cell : ℕ) (cdr : Parts) (can : CanSet
   pub cell_settleable : IsSettleable m t (word_at m.words cell)
   cell_settleable = car_settleable m m t cell (readable m t cell cdr can) (no_change m) cell (final_itself m.words cell is.final) is.final
 
-  -- a fault came when the car was settled
+  -- a swap error occurred when the car was settled
   pub cell_faulted : (m2 : Memory.Store) (t2 : Table)
       → ((k : RoleMap) (top : ℕ) (areas : List AreaRule) (registers : List Value) (s : Store) (aim : Condemned) (v : Value) → CanSettle m t k top areas registers s aim (word_at m.words cell) v → LaterOn m t m2 t2 k top areas s aim) → KeepsConsAt m t m2 t2 cell
   cell_faulted m2 t2 later = car_faulted m m m2 t t2 cell cell (no_change m) (final_itself m.words cell is.final) later
@@ -131,20 +131,21 @@ module _ (m : Memory.Store) (t : Table) (cell : ℕ) (cdr : Parts) (can : CanSet
           let placed = stays.placed in
           record { map = l.map; kept = stays.kept l.map top areas s aim l.kept; refines = l.refines; work = (let u = l.work in omega arith) }
 
--- a cell whose car was settled was laid anew
-pub cell_relaid : {m m2 m3 : Memory.Store} {t t2 t3 : Table} {cell : ℕ} {car cdr : Parts} → Settles t t2 (word_at m.words cell) car → word_at m2.words cell ≡ car → FetchMoves m t m2 t2 cell → Grows t t2 → LiveSameBut m t m2 t2 cell
+-- a cell whose car was settled was relocated
+pub cell_relaid : {m m2 m3 : Memory.Store} {t t2 t3 : Table} {cell : ℕ} {car cdr : Parts} → Settles t t2 (word_at m.words cell) car → word_at m2.words cell ≡ car → FetchMoves m t m2 t2 cell → MovesAtMost m t m2 t2 1 → Grows t t2 → LiveSameBut m t m2 t2 cell
     → LaysPair m2 t2 m3 t3 cell car cdr × LiveSameBut m2 t2 m3 t3 cell → RelaysCell m t m3 t3 cell cdr
-cell_relaid {m} {m2} {m3} {t} {t2} {t3} {cell} {car} {cdr} settled written moves grows x y = record {
+cell_relaid {m} {m2} {m3} {t} {t2} {t3} {cell} {car} {cdr} settled written moves few grows x y = record {
   between = m2;
   table = t2;
   moves = moves;
+  few = few;
   grows = grows;
   settled = subst (λ (w : Parts). Settles t t2 (word_at m.words cell) w) (sym written) settled;
   lays = subst (λ (w : Parts). LaysPair m2 t2 m3 t3 cell w cdr) (sym written) y.0;
   others = record { table = grows-then x.table y.1.table; words = λ a ne l. y.1.words a ne (still-live x.table l) ∙ x.words a ne l };
 }
 
--- or a fault came after that
+-- or a swap error occurred after that
 pub cell_settled : {m m2 m3 : Memory.Store} {t t2 t3 : Table} {cell : ℕ} {car : Parts} → Settles t t2 (word_at m.words cell) car → word_at m2.words cell ≡ car → LiveSameBut m t m2 t2 cell → IsLiveWord t cell → LiveSame m2 t2 m3 t3
     → SettlesWord m t m3 t3 cell
 cell_settled {m} {m2} {m3} {t} {t2} {t3} {cell} {car} settled written x l y = record {
@@ -152,11 +153,11 @@ cell_settled {m} {m2} {m3} {t} {t2} {t3} {cell} {car} settled written x l y = re
   others = record { table = grows-then x.table y.table; words = λ a ne w. y.words a (still-live x.table w) ∙ x.words a ne w };
 }
 
--- a settled word that was written is fresh where all are
+-- a settled word that was written is fresh if all are
 pub fetched_fresh : (m2 : Memory.Store) {t t2 : Table} {cell : ℕ} {car : Parts} → OnlyGrows t t2 → IsLiveWord t cell → word_at m2.words cell ≡ car → AllFresh m2 t2 → FreshOn t2 car.content
 fetched_fresh m2 {t} {t2} {cell} {car} grows live written all = subst (λ (w : Parts). FreshOn t2 w.content) written (all cell (still-live grows live))
 
--- a fact holds of a result that is one or isn't
+-- a fact holds of a result, whether it is one or not
 pub on_ok : {A : Type 0} {E : Type 0} (r : Result A E) (P : Type 0) → P → OnOk r P
 on_ok (Ok x) P p = p
 on_ok (Err e) P p = tt

@@ -1,4 +1,4 @@
--- What is read of a cons is settled where it stands.
+-- What is read of a cons is settled and written back.
 use Rattle.std.proofs.Common.{◌≡◌, ℕ, suc, ◌/◌, ◌<◌, ◌⊎◌, inl, inr, refl, sym, ◌∙◌, ap, subst, arith, List, length, Option, Some}
 use Rattle.std.specs.Prelude.{IfSome}
 use Rattle.store_word.specs.Words.{Parts}
@@ -42,7 +42,7 @@ same_car body a d x y e f = let z = sym e ∙ f in cc
 same_cdr : (body : Body) (a d x y : Value) → body ≡ Cons a d → body ≡ Cons x y → d ≡ y
 same_cdr body a d x y e f = let z = sym e ∙ f in cc
 
--- Reads come before
+-- Reads precede
 
 pub can_read_after : (m m1 : Memory.Store) (t : Table) (k : RoleMap) (top : ℕ) (areas : List AreaRule) (registers : List Value) (s : Store) (aim : Condemned) (at n : ℕ) → CanReadAt m t k top areas registers s aim at n → StoresNothing m m1 → CanReadAt m1 t k top areas registers s aim at n
 can_read_after m m1 t k top areas registers s aim at n can stays = record { kept = kept_on_same m m1 t k top areas s aim can.kept stays; named = can.named; survives = can.survives }
@@ -181,7 +181,7 @@ module _ (m m1 m2 : Memory.Store) (t t2 : Table) (at to : ℕ) (stays : StoresNo
         value_is = ap (value_of y.later.map.role) is ∙ y.value car (car_value m1 t k top areas registers s aim at n can1 to final_read car cdr body);
       }
 
-  -- or a fault came
+  -- or a swap error occurred
   pub car_faulted : ((k : RoleMap) (top : ℕ) (areas : List AreaRule) (registers : List Value) (s : Store) (aim : Condemned) (v : Value) → CanSettle m1 t k top areas registers s aim (word_at m1.words to) v → LaterOn m1 t m2 t2 k top areas s aim) → KeepsConsAt m t m2 t2 at
   car_faulted later k top areas registers s aim n can =
       let can1 = can_read k top areas registers s aim n can in
@@ -229,7 +229,7 @@ settled_at m m1 m2 t t2 a b new content stays settles written others is place = 
   others = record { table = others.table; words = λ i ne w. others.words i ne w ∙ ap (λ (ws : List Parts). word_at ws i) stays.words };
 })
 
--- Where the car was read on the way, and has no old address
+-- If the car was read on the way, and has no old address
 
 pub first_read : (words : List Parts) (at : ℕ) (o : Option Parts) (first : Parts) → IfSome o (λ word. word ≡ word_at words at) → o ≡ Some first → first ≡ word_at words at
 first_read words at o first is some = (let P : Option Parts → Type 0 = λ o. IfSome o (λ word. word ≡ word_at words at) in subst P some is)
@@ -242,7 +242,7 @@ module _ (m m1 : Memory.Store) (t : Table) (to : ℕ) (first : Parts) (stays : S
   pub first_settleable : (at : ℕ) → IsReadableAt m t at → Final m.words at to → IsFinal m.words to → IsSettleable m1 t first
   first_settleable at x final last = subst (λ (w : Parts). IsSettleable m1 t w) (sym first_after) (car_settleable m m1 t at x stays to final last)
 
-  -- so it is answered as it is
+  -- so it is returned unchanged
   pub first_answered : (at : ℕ) (word : Parts) → Final m.words at to → word.content ≡ first.content → ReadsCarAt m t m1 t at word
   first_answered at word final same =
       car_fetched m m1 m1 t t at to stays final (word_at m1.words to) word (λ k top areas registers s aim v can. settles-same m1 t k top areas s aim (word_at m1.words to) can.kept)
@@ -259,7 +259,7 @@ module _ (m m1 : Memory.Store) (t : Table) (to : ℕ) (first : Parts) (stays : S
     first_unmoved b there =
         subst (λ (a : ℕ). FetchMoves m t m1 t a) (sym there) (fetch_moves-of stays (sym is) (stays_put young same-stores refl refl) (inl (refl, same-stores)) (sym first_after))
 
--- the list behind a cell has no old address
+-- the list that follows a cell has no old address
 pub list_fresh : (m m1 : Memory.Store) (t : Table) (at : ℕ) (x : IsReadableAt m t at) (stays : StoresNothing m m1) (to : ℕ) (final : Final m.words at to) (last : IsFinal m.words to)
     → ((word_at m1.words to).cdr ≡ CdrNil → ⊥) → ((word_at m1.words to).cdr ≡ Normal → ⊥) → (word : Parts) (next : ℕ) → next ≡ suc to → word.content ≡ ListAt next → HasOld t word → ⊥
 list_fresh m m1 t at x stays to final last no_nil no_normal word next place is old =

@@ -1,4 +1,4 @@
--- Which answers are faults.
+-- Which results are swap errors.
 use Rattle.std.specs.Prelude.{Bool, true, false, Result, Ok, Err}
 use Rattle.cdr_lists.specs.declared.fault.ListFault.{ListFault}
 use Rattle.cdr_lists.specs.declared.fault.ListFault.TheVariants.{NotACons, Swap}

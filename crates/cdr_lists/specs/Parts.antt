@@ -23,7 +23,7 @@ use Rattle.transporter.specs.lisp_ground.Writes.{Within}
 use Rattle.transporter.specs.Growth.{Grows, OpensOrStays}
 use Rattle.transporter.specs.LiveSame.{LiveSame, LiveSameBut}
 use Rattle.transporter.specs.Marking.{MarksFollow, MarksFollowBut}
-use Rattle.transporter.specs.Moving.{FetchMoves}
+use Rattle.transporter.specs.Moving.{FetchMoves, MovesAtMost}
 use Rattle.transporter.specs.Settling.{HasOld, Settles}
 use Rattle.transporter.specs.Writes.{Writes}
 use Rattle.cdr_lists.specs.Opening.{OpensIfNeeded}
@@ -38,21 +38,21 @@ pub record CanSet (m : Memory.Store) (t : Table) (of value : Parts) : Type 0 whe
   pub new_is : value_of can.map.role value.content ≡ Some new
   pub young : HasOld t value → ⊥
 
--- The ground stands for other objects by a later map, under which what meant a name means it still. The words placed and the charges that stand old are together at most so many more than before.
+-- The ground represents other objects by a later map, under which what meant a name still means it. The words placed and the charges in old regions together grow by at most this number.
 pub record SetOn (m : Memory.Store) (t : Table) (m' : Memory.Store) (t' : Table) (k : RoleMap) (top : ℕ) (areas : List AreaRule) (s s' : Store) (aim : Condemned) (more : ℕ) : Type 0 where
   pub map : RoleMap
   pub kept : GroundInvariant m' t' map top areas s' aim
   pub refines : Refines k.role map.role
   pub work : t'.placed + old_on m' t' s' aim map.at ≤ t.placed + old_on m t s aim k.at + more
 
--- whatever objects the ground stood for, it stands for them, with the value of what was written in the car of the cons to which the content refers
+-- whatever objects the ground represented, it represents them, with the value of what was written in the car of the cons to which the content refers
 abbrev pub SetsCar : Memory.Store → Table → Memory.Store → Table → Content → Content → Type 0
 SetsCar m t m' t' content written =
     (k : RoleMap) (top : ℕ) (areas : List AreaRule) (registers : List Value) (s : Store) (aim : Condemned) (n : ℕ) (car cdr new : Value)
     → CanRead m t k top areas registers s aim content (V.Ref n) → (object s n).body ≡ Cons car cdr → value_of k.role written ≡ Some new
     → SetOn m t m' t' k top areas s (put_body s n (Cons new cdr)) aim 0
 
--- the same of the cdr; a cell gets the two words for which its charge has paid
+-- the same for the cdr; a cell gets the two words for which its charge has paid
 abbrev pub SetsCdr : Memory.Store → Table → Memory.Store → Table → Content → Content → Type 0
 SetsCdr m t m' t' content written =
     (k : RoleMap) (top : ℕ) (areas : List AreaRule) (registers : List Value) (s : Store) (aim : Condemned) (n : ℕ) (car cdr new : Value)
@@ -63,16 +63,16 @@ SetsCdr m t m' t' content written =
 abbrev pub WritesCar : Memory.Store → Memory.Store → Content → Parts → Type 0
 WritesCar m m' content word = (at : ℕ) → IsConsPlace m.words content at → Memory.Stores m m' at (record word { cdr = (word_at m.words at).cdr })
 
--- where a pair stands there, it is stored in its second word, and no other word is
+-- if the cons is a pair, the word is stored in its second word, and no other word is stored
 abbrev pub WritesCdr : Memory.Store → Memory.Store → Content → Parts → Type 0
 WritesCdr m m' content word =
     (at : ℕ) → IsConsPlace m.words content at → (word_at m.words at).cdr ≡ Normal → Memory.Stores m m' (suc at) (record word { cdr = (word_at m.words (suc at)).cdr })
 
--- no page but that of the place of the cons gets marks without a word that may give them
+-- no page except that of the place of the cons gets marks without a word that may give them
 abbrev pub MarksCar : Memory.Store → Table → Memory.Store → Table → Content → Type 0
 MarksCar m t m' t' content = (at : ℕ) → IsConsPlace m.words content at → MarksFollowBut m t m' t' at
 
--- where a pair stands there, no page but that of its second word does; where a cell does, no page at all
+-- if the cons is a pair, no page except that of its second word gets marks without a word that may give them; if it is a cell, no page at all does
 pub record MarksCdr (m : Memory.Store) (t : Table) (m' : Memory.Store) (t' : Table) (content : Content) : Type 0 where
   pub pair : (at : ℕ) → IsConsPlace m.words content at → (word_at m.words at).cdr ≡ Normal → MarksFollowBut m t m' t' (suc at)
   pub cell : (at : ℕ) → IsConsPlace m.words content at → (word_at m.words at).cdr ≢ Normal → MarksFollow m t m' t'
@@ -86,13 +86,13 @@ pub record WritesRelay (old new : Memory.Store) (cell at : ℕ) (first second : 
   pub rest : Memory.Stores mid new cell (plain (HeaderForward at))
   pub forward_at : slice_get new.words cell ≡ Some (plain (HeaderForward at))
 
--- a cell stands at an address: no forward, and no pair
+-- a cell is at an address: no forward, and no pair
 pub record IsCellAt (m : Memory.Store) (at : ℕ) (word : Parts) : Type 0 where
   pub final : IsFinal m.words at
   pub is : word_at m.words at ≡ word
   pub no_pair : word.cdr ≢ Normal
 
--- A pair of charge 3 stands at the used end of the class of a cell, which is charged nothing for it, and where the cell stood a HEADER-FORWARD leads to it. No other word has changed, and a region was opened for it only if it was needed
+-- A pair of charge 3 is at the used end of the class of a cell, which is charged nothing for it, and a HEADER-FORWARD in the place of the cell leads to it. No other word has changed, and a region was opened for it only if it was needed
 pub record LaysPair (m : Memory.Store) (t : Table) (m' : Memory.Store) (t' : Table) (cell : ℕ) (car cdr : Parts) : Type 0 where
   pub room : Table
   pub opens : OpensOrStays t room
@@ -108,36 +108,37 @@ pub record LaysPair (m : Memory.Store) (t : Table) (m' : Memory.Store) (t' : Tab
   pub forward : word_at m'.words cell ≡ plain (HeaderForward at)
   pub rest : (a : ℕ) → a ≢ cell → (Within at 2 a → ⊥) → word_at m'.words a ≡ word_at m.words a
 
--- The word of a cell was settled where it stands: if it had an old address, what it means was transported, a run of cells as a run. Then, over the words and the table that this left, the cell was laid anew as a pair with another cdr. But for its own word no used word of a live region has changed
+-- The word of a cell was settled in its place: if it had an old address, what it means was transported, a compact run as a compact run, and nothing else was. Then, over the resulting words and table, the cell was relocated as a pair with another cdr. Except for its own word no used word of a live region has changed
 pub record RelaysCell (m : Memory.Store) (t : Table) (m' : Memory.Store) (t' : Table) (cell : ℕ) (cdr : Parts) : Type 0 where
   pub between : Memory.Store
   pub table : Table
   pub moves : FetchMoves m t between table cell
+  pub few : MovesAtMost m t between table 1
   pub grows : Grows t table
   pub settled : Settles t table (word_at m.words cell) (word_at between.words cell)
   pub lays : LaysPair between table m' t' cell (word_at between.words cell) cdr
   pub others : LiveSameBut m t m' t' cell
 
--- where a cell stands in the place of the cons to which the content refers, so it is done
+-- if the cons to which the content refers is a cell, this is done with it
 abbrev pub RelaysCdr : Memory.Store → Table → Memory.Store → Table → Content → Parts → Type 0
 RelaysCdr m t m' t' content cdr = (at : ℕ) → IsConsPlace m.words content at → (word_at m.words at).cdr ≢ Normal → RelaysCell m t m' t' at cdr
 
--- the word at an address was settled where it stands, and no other used word of a live region has changed
+-- the word at an address was settled in its place, and no other used word of a live region has changed
 pub record SettlesWord (m : Memory.Store) (t : Table) (m' : Memory.Store) (t' : Table) (at : ℕ) : Type 0 where
   pub settled : Settles t t' (word_at m.words at) (word_at m'.words at)
   pub others : LiveSameBut m t m' t' at
 
--- no used word of a live region has changed, or that one was settled
+-- no used word of a live region has changed, except that this one may have been settled
 abbrev pub SettlesWordAtMost : Memory.Store → Table → Memory.Store → Table → ℕ → Type 0
 SettlesWordAtMost m t m' t' at = LiveSame m t m' t' ⊎ SettlesWord m t m' t' at
 
--- a cell stands in the place of the cons to which the content refers, and its word was settled, as no other was
+-- the cons to which the content refers is a cell, and its word was settled, and no other was
 pub record SettlesCell (m : Memory.Store) (t : Table) (m' : Memory.Store) (t' : Table) (content : Content) : Type 0 where
   pub at : ℕ
   pub place : IsConsPlace m.words content at
   pub cell : (word_at m.words at).cdr ≢ Normal
   pub settled : SettlesWord m t m' t' at
 
--- no used word of a live region has changed, or that of the cell was settled
+-- no used word of a live region has changed, except that the cell's may have been settled
 abbrev pub SettlesCellAtMost : Memory.Store → Table → Memory.Store → Table → Content → Type 0
 SettlesCellAtMost m t m' t' content = LiveSame m t m' t' ⊎ SettlesCell m t m' t' content

@@ -1,7 +1,7 @@
-//! Conses over a ground: they are made, read and written.
+//! Makes, reads and writes conses over a ground.
 //!
-//! A cons is a pair of two words, or a cell of one word with the rest of its list behind it. Contracts
-//! say of each call what the ground stands for after it, while a collection may run
+//! A cons is a pair of two words, or a cell of one word with the rest of its list in the next word. Contracts
+//! specify for each call what the ground represents after it; a collection may be running
 //! (`specs/Pairs.antt`, `specs/Reading.antt`, `specs/Parts.antt`). Begin with `pair`.
 #![tactic(auto)]
 

@@ -1,4 +1,4 @@
-//! A new list, as a run of cells in its class.
+//! A new list, as a compact run of cells in its class.
 ghost use Rattle.std.specs.Prelude.{ℕ, ◌≡◌, ◌+◌, ◌*◌, ◌<◌, ◌≤◌, ◌^◌, length, IsOk, IfOk, OnOk, OnErr};
 ghost use Rattle.mem_port.specs.View.{Quiet, Tells, shown};
 ghost use Rattle.area_space.specs.View.{view};
@@ -26,7 +26,7 @@ use transporter::place_for;
 /// become.
 pub const CELL: u32 = 3;
 
-// The cdr code of a cell in a list of so many.
+// The cdr code of a cell in a list of `count` cells.
 fn cell_code(count: usize, i: usize) -> CdrCode
     requires { i < count }
     ensures { result ≡ cell_code count i }
@@ -38,7 +38,7 @@ fn cell_code(count: usize, i: usize) -> CdrCode
     }
 }
 
-// Writes a cell for each item. Their pages are held, so no fault comes. It is a step a cell.
+// Writes a cell for each item. Their pages are held, so no swap error occurs. It takes one memory access a cell.
 fn write_cells<M: Memory, L: Ledger>(
     mem: &mut M,
     at: u32,
@@ -84,10 +84,10 @@ fn lay_cells<M: Memory, L: Ledger>(
     write_cells(mem, at, registers, items, steps)
 }
 
-/// Makes a list of 1 to 1,024 registers' words in an area, at a level, and answers the address of its
-/// first cons. Its cells stand in consecutive words. Its charge, 3 words a cell, has to fit what the
-/// quota leaves. It takes at most 5 steps and one for each cell. A fault makes nothing, though a
-/// region may have been opened for the list, and the count of faults has risen.
+/// Makes a list of 1 to 1,024 registers' words in an area, at a level, and returns the address of its
+/// first cons. Its cells are in consecutive words. Its charge, 3 words a cell, has to fit the quota
+/// of the area. It takes at most 5 memory accesses and one for each cell. On a swap error nothing is made, though a
+/// region may have been opened for the list, and the count of swap errors has risen.
 pub fn make_list<M: Memory, L: Ledger>(
     ground: &mut Ground<M>,
     area: u8,
@@ -98,21 +98,21 @@ pub fn make_list<M: Memory, L: Ledger>(
 ) -> Result<u32, SwapFault>
     requires { CanList (view ground.old) area level registers.now items.now }
 
-    // What is made, and where.
+    // What is made, and at which address.
     ensures made { IfOk result (ListedOn (view ground.old) (view ground.new) area level registers.now items.now) }
     ensures below { IfOk result (λ at. at < 2 ^ 28) }
     ensures words { IfOk result (λ at. (i : ℕ) → i < length items.now → word_at (view ground.new).mem.store.words (at + i) ≡ cell_word registers.now items.now i) }
     ensures placed { IfOk result (λ at. PlacesNew ground.old.table ground.new.table area level at (length items.now) (3 * length items.now)) }
     ensures needed { OpensIfNeeded ground.old.table ground.new.table area level (length items.now) }
 
-    // What stays of the ground.
+    // What is unchanged in the ground.
     ensures live { LiveSame (view ground.old) (view ground.new) }
     ensures preserves { PreservesScanned (view ground.old) (view ground.new) }
     ensures stays_fresh { ((i : ℕ) → i < length items.now → FreshOn ground.old.table (item_word registers.now items.now i).content) → AllFresh (view ground.old)
         → AllFresh (view ground.new) }
     ensures marks { MarksFollow (view ground.old) (view ground.new) }
 
-    // What a fault leaves, and that it is counted.
+    // After a swap error, and that it is counted.
     ensures opened { OnErr result (OpensOrStays ground.old.table ground.new.table) }
     ensures fault { OnErr result (StaysOn (view ground.old) (view ground.new)) }
     ensures tells { Tells (view ground.old).mem (view ground.new).mem steps.old steps.new result }

@@ -22,7 +22,7 @@ use store_word::{CdrCode, Steps, SwapFault, Word};
 /// The charge of a pair that `cons` makes, in words. They are its two words.
 pub const PAIR: u32 = 2;
 
-// Holds the pages of two words that follow one another. Most often they are one page, which is
+// Holds the pages of two consecutive words. They are usually one page, which is
 // held once.
 fn hold_both<M: Memory, L: Ledger>(
     mem: &mut M,
@@ -79,9 +79,9 @@ fn code_of(charge: u32) -> CdrCode
     }
 }
 
-/// Makes a cons of two words, as a pair of two words of charge, in an area, at a level, and answers
-/// its address. Its charge has to fit what the quota leaves. It takes at most four steps. A fault
-/// makes nothing, though a region may have been opened for the pair, and the count of faults has
+/// Makes a cons of two words, as a pair with a charge of two words, in an area, at a level, and returns
+/// its address. Its charge has to fit the quota of the area. It takes at most 4 memory accesses. On a swap error
+/// nothing is made, though a region may have been opened for the pair, and the count of swap errors has
 /// risen.
 pub fn make_pair<M: Memory, L: Ledger>(
     ground: &mut Ground<M>,
@@ -93,20 +93,20 @@ pub fn make_pair<M: Memory, L: Ledger>(
 ) -> Result<u32, SwapFault>
     requires { CanPair (view ground.old) area level 2 car cdr }
 
-    // What is made, and where.
+    // What is made, and at which address.
     ensures made { IfOk result (PairedOn (view ground.old) (view ground.new) area level 2 car cdr) }
     ensures below { IfOk result (λ at. at < 2 ^ 28) }
     ensures words { IfOk result (λ at. (word_at (view ground.new).mem.store.words at ≡ first_word car) × (word_at (view ground.new).mem.store.words (at + 1) ≡ second_word 2 cdr)) }
     ensures placed { IfOk result (λ at. PlacesNew ground.old.table ground.new.table area level at 2 2) }
     ensures needed { OpensIfNeeded ground.old.table ground.new.table area level 2 }
 
-    // What stays of the ground.
+    // What is unchanged in the ground.
     ensures live { LiveSame (view ground.old) (view ground.new) }
     ensures preserves { PreservesScanned (view ground.old) (view ground.new) }
     ensures stays_fresh { FreshOn ground.old.table car.content → FreshOn ground.old.table cdr.content → AllFresh (view ground.old) → AllFresh (view ground.new) }
     ensures marks { MarksFollow (view ground.old) (view ground.new) }
 
-    // What a fault leaves, and that it is counted.
+    // After a swap error, and that it is counted.
     ensures opened { OnErr result (OpensOrStays ground.old.table ground.new.table) }
     ensures fault { OnErr result (StaysOn (view ground.old) (view ground.new)) }
     ensures tells { Tells (view ground.old).mem (view ground.new).mem steps.old steps.new result }
@@ -117,7 +117,7 @@ pub fn make_pair<M: Memory, L: Ledger>(
     make_pair_of(ground, area, level, PAIR, car, cdr, steps)
 }
 
-/// The same of a pair whose charge is 2 or 3 words.
+/// The same for a pair whose charge is 2 or 3 words.
 pub fn make_pair_of<M: Memory, L: Ledger>(
     ground: &mut Ground<M>,
     area: u8,
@@ -129,20 +129,20 @@ pub fn make_pair_of<M: Memory, L: Ledger>(
 ) -> Result<u32, SwapFault>
     requires { CanPair (view ground.old) area level charge car cdr }
 
-    // What is made, and where.
+    // What is made, and at which address.
     ensures made { IfOk result (PairedOn (view ground.old) (view ground.new) area level charge car cdr) }
     ensures below { IfOk result (λ at. at < 2 ^ 28) }
     ensures words { IfOk result (λ at. (word_at (view ground.new).mem.store.words at ≡ first_word car) × (word_at (view ground.new).mem.store.words (at + 1) ≡ second_word charge cdr)) }
     ensures placed { IfOk result (λ at. PlacesNew ground.old.table ground.new.table area level at 2 charge) }
     ensures needed { OpensIfNeeded ground.old.table ground.new.table area level 2 }
 
-    // What stays of the ground.
+    // What is unchanged in the ground.
     ensures live { LiveSame (view ground.old) (view ground.new) }
     ensures preserves { PreservesScanned (view ground.old) (view ground.new) }
     ensures stays_fresh { FreshOn ground.old.table car.content → FreshOn ground.old.table cdr.content → AllFresh (view ground.old) → AllFresh (view ground.new) }
     ensures marks { MarksFollow (view ground.old) (view ground.new) }
 
-    // What a fault leaves, and that it is counted.
+    // After a swap error, and that it is counted.
     ensures opened { OnErr result (OpensOrStays ground.old.table ground.new.table) }
     ensures fault { OnErr result (StaysOn (view ground.old) (view ground.new)) }
     ensures tells { Tells (view ground.old).mem (view ground.new).mem steps.old steps.new result }

@@ -1,4 +1,4 @@
-//! The parts of a cons are written.
+//! Writes the parts of a cons.
 ghost use Rattle.std.specs.Prelude.{◌≡◌, ◌≢◌, ◌↔◌, ℕ, ◌+◌, ◌-◌, ◌*◌, ◌<◌, ◌≤◌, length, Err, OnOk, OnErr};
 ghost use Rattle.mem_port.specs.View.{Tells, TellsIf, shown};
 ghost use Rattle.area_space.specs.View.{view};
@@ -26,9 +26,9 @@ use transporter::{fetch, place_for};
 
 /// Writes the car of the cons to which a word refers. The word there keeps its cdr code.
 ///
-/// The caller owes that the new word has no old address. `NotACons` comes exactly where the word
-/// isn't tagged LIST, and takes no step. Whatever is refused stores nothing. It takes at most 14
-/// steps.
+/// The caller must ensure that the new word has no old address. `NotACons` is returned if and only if the word
+/// isn't tagged LIST, and takes no memory access. A refusal stores nothing. It takes at most 14
+/// memory accesses.
 pub fn set_car<M: Memory, L: Ledger>(
     ground: &mut Ground<M>,
     of: Word,
@@ -41,18 +41,19 @@ pub fn set_car<M: Memory, L: Ledger>(
     ensures set { OnOk result (SetsCar (view ground.old) (view ground.new) of.content value.content) }
     ensures written { OnOk result (WritesCar (view ground.old).mem.store (view ground.new).mem.store of.content value) }
 
-    // What is refused, and what is left then.
+    // What is refused, and what a refusal leaves unchanged.
     ensures not_a_cons { (result ≡ Err ListFault.NotACons) ↔ (tag_of of.content ≢ Tag.List) }
     ensures unread { result ≡ Err ListFault.NotACons → steps.new ≡ steps.old }
     ensures stays { OnErr result (StoresNothing (view ground.old).mem.store (view ground.new).mem.store) }
 
-    // What stays of the ground.
+    // What is unchanged in the ground.
     ensures table { ground.new.table ≡ ground.old.table }
+    ensures moves { MovesAtMost (view ground.old) (view ground.new) 0 }
     ensures preserves { PreservesScanned (view ground.old) (view ground.new) }
     ensures stays_fresh { AllFresh (view ground.old) → AllFresh (view ground.new) }
     ensures marks { MarksCar (view ground.old) (view ground.new) of.content }
 
-    // Faults and the cost.
+    // Swap errors and the cost.
     ensures tells { TellsIf (view ground.old).mem (view ground.new).mem steps.old steps.new (is_fault result) }
     ensures cost { steps.new ≤ steps.old + 14 }
 {
@@ -61,15 +62,15 @@ pub fn set_car<M: Memory, L: Ledger>(
     Ok(())
 }
 
-/// Writes the cdr of the cons to which a word refers: of a pair into its second word. A cell becomes
-/// a pair in its class, for which its charge has paid, with its car settled: it leaves a
-/// HEADER-FORWARD to that, and no other cell is touched.
+/// Writes the cdr of the cons to which a word refers; the cdr of a pair, into its second word. A cell is
+/// relocated as a pair in its class, for which its charge has paid, with its car settled: it leaves a
+/// HEADER-FORWARD to the pair, and no other cell is changed.
 ///
-/// The caller owes that a collection that runs keeps the cons, and that the new word has no old
-/// address. `NotACons` comes exactly where the word isn't tagged LIST, and takes no step. Where no
-/// fault comes it takes at most 67 steps and 4 for each word that is placed. At most 2,050 words
-/// are placed. After a refusal the ground stands for the same objects, and no used word of a live
-/// region has changed but that of a cell, which may be settled; an object may have moved.
+/// The caller must ensure that a running collection keeps the cons, and that the new word has no old
+/// address. `NotACons` is returned if and only if the word isn't tagged LIST, and takes no memory access. If no
+/// swap error occurs, it takes at most 67 memory accesses and 4 for each word that is placed. At most 2,050 words
+/// are placed. After a refusal the ground represents the same objects, and no used word of a live
+/// region has changed except that of a cell, which may be settled; an object may have moved.
 pub fn set_cdr<M: Memory, L: Ledger>(
     ground: &mut Ground<M>,
     of: Word,
@@ -84,8 +85,10 @@ pub fn set_cdr<M: Memory, L: Ledger>(
     ensures relaid { OnOk result (RelaysCdr (view ground.old) (view ground.new) of.content value) }
     ensures table { OnOk result ((at : ℕ) → IsConsPlace (view ground.old) of.content at → (word_at (view ground.old).mem.store.words at).cdr ≡ Normal
         → ground.new.table ≡ ground.old.table) }
+    ensures stored { OnOk result ((at : ℕ) → IsConsPlace (view ground.old) of.content at → (word_at (view ground.old).mem.store.words at).cdr ≡ Normal
+        → MovesAtMost (view ground.old) (view ground.new) 0) }
 
-    // What is refused, and what is left then.
+    // What is refused, and what a refusal leaves unchanged.
     ensures not_a_cons { (result ≡ Err ListFault.NotACons) ↔ (tag_of of.content ≢ Tag.List) }
     ensures unread { result ≡ Err ListFault.NotACons → steps.new ≡ steps.old }
     ensures unstored { result ≡ Err ListFault.NotACons → StaysWhole (view ground.old) (view ground.new) }
@@ -93,12 +96,12 @@ pub fn set_cdr<M: Memory, L: Ledger>(
     ensures others { OnErr result (SettlesCellAtMost (view ground.old) (view ground.new) of.content) }
     ensures moves { OnErr result (MovesAtMost (view ground.old) (view ground.new) 1) }
 
-    // What stays of the ground.
+    // What is unchanged in the ground.
     ensures preserves { PreservesScanned (view ground.old) (view ground.new) }
     ensures stays_fresh { AllFresh (view ground.old) → AllFresh (view ground.new) }
     ensures marks { MarksCdr (view ground.old) (view ground.new) of.content }
 
-    // Faults.
+    // Swap errors.
     ensures tells { TellsIf (view ground.old).mem (view ground.new).mem steps.old steps.new (is_fault result) }
 
     // What is placed, and the cost.
@@ -118,7 +121,7 @@ pub fn set_cdr<M: Memory, L: Ledger>(
     Ok(())
 }
 
-// Lays a cell anew as a pair with another cdr. Its car is settled before.
+// Relocates a cell as a pair with another cdr. Its car is settled first.
 fn lay_pair<M: Memory, L: Ledger>(
     ground: &mut Ground<M>,
     cell: u32,
@@ -132,7 +135,7 @@ fn lay_pair<M: Memory, L: Ledger>(
     ensures set { OnOk result (SetsCdr (view ground.old) (view ground.new) (ListAt cell) cdr.content) }
     ensures relaid { OnOk result (RelaysCell (view ground.old) (view ground.new) cell cdr) }
 
-    // What a fault leaves, and what stays.
+    // After a swap error, and what is unchanged.
     ensures fault { OnErr result (KeepsCons (view ground.old) (view ground.new) (ListAt cell)) }
     ensures others { OnErr result (SettlesWordAtMost (view ground.old) (view ground.new) cell) }
     ensures moves { OnErr result (MovesAtMost (view ground.old) (view ground.new) 1) }
@@ -140,7 +143,7 @@ fn lay_pair<M: Memory, L: Ledger>(
     ensures stays_fresh { AllFresh (view ground.old) → AllFresh (view ground.new) }
     ensures marks { MarksFollow (view ground.old) (view ground.new) }
 
-    // Faults.
+    // Swap errors.
     ensures tells { Tells (view ground.old).mem (view ground.new).mem steps.old steps.new result }
 
     // What is placed, and the cost.
@@ -151,7 +154,7 @@ fn lay_pair<M: Memory, L: Ledger>(
     lay_settled(ground, cell, car, cdr, steps)
 }
 
-// Lays a cell with this settled word anew as a pair with another cdr.
+// Relocates a cell with this settled word as a pair with another cdr.
 fn lay_settled<M: Memory, L: Ledger>(
     ground: &mut Ground<M>,
     cell: u32,
@@ -162,12 +165,12 @@ fn lay_settled<M: Memory, L: Ledger>(
     requires set { CanSet (view ground.old) (plain (ListAt cell)) cdr }
     requires cell { IsCellAt (view ground.old) cell car }
 
-    // What is written, and where.
+    // What is written, and at which address.
     ensures set { OnOk result (SetsCdr (view ground.old) (view ground.new) (ListAt cell) cdr.content) }
     ensures laid { OnOk result (LaysPair (view ground.old) (view ground.new) cell car cdr
         × LiveSameBut (view ground.old) (view ground.new) cell) }
 
-    // What a fault leaves, and what stays.
+    // After a swap error, and what is unchanged.
     ensures fault { OnErr result (StaysOn (view ground.old) (view ground.new)) }
     ensures live { OnErr result (LiveSame (view ground.old) (view ground.new)) }
     ensures moves { OnErr result (MovesAtMost (view ground.old) (view ground.new) 0) }
@@ -175,7 +178,7 @@ fn lay_settled<M: Memory, L: Ledger>(
     ensures stays_fresh { FreshOn ground.old.table car.content → AllFresh (view ground.old) → AllFresh (view ground.new) }
     ensures marks { MarksFollow (view ground.old) (view ground.new) }
 
-    // What is placed, faults and the cost.
+    // What is placed, swap errors and the cost.
     ensures few { ground.new.table.placed ≤ ground.old.table.placed + 2 }
     ensures tells { Tells (view ground.old).mem (view ground.new).mem steps.old steps.new result }
     ensures cost { steps.new ≤ steps.old + 6 }

@@ -1,4 +1,4 @@
-//! A cons is found by a reference.
+//! Finds a cons by a reference.
 ghost use Rattle.std.specs.Prelude.{◌≡◌, ◌≢◌, ◌↔◌, ◌+◌, ◌<◌, ◌≤◌, Err, IfOk, IfSome};
 ghost use Rattle.mem_port.specs.View.{TellsIf, shown};
 ghost use Rattle.store_word.specs.Words.{tag_of};
@@ -13,15 +13,15 @@ use obj_layout::{Resolved, first_word, resolve_first};
 use std::sync::ledger::Ledger;
 use store_word::{CdrCode, Content, Steps, SwapFault, Tag, Word};
 
-/// Where a cons stands, and the cdr code of its first word.
+/// The address of a cons, and the cdr code of its first word.
 #[derive(Clone, Copy)]
 pub(crate) struct ConsHead {
     pub at: u32,
     pub code: CdrCode,
 }
 
-// Where the cons stands to which a word refers, and its first word if that was read on the way. It
-// takes at most 12 steps.
+// The address of the cons to which a word refers, and its first word if that was read on the way. It
+// takes at most 12 memory accesses.
 #[inline]
 pub(crate) fn find_first<M: Memory, L: Ledger>(
     mem: &mut M,
@@ -46,7 +46,7 @@ pub(crate) fn find_first<M: Memory, L: Ledger>(
     }
 }
 
-// The cons to which a word refers. It takes at most 13 steps.
+// The cons to which a word refers. It takes at most 13 memory accesses.
 pub(crate) fn read_cons<M: Memory, L: Ledger>(
     mem: &mut M,
     of: Word,

@@ -1,4 +1,4 @@
--- The shapes of a word: `--`, an option, a word that begins with one dash, and the others.
+-- The shapes of an argument: `--`, an option, an argument that begins with one dash, and the others.
 use Rattle.std.proofs.Common.{◌≡◌, ℕ, List, [], ◌∷◌, length, take, Bool, true, false, Some, None, refl, arith, tests, subst}
 use Rattle.std.specs.Prelude.{◌==◌, bytes_eq, codes, nat_lt}
 use Rattle.std.specs.List.{list_any, position_or_len}
@@ -7,14 +7,14 @@ use Rattle.std.proofs.lemmas.List.{take_all}
 use Rattle.clap.specs.Lexer.{long_of, short_of}
 use Rattle.command_words.specs.Words.{is_option}
 
--- the word is no `--` and no option, and begins with no dash that stands before more
+-- the argument isn't `--`, isn't an option, and doesn't begin with a dash that is followed by more
 pub record IsPlain (word : List ℕ) : Type 0 where
   pub dashes : bytes_eq word (codes "--") ≡ false
   pub option : is_option word ≡ false
   pub long : long_of word ≡ None
   pub short : short_of word ≡ None
 
--- the word begins with one dash alone
+-- the argument begins with one dash, and not with two
 pub record IsShort (y : ℕ) (ys : List ℕ) : Type 0 where
   pub dashes : bytes_eq (45 ∷ y ∷ ys) (codes "--") ≡ false
   pub option : is_option (45 ∷ y ∷ ys) ≡ false
@@ -51,9 +51,9 @@ pub kind : (word : List ℕ) → Kind word
 kind [] = plain [] (record { dashes = refl; option = refl; long = refl; short = refl })
 kind (x ∷ xs) = first x xs (x == 45) refl
 
--- Where a byte is
+-- The position of a byte
 
--- a byte is there exactly where its first place is within
+-- some byte passes the test if and only if the first position that passes is within the list
 pub any_within : {X : Type 0} (p : X → Bool) (xs : List X) → list_any p xs ≡ nat_lt (position_or_len p xs) (length xs)
 any_within p [] = refl
 any_within p (x ∷ xs) = grind (arith, tests, nat_tests, any_within p xs)

@@ -1,4 +1,4 @@
--- The options by their names, and which modes go with them.
+-- The options by their names, and the modes that take them.
 use Rattle.std.proofs.Common.{◌≡◌, ℕ, List, [], ◌∷◌, ◌++◌, Bool, true, false, Option, Some, None, refl}
 use Rattle.std.specs.Prelude.{◌&&◌, bytes_eq, codes, ◌-◌, ◌^◌, if◌then◌else◌}
 use Rattle.std.specs.Option.{option_and_then}
@@ -20,7 +20,7 @@ text Object = codes "object"
 text Number = codes "number"
 text Count = codes "count"
 
--- what was given of each
+-- the value given for each option
 pub record Values : Type 0 where
   pub object : Option Text
   pub number : Option Text
@@ -42,7 +42,7 @@ put Count v g = record { object = g.object; number = g.number; count = Some v }
 abbrev pub options_of : Values → List (Text × Text)
 options_of g = options_in g.object g.number g.count
 
--- Options with which no mode goes
+-- Options that no mode takes
 
 pub record IsUseless (option : Text × Text) : Type 0 where
   pub alone : (mode : ModeName) → with_one mode option ≡ None

@@ -1,4 +1,4 @@
--- Rows that show a word for the mode and the options' values.
+-- Rows that show an argument for the mode and the values of options.
 use Rattle.std.proofs.Common.{◌≡◌, List, [], ◌∷◌, ◌++◌, Bool, true, false, Option, Some, None, refl, ap, ◌∙◌}
 use Rattle.std.specs.Prelude.{◌||◌, bytes_eq, codes, find, is_some, slice_get}
 use Rattle.std.specs.List.{list_any}
@@ -15,7 +15,7 @@ use Rattle.command_words.proofs.Options.{Name, Object, Number, Count, Values, no
 abbrev pub row : Text → Text → Row
 row id value = record { id = id; values = value ∷ []; count = None; source = Some CommandLine; reading = reading_of vp.String }
 
--- the rows have this for the id
+-- the rows have this value for the id
 pub record IsAt (id : Text) (r : List Row) (value : Option Text) : Type 0 where
   pub first : first_of id r ≡ value
   pub there : has_row id r ≡ is_some value
@@ -25,7 +25,7 @@ pub record Shows (r : List Row) (word : Option Text) (g : Values) : Type 0 where
   pub mode : IsAt (codes "mode") r word
   pub option : (name : Name) → IsAt (text name) r (value_of name g)
 
--- One row more
+-- One more row
 
 abbrev is : Text → Row → Bool
 is id r = bytes_eq r.id id
@@ -41,7 +41,7 @@ none_found p (x ∷ r) none =
     let fails = n.0 in
     rw fails (none_found p r n.1)
 
--- where fails row passes the test, the new one decides
+-- if no earlier row passes the test, the new row decides
 decides : (p : Row → Bool) (r : List Row) (x : Row) → list_any p r ≡ false → find p (r ++ x ∷ []) ≡ find p (x ∷ [])
 decides p r x none = find-append p r (x ∷ []) ∙ ap (λ f. option_or f (find p (x ∷ []))) (none_found p r none)
 
@@ -78,7 +78,7 @@ added id v r same none = record {
   given = ap (λ (f : Option Row). option_map_or (λ (x : Row). explicit_source x.source) f false) (decides (is id) r (row id v) none) ∙ rw same refl;
 }
 
--- rows are put at the end where none has the id
+-- if no row has the id, rows are appended
 pub at_end : (id : Text) (change : Row → List Row) (missing r : List Row) → has_row id r ≡ false → at_row id change missing r ≡ r ++ missing
 at_end id change missing [] none = refl
 at_end id change missing (x ∷ r) none =

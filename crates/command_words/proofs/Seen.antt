@@ -1,4 +1,4 @@
--- What the parser found so far, a word for the mode and the options' values, and what the words ask for with what stands behind them.
+-- What the parser found so far, an argument for the mode and the values of options, and what they request together with the arguments that follow.
 use Rattle.std.proofs.Common.{◌≡◌, ℕ, List, [], ◌∷◌, ◌++◌, Option, Some, None, refl, ap}
 use Rattle.std.specs.Option.{option_and_then}
 use Rattle.clap.specs.Walk.{Text}
@@ -8,20 +8,20 @@ use Rattle.command_words.specs.Words.{Parts, mode_in, mode_with, name_in, name_o
 use Rattle.command_words.specs.Given.{with_word}
 use Rattle.command_words.proofs.Options.{IsUseless, Name, Values, new, options_of, put, text, twice, useless_in, value_of}
 
--- where the next word for the mode would stand
+-- the position of the next argument for the mode
 abbrev pub position : Option Text → ℕ
 position None = 1
 position (Some word) = 2
 
--- what was seen, with these parts behind it
+-- what was found, followed by these parts
 abbrev pub onto : Option Text → Values → Parts → Parts
 onto word g parts = record { options = options_of g ++ parts.options; modes = with_word word parts.modes }
 
--- the mode that they ask for
+-- the mode that all of them request
 abbrev pub all : Option Text → Values → Option Parts → Option Mode
 all word g parts = option_and_then (λ p. mode_in (onto word g p)) parts
 
--- A word for the mode
+-- An argument for the mode
 
 pub word_first : (word : Text) (g : Values) (parts : Option Parts) → all None g (with_mode word parts) ≡ all (Some word) g parts
 word_first word g None = refl
@@ -39,7 +39,7 @@ one_wrong : (word : Text) (options : List (Text × Text)) (modes : List Text) �
 one_wrong word options [] wrong = ap (option_and_then (mode_with options)) wrong
 one_wrong word options (other ∷ modes) wrong = refl
 
--- a word that is no mode's name
+-- an argument that is no mode's name
 pub word_wrong : (given : Option Text) (word : Text) (g : Values) (parts : Option Parts) → name_of word ≡ None → all given g (with_mode word parts) ≡ None
 word_wrong given word g None wrong = refl
 word_wrong None word g (Some parts) wrong = one_wrong word (options_of g ++ parts.options) parts.modes wrong

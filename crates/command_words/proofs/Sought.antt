@@ -1,4 +1,4 @@
--- What the walk comes to is the mode that the words ask for.
+-- The walk results in the mode that the arguments request.
 use Rattle.std.proofs.Common.{◌≡◌, ℕ, List, [], ◌∷◌, ◌++◌, length, Bool, true, false, Option, Some, None, refl, sym, ap, ap₂, ◌∙◌, subst}
 use Rattle.std.specs.Prelude.{◌==◌, ◌&&◌, ◌||◌, bytes_eq, codes, nat_lt, drop, if◌then◌else◌, is_some}
 use Rattle.std.proofs.lemmas.List.{append-nil}
@@ -66,7 +66,7 @@ other_rule name is =
 
 -- What is pending, once it is used
 
--- what is pending can be used, and then the rows show these
+-- what is pending can be used, and then the rows show these values
 record Stands (r : List Row) (p : Option (Text × List Text)) (word : Option Text) (g : Values) : Type 0 where
   pub settle : settle_fault rules false (hold r p) ≡ []
   pub rows : Shows (settled_rows rules p r) word g
@@ -167,7 +167,7 @@ unused Object r = record { first = InvalidValue; others = []; is = refl }
 unused Number r = record { first = InvalidValue; others = []; is = refl }
 unused Count r = record { first = InvalidValue; others = []; is = refl }
 
--- Behind `--`
+-- After `--`
 
 trails : (words : List Text) (given : Option Text) (g : Values) (r : List Row) (p : Option (Text × List Text)) (waiting : Waiting) → Stands r p given g
     → reach (at (hold r p) waiting (position given) true) words ≡ all given g (Some (record { options = []; modes = words }))
@@ -188,7 +188,7 @@ abbrev Waits : List Text → Type 0
 Waits words = (name : Name) (given : Option Text) (g : Values) (r : List Row) → Shows r given g
     → reach (at (hold r (waiting_for name)) (option (text name)) (position given) false) words ≡ all given g (parts_of (Some (text name)) words)
 
--- a word for the mode
+-- an argument for the mode
 mode_idle : (given : Option Text) (g : Values) (r : List Row) (p : Option (Text × List Text)) (word : Text) (words : List Text) → Stands r p given g → Idles words
     → as_mode (at (hold r p) idle (position given) false) word words (hold r p) ≡ all given g (with_mode word (parts_of None words))
 mode_idle None g r p word words s idles =
@@ -256,7 +256,7 @@ option_reads name given g r p v body word words is_there s idles waits whole (ot
 option_reads name given g r p v body word words is_there s idles waits whole (known n) =
     ap (λ (a : Option Rule). long_turn a (value_if is_there v) (hold r p) idle (position given) word words) (known_rule n) ∙ known_reads n given g r p v body word words is_there s idles waits whole
 
--- the words of which no flag is made
+-- the parts of the arguments, by the shape of the first one
 abbrev if_plain : Bool → Bool → Text → List Text → Option Parts
 if_plain d o word words =
     if d then Some (record { options = []; modes = words })
@@ -319,7 +319,7 @@ both [] = (
 )
 both (word ∷ words) = let rest = both words in (idle_turn word words (kind word) rest.0 rest.1, wait_turn word words (kind word) rest.0)
 
--- The whole
+-- All arguments
 
 seen_nothing : (parts : Option Parts) → all None no_values parts ≡ option_and_then mode_in parts
 seen_nothing None = refl
@@ -335,7 +335,7 @@ reads : (command : App) (words : List Text) (m : Found) (id : Text) (value : Opt
     → value ≡ first_of id (matches_of lispm words)
 reads command words m id value is rows given = given ∙ first_value-rows m id ∙ ap (first_of id) (rows ∙ ap (λ (a : App). matches_of a words) is)
 
--- where the parser found these
+-- if the parser found these
 pub found : (command : App) (words : List Text) (m : Found) (word object number count : Option Text) → command ≡ lispm → fault_of command words ≡ [] → rows_of m ≡ matches_of command words
     → word ≡ first_value m (codes "mode") → object ≡ first_value m (codes "object") → number ≡ first_value m (codes "number") → count ≡ first_value m (codes "count")
     → asked word object number count ≡ option_and_then mode_in (parts_of None words)
@@ -351,7 +351,7 @@ some_kind : (kinds : Kinds) (kind : ErrorKind) (mode : Option Mode) → IsAmong 
 some_kind [] kind mode is = elim is [ ]
 some_kind (k ∷ ks) kind mode is = refl
 
--- where it failed, and not since memory ran out
+-- if it failed, and not because memory ran out
 pub failed : (command : App) (words : List Text) (kind : ErrorKind) → command ≡ lispm → IsAmong kind (fault_of command words) → option_and_then mode_in (parts_of None words) ≡ None
 failed command words kind is among =
     sym (sought words) ∙ some_kind (fault_of lispm words) kind (answer (matches_of lispm words)) (subst (λ (a : App). IsAmong kind (fault_of a words)) is among)

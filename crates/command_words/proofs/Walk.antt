@@ -1,4 +1,4 @@
--- The parser's walk over the words, and what they ask for.
+-- The parser's walk over the arguments, and what they request.
 use Rattle.std.proofs.Common.{◌≡◌, ℕ, List, [], ◌∷◌, length, take, Bool, true, false, Option, Some, None, refl, sym, ap, ap₂, ◌∙◌}
 use Rattle.std.specs.Prelude.{◌&&◌, ◌||◌, bytes_eq, codes, fold, drop, ◌+◌, if◌then◌else◌, is_some, not, slice_get}
 use Rattle.std.specs.Option.{option_map_or}
@@ -52,7 +52,7 @@ at h waiting position is_trailing = record { held = h; waiting = waiting; positi
 abbrev pub waiting_for : Name → Option (Text × List Text)
 waiting_for name = Some (text name, [])
 
--- what comes of the kinds of a failure: none, or else this
+-- what results from the kinds of a failure: none if there are any, otherwise this mode
 abbrev pub outcome : Kinds → Option Mode → Option Mode
 outcome [] mode = mode
 outcome (k ∷ ks) mode = None
@@ -60,7 +60,7 @@ outcome (k ∷ ks) mode = None
 abbrev pub answer : List Row → Option Mode
 answer found = asked (first_of (codes "mode") found) (first_of (codes "object") found) (first_of (codes "number") found) (first_of (codes "count") found)
 
--- what comes of the walk's end, once what is pending was used
+-- what results from the end of the walk, once what is pending was used
 abbrev pub closing : Kinds → List Row → Option Mode
 closing settle used =
     outcome (or_else settle (or_else (defaults_fault used rules) (check_fault shape (fold with_default used rules) false))) (answer (fold with_default used rules))
@@ -68,7 +68,7 @@ closing settle used =
 abbrev pub ending : Held → Option Mode
 ending h = closing (settle_fault rules false h) (settled rules h).rows
 
--- what comes of the words from here on
+-- what results from the arguments from here on
 abbrev pub reach : Walk → List Text → Option Mode
 reach w [] = ending w.held
 reach w (word ∷ words) = outcome (turn_fault shape [] w word) (reach (walked rules [] w word) words)
@@ -153,13 +153,13 @@ end_waiting Object r = refl
 end_waiting Number r = refl
 end_waiting Count r = refl
 
--- Words that stand for the mode
+-- Arguments that name the mode
 
--- the word goes to the next place for the mode
+-- the argument goes to the next position for the mode
 abbrev pub as_mode : Walk → Text → List Text → Held → Option Mode
 as_mode w word words h = outcome (step_fault shape w.position h value) (reach (to_positional rules (arg_by_index rules w.position) word w h) words)
 
--- where nothing was given for the mode
+-- if no argument for the mode was given before
 abbrev pub first_mode : Kinds → List Row → Bool → Text → List Text → Option Mode
 first_mode settle used is_trailing word words =
     outcome settle (reach (at (hold used (Some (codes "mode", word ∷ []))) idle 2 is_trailing) words)
@@ -179,7 +179,7 @@ mode_first r (Some (id, values)) waiting false word words =
 mode_first r (Some (id, values)) waiting true word words =
     mode_by (bytes_eq id (codes "mode")) (settle_fault rules false (hold r (Some (id, values)))) (settled_rows rules (Some (id, values)) r) (hold r (Some (id, values))) true word words
 
--- Words in their shapes
+-- Arguments by their shapes
 
 -- an option
 abbrev pub long_turn : Option Rule → Option Text → Held → Waiting → ℕ → Text → List Text → Option Mode
@@ -208,7 +208,7 @@ pub option_waits : (name : Text) (h : Held) (q b : ℕ) (body : Text) (words : L
 unfolding walked
 option_waits name h q b body words = refl
 
--- a word that is no flag
+-- an argument that isn't a flag
 abbrev pub step_turn : Held → Waiting → ℕ → Text → List Text → Held × Step → Kinds → Option Mode
 step_turn h waiting q word words met fault =
     outcome (or_else fault (step_fault shape q met.0 met.1)) (reach (after_step rules word (at h waiting q false) met.0 met.1) words)
@@ -221,7 +221,7 @@ abbrev pub short_seen : Held → Waiting → ℕ → Text → List Text → Opti
 short_seen h waiting q word words s =
     step_turn h waiting q word words (short_or_plain rules waiting word s h) (option_map_or (λ flags. bundle_fault rules false flags h) s [])
 
--- the first letter behind a dash
+-- the first letter after a dash
 abbrev pub letter_seen : Held → Waiting → ℕ → Text → Text → List Text → Option ℕ → Option Mode
 letter_seen h waiting q word flags words x =
     let met = bundle_step rules x flags 0 plain h (bundle_met rules (length (drop 1 flags))) in

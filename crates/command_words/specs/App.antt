@@ -1,19 +1,19 @@
--- What a parse reads of the program's command.
+-- What the parser reads from the program's command.
 use Rattle.std.specs.Prelude.{true, ℕ, List, Some, codes}
 use Rattle.clap.specs.Words.{App, new_app, new_rule, with_rule}
 use Rattle.clap.specs.Simple.{on_top}
 use Rattle.clap.specs.Walk.{Rule}
 use Rattle.clap.specs.declared.builder.action.ArgAction.TheVariants.{Set}
 
--- the word for the mode
+-- the argument for the mode
 abbrev pub mode : Rule
 mode = record (new_rule (codes "mode")) { required = true }
 
--- an option of this name
+-- the option of this name
 abbrev pub named : List ℕ → Rule
 named name = record (new_rule name) { long = Some name; action = Some Set }
 
--- the command
+-- the whole command
 abbrev pub lispm : App
 lispm =
     with_rule

@@ -1,4 +1,4 @@
--- The words of the command line, and the mode that they ask for.
+-- The arguments of the program, and the mode that they request.
 use Rattle.std.specs.Prelude.{ℕ, ◌+◌, ◌-◌, ◌^◌, ◌≤◌, List, [], ◌∷◌, map, take, drop, Bool, ◌==◌, ◌&&◌, if◌then◌else◌, bytes_eq, codes, eqb, string_bytes, String, length, nat_lt, Option, Some, None}
 use Rattle.std.specs.List.{position_or_len, starts_with}
 use Rattle.std.specs.Option.{option_and_then}
@@ -9,34 +9,34 @@ use Rattle.command_words.specs.declared.mode.FileMode.TheVariants as F
 use Rattle.command_words.specs.declared.mode.ModeName.{ModeName}
 use Rattle.command_words.specs.declared.mode.ModeName.TheVariants as N
 
--- The words in their parts
+-- The parts of the arguments
 
--- the options with their values, and the words that stand for the mode
+-- the options with their values, and the arguments that name a mode
 pub record Parts : Type 0 where
   pub options : List (List ℕ × List ℕ)
   pub modes : List (List ℕ)
 
--- an option with its value in front
+-- with an option and its value in front
 abbrev pub with_option : List ℕ → List ℕ → Option Parts → Option Parts
 with_option name value parts = option_and_then (λ p. Some (record { options = (name, value) ∷ p.options; modes = p.modes })) parts
 
--- a word that stands for the mode in front
+-- with an argument that names a mode in front
 abbrev pub with_mode : List ℕ → Option Parts → Option Parts
 with_mode word parts = option_and_then (λ p. Some (record { options = p.options; modes = word ∷ p.modes })) parts
 
--- a word that begins with `--`
+-- an argument that begins with `--`
 abbrev pub is_option : List ℕ → Bool
 is_option word = starts_with eqb word (codes "--")
 
--- where the first `=` stands, or the length where none does
+-- the position of the first `=`, or the length if there is none
 abbrev pub equals_at : List ℕ → ℕ
 equals_at body = position_or_len (λ byte. byte == 61) body
 
--- what stands behind the `--` of an option has its value in it
+-- the text after the `--` of an option contains its value
 abbrev pub has_value : List ℕ → Bool
 has_value body = nat_lt (equals_at body) (length body)
 
--- the words from left to right, where an option `--x` may wait for the next word as its value; none where it waits in vain
+-- the arguments from left to right, after an option `--x`, if any, that needs the next argument as its value; none if there is no next one
 unfoldable pub parts_of : Option (List ℕ) → List (List ℕ) → Option Parts
 parts_of None [] = Some (record { options = []; modes = [] })
 parts_of (Some name) [] = None
@@ -49,7 +49,7 @@ parts_of None (word ∷ words) =
     else parts_of (Some body) words)
     else with_mode word (parts_of None words)
 
--- What the parts ask for
+-- What the parts request
 
 -- the modes by their names
 abbrev pub name_of : List ℕ → Option ModeName
@@ -62,7 +62,7 @@ name_of word =
     else if bytes_eq word (codes "census") then Some N.Census
     else None
 
--- one word stands for the mode, and is its name
+-- exactly one argument names a mode, and this is the mode's name
 abbrev pub name_in : List (List ℕ) → Option ModeName
 name_in (word ∷ []) = name_of word
 name_in words = None
@@ -75,11 +75,11 @@ plain_mode N.Compile = Some (M.OfFile F.Compile)
 plain_mode N.Census = Some (M.OfFile F.Census)
 plain_mode name = None
 
--- `why` of an object, a number of 32 bits
+-- `why` of the object with this number of 32 bits
 abbrev pub why_mode : List ℕ → Option Mode
 why_mode object = option_and_then (λ k. Some (M.OfFile (F.Why k))) (number_in 0 (2 ^ 32 - 1) object)
 
--- `exercise` of a number of 32 bits and a count of commands
+-- `exercise` with this number of 32 bits and this count of commands
 abbrev pub exercise_mode : List ℕ → List ℕ → Option Mode
 exercise_mode number count =
     option_and_then (λ n. option_and_then (λ k. Some (M.Exercise n k)) (number_in 0 1000000 count)) (number_in 0 (2 ^ 32 - 1) number)
@@ -97,26 +97,26 @@ with_two N.Exercise first second =
     else None
 with_two name first second = None
 
--- a mode with all the options that were given
+-- the mode of this name with all options that were given
 abbrev pub mode_with : List (List ℕ × List ℕ) → ModeName → Option Mode
 mode_with [] name = plain_mode name
 mode_with (option ∷ []) name = with_one name option
 mode_with (first ∷ second ∷ []) name = with_two name first second
 mode_with options name = None
 
--- the mode that the parts ask for
+-- the mode that the parts request
 abbrev pub mode_in : Parts → Option Mode
 mode_in parts = option_and_then (mode_with parts.options) (name_in parts.modes)
 
--- the words as bytes
+-- the arguments as bytes
 abbrev pub texts : {A : Type 0} → List (String A) → List (List ℕ)
 texts words = map string_bytes words
 
--- the mode that the words ask for
+-- the mode that the arguments request
 abbrev pub mode_of : {A : Type 0} → List (String A) → Option Mode
 mode_of words = option_and_then mode_in (parts_of None (texts words))
 
--- an exercise has at most so many commands
+-- an exercise has at most 1,000,000 commands
 abbrev pub IsInRange : Option Mode → Type 0
 IsInRange (Some (M.Exercise number count)) = count ≤ 1000000
 IsInRange mode = Unit {0}

@@ -1,7 +1,7 @@
-//! The words of the command line, and the mode that they ask for.
+//! The arguments of the program, and the mode that they request.
 //!
-//! `read_words` takes the words behind the program's name. Which words are accepted, and what they ask for, is one definition,
-//! `mode_of` of specs/Words. The words are parsed with `clap`; proofs/Sought shows that its walk over the words comes to that
+//! `read_words` takes the arguments after the program's name. Which arguments are accepted, and what they request, is one definition,
+//! `mode_of` of specs/Words. The arguments are parsed with `clap`; proofs/Sought shows that its walk over them agrees with that
 //! definition. Begin with `mode`, then `read`.
 #![tactic(auto)]
 

@@ -1,4 +1,4 @@
-//! The modes, and what names them.
+//! The modes, and the arguments that name them.
 ghost use Rattle.std.specs.Prelude.{◌≡◌};
 ghost use Rattle.command_words.specs.Words.{exercise_mode, name_of, plain_mode, why_mode};
 
@@ -7,25 +7,25 @@ use world_text::number_in;
 /// The most commands of an exercise.
 const MOST_COMMANDS: u32 = 1_000_000;
 
-/// What the program is to do.
+/// What the program has to do.
 #[derive(Clone, Copy, Debug, PartialEq, Eq)]
 pub enum Mode {
-    /// Run the commands behind a world.
+    /// Run the commands after a world.
     Replay,
 
-    /// Run commands that are made, and count their replies.
+    /// Run a generated input, and count its replies.
     Exercise {
-        /// From which number they are drawn: 0 to 4,294,967,295.
+        /// The number from which the input is generated: 0 to 4,294,967,295.
         number: u32,
-        /// How many commands are made: 0 to 1,000,000.
+        /// The number of generated commands: 0 to 1,000,000.
         count: u32,
     },
 
-    /// Answer what is asked of a file.
+    /// Answer what is requested about a file.
     OfFile(FileMode),
 }
 
-/// What is asked of a file: of a world file, or of a text of expressions.
+/// What is requested about a file: about a world file, or a text of S-expressions.
 #[derive(Clone, Copy, Debug, PartialEq, Eq)]
 pub enum FileMode {
     /// Why an object of a world file is held.
@@ -34,17 +34,17 @@ pub enum FileMode {
         object: u32,
     },
 
-    /// How many objects of each kind a world file has, and how many of them are reached.
+    /// How many objects of each kind a world file has, and how many of them are reachable.
     Census,
 
-    /// The world of a world file as expressions.
+    /// The world of a world file as S-expressions.
     Print,
 
-    /// The dump of the world that a text of expressions means.
+    /// The dump of the world that a text of S-expressions means.
     Compile,
 }
 
-/// The word that stands for a mode.
+/// The argument that names a mode.
 #[derive(Clone, Copy, Debug, PartialEq, Eq)]
 pub enum ModeName {
     Replay,
@@ -55,7 +55,7 @@ pub enum ModeName {
     Census,
 }
 
-/// The name that this word is.
+/// The mode name that this argument is.
 pub fn name_of(word: &[u8]) -> Option<ModeName>
     ensures { result ≡ name_of word.now }
 {
@@ -80,7 +80,7 @@ pub fn name_of(word: &[u8]) -> Option<ModeName>
     None
 }
 
-/// The mode of this name, where no option is given.
+/// The mode of this name, if no option is given.
 pub fn plain_mode(name: ModeName) -> Option<Mode>
     ensures { result ≡ plain_mode name }
 {
@@ -93,7 +93,7 @@ pub fn plain_mode(name: ModeName) -> Option<Mode>
     }
 }
 
-/// `why` of the object that this text says.
+/// `why` of the object with the number in this text.
 pub fn why_mode(object: &[u8]) -> Option<Mode>
     ensures { result ≡ why_mode object.now }
 {
@@ -101,7 +101,7 @@ pub fn why_mode(object: &[u8]) -> Option<Mode>
     Some(Mode::OfFile(FileMode::Why { object }))
 }
 
-/// `exercise` of the number and the count that these texts say.
+/// `exercise` with the number and the count in these texts.
 pub fn exercise_mode(number: &[u8], count: &[u8]) -> Option<Mode>
     ensures { result ≡ exercise_mode number.now count.now }
 {

@@ -1,4 +1,4 @@
-//! Reading the words.
+//! Reading the arguments.
 ghost use Rattle.std.specs.Prelude.{◌≡◌, IfOk, option_map};
 ghost use Rattle.clap.specs.Words.{app_of, with_rule};
 ghost use Rattle.command_words.specs.App.{lispm, named};
@@ -22,7 +22,7 @@ fn with_option<'a>(
     command.arg(Arg::new(alloc, name).long(name).action(ArgAction::Set))
 }
 
-/// The command that the words are read by: a word for the mode, which must be there, and three options.
+/// The command by which the arguments are parsed: one argument for the mode, which is required, and three options.
 fn command<'a>(alloc: Global) -> Result<Command<'a>, AllocError>
     ensures { IfOk result (λ command. app_of command ≡ lispm) }
 {
@@ -36,7 +36,7 @@ fn command<'a>(alloc: Global) -> Result<Command<'a>, AllocError>
     with_option(alloc, command, "count")
 }
 
-/// The mode that a word for it and the options' texts ask for, where they were given.
+/// The mode that is requested by its name and the texts of the options, those that were given.
 fn asked(
     word: Option<&str>,
     object: Option<&str>,
@@ -57,15 +57,15 @@ fn asked(
     }
 }
 
-/// The mode that the words behind the program's name ask for, or none where they are refused.
+/// The mode that the arguments after the program's name request, or none if they are refused.
 ///
-/// Up to a first word `--`, the word `--x=V`, split at its first `=`, gives the option x the value V, and the word `--x` takes
-/// the word after it as its value, whatever that is. The first `--` is passed over. Each other word, and each word behind that
-/// `--`, stands for the mode. The words are refused where an option other than `object`, `number` and `count` is given, one has no
-/// value or comes twice, and where the mode is missing, comes twice or is no mode. `why` takes the option `object`, and `exercise` both
-/// `number` and `count`; where one of them is missing, or any other option is given, the words are refused. A value is a number in
+/// Up to a first argument `--`, the argument `--x=V`, split at its first `=`, gives the option x the value V, and the argument `--x` takes
+/// the argument after it as its value, whatever that is. The first `--` is skipped. Each other argument, and each argument after that
+/// `--`, names the mode. The arguments are refused if an option other than `object`, `number` and `count` is given, if an option has no
+/// value or is given twice, and if the mode is missing, is given twice or is no mode. `why` takes the option `object`, and `exercise` both
+/// `number` and `count`; if one of these is missing, or any other option is given, the arguments are refused. A value is a number in
 /// decimal digits, without a sign or a leading zero: from 0 to 1,000,000 for `count`, and from 0 to 4,294,967,295 for the others.
-/// It fails only where memory runs out.
+/// It fails only if memory runs out.
 pub fn read_words(alloc: Global, words: &[String]) -> Result<Option<Mode>, NoMemory>
     ensures mode { IfOk result (λ mode. mode ≡ mode_of words.now) }
     ensures few { IfOk result IsInRange }

@@ -42,7 +42,7 @@ use Rattle.dump_laws.proofs.Printable.{IsPrintable, lines_printable, printable_b
 use Rattle.dump_laws.proofs.Lengths.{AreFew, IsShort, few_append, head_few, objects_short, roots_few, text_append}
 use Rattle.dump_laws.proofs.Totals.{total_bound}
 
--- What is known of the space, the areas, the objects and the roots that are said
+-- What is known of the space, the areas, the objects and the roots in the lines
 
 pub record IsSaid (space : Space) (areas : List AreaRule) (objects : List Object) (roots : List Value) : Type 0 where
   pub space_fits : IsSpace space
@@ -55,7 +55,7 @@ pub record IsSaid (space : Space) (areas : List AreaRule) (objects : List Object
   pub count : length roots ≡ space.registers
   pub good : All (IsRoot (length objects)) roots
 
--- the world that is said
+-- the world that the lines mean
 abbrev pub said_world : Space → List AreaRule → List Object → List Value → World
 said_world space areas objects roots = record { space = space; areas = areas; objects = loaded objects; roots = roots }
 
@@ -73,7 +73,7 @@ loaded_refer objects refer =
     let long : length (loaded objects) ≡ length objects = loaded_long 0 0 objects in
     subst (λ n. All (λ (o : Object). PartsReferBelow n o.body) (loaded objects)) (sym long) (bodies_hold (PartsReferBelow (length objects)) 0 0 objects refer)
 
--- the place behind the objects
+-- the place after the objects
 objects_to : (file : Bool) (space : Space) (areas : List AreaRule) (objects : List Object) (roots : List Value) → IsSaid space areas objects roots → (head : HeadTo file space areas)
     → AddTo areas head.next (object_lines_of 0 0 objects) (loaded objects)
 objects_to file space areas objects roots said head =
@@ -83,7 +83,7 @@ objects_to file space areas objects roots said head =
     subst (λ (w : World). charged_in area (w.objects ++ loaded objects) ≤ quota_in w.areas area) (sym head.world) (said.fits area inside) in
     objects_read areas head.next 0 0 objects head.leads.reached (sym (ap (λ (w : World). w.areas) head.world)) takes head.second (ap (λ (w : World). length w.objects) head.world) (omega arith) said.sayable fits
 
--- the world behind the objects
+-- the world after the objects
 abbrev with_objects : Space → List AreaRule → List Object → World
 with_objects space areas objects = record { space = space; areas = areas; objects = loaded objects; roots = replicate space.registers Nil }
 
@@ -110,7 +110,7 @@ before_roots file space areas objects roots said head added =
 
 -- The lines are read
 
--- all lines before the last, and what is known of the place behind them
+-- all lines before the last, and what is known of the place after them
 pub record AllRead (file : Bool) (space : Space) (areas : List AreaRule) (objects : List Object) (roots : List Value) : Type 0 where
   pub says : SayWorld file (map (spelled areas) (said_lines space areas objects roots)) (said_world space areas objects roots)
   pub accepted : IsAccepted (said_world space areas objects roots)

@@ -42,7 +42,7 @@ value_good keys (Block key) small few = number_written keys key (number_of keys 
 pub values_good : (keys : List ℕ) (values : List Seen) → All IsInteger values → length keys < 2 ^ 32 → All (IsRoot (length keys)) (map (dumped_value keys) values)
 values_good keys values small few = All-map (IsRoot (length keys)) (dumped_value keys) values (λ index default within. value_good keys _ (small index default within) few)
 
--- what holds of values and of nil holds of each place
+-- what is true of values and of nil is true at each place
 at_place : (P : Value → Type 0) (values : List Value) (place : ℕ) → P V.Nil → All P values → P (value_at values place)
 at_place P values place nil holds = elim (cases_lt place (length values)) [
   | inl within ↦ All-get_or P values place V.Nil within holds
@@ -70,7 +70,7 @@ body_wide false code values few = few
 pub fields_count : (graph : KeyedGraph) (keys : List ℕ) (key : ℕ) → length (map (dumped_value keys) (fields_of graph key)) ≡ (graph.form key).length
 fields_count graph keys key = length-map (fields_of graph key) (dumped_value keys) ∙ fields_long graph key 0 (graph.form key).length
 
--- an object of a dump can be said by a line, and refers to others of the dump
+-- a line can mean an object of a dump, which refers to others of the dump
 pub object_good : (graph : KeyedGraph) (areas : ℕ) (keys : List ℕ) (key : ℕ) → IsWithin areas graph key → length keys < 2 ^ 32
     → IsSayable areas (dumped_object graph keys key) × PartsReferBelow (length keys) (dumped_object graph keys key).body
 object_good graph areas keys key within few =
@@ -125,6 +125,6 @@ body_with graph keys number key is = loaded_body 0 0 (map (dumped_object graph k
 pub area_with : (graph : KeyedGraph) (keys : List ℕ) (number key : ℕ) → slice_get keys number ≡ Some key → (object_at (loaded (map (dumped_object graph keys) keys)) number).area ≡ (graph.form key).area
 area_with graph keys number key is = loaded_area 0 0 (map (dumped_object graph keys) keys) number no_object ∙ ap (λ (o : Object). o.area) (object_with graph keys number key is)
 
--- what holds of the bodies holds of those that are read
+-- what is true of the bodies is true of those that are read
 pub bodies_hold : (P : Body → Type 0) (skip number : ℕ) (objects : List Object) → All (λ object. P object.body) objects → All (λ object. P object.body) (loaded_from skip number objects)
 bodies_hold P skip number objects holds = λ index default within. subst P (sym (loaded_body skip number objects index default)) (holds index default (omega (arith, within, loaded_long skip number objects)))

@@ -1,4 +1,4 @@
--- A dump is what the function says.
+-- A dump is the one that the function computes.
 use Rattle.std.proofs.Common.{◌≡◌, ℕ, zero, suc, ◌+◌, ◌^◌, ◌≤◌, inl, inr, Bool, refl, sym, ◌∙◌, ap, List, [], ◌∷◌, ◌++◌, length, slice_get, Option, cond, arith}
 use Rattle.std.proofs.lemmas.List.{length-append}
 use Rattle.std.proofs.lemmas.Option.{slice_get_past, slice_get_within}
@@ -36,7 +36,7 @@ walked-suc : (left n : ℕ) (graph : KeyedGraph) (keys : List ℕ) (number : ℕ
 unfolding walked
 walked-suc left n graph keys number = refl
 
--- the keys only become more
+-- keys are only added
 chain_grows : (graph : KeyedGraph) (keys all : List ℕ) (key : ℕ) → Chained graph keys key all → length keys + 1 ≤ length all
 chain_grows graph keys all key (ends _ _ e) = let l = longer keys key in omega arith
 chain_grows graph keys all key (goes _ _ next _ e rest) = let l = longer keys key in let h = chain_grows graph (keys ++ key ∷ []) all next rest in omega arith
@@ -59,7 +59,7 @@ walk_grows graph keys all number (done _ _ l) = omega arith
 walk_grows graph keys all number (step _ middle _ _ key e x rest) =
     let a = visits_grow graph keys middle (fields_of graph key) x in let b = walk_grows graph middle all (number + 1) rest in omega arith
 
--- each is the function's, where there is enough
+-- each is what the function computes, if it may take enough steps
 chain_is : (n : ℕ) (graph : KeyedGraph) (keys all : List ℕ) (key : ℕ) → Chained graph keys key all → length all ≤ length keys + n → chained n graph keys key ≡ all
 chain_is zero graph keys all key x few = absurd (let g = chain_grows graph keys all key x in omega arith)
 chain_is (suc n) graph keys all key (ends _ _ e) few = chained-suc n graph keys key ∙ ap (λ (o : Option ℕ). onto_next o (keys ++ key ∷ []) (chained n graph (keys ++ key ∷ []))) e

@@ -14,7 +14,7 @@ use Rattle.dump_laws.proofs.Numbered.{OnceEach, Within, numbered_front, numbered
 pub use Rattle.trace_text.specs.world_text.writing.Visits.{Grows}
 pub use Rattle.trace_text.proofs.world_text.writing_laws.Numbers.{all_grow, chain_grows, grows_none, grows_one, grows_twice, walk_grows}
 
--- More keys behind those that were there
+-- More keys after those before
 
 pub grows_within : {keys all : List ℕ} → Grows keys all → Within keys all
 grows_within {keys} {all} grows = λ key is. subst (λ (l : List ℕ). is_numbered l key ≡ true) (sym grows.is) (numbered_front keys grows.later key is)
@@ -55,7 +55,7 @@ numbering_once graph all numbering =
 
 -- Each reference has a number
 
--- a value is no reference, or one to an object with a number
+-- a value isn't a reference, or is one to an object with a number
 abbrev pub HasNumber : List ℕ → Seen → Type 0
 HasNumber all (Fix number) = Unit {0}
 HasNumber all Nil = Unit {0}

@@ -28,7 +28,7 @@ use Rattle.dump_laws.proofs.Reading.{LeadTo, lead_append, lead_as, lead_more, le
 
 -- Areas
 
--- areas that may come one after another
+-- areas that may be added one after another
 pub record AreRules (levels regions : ℕ) (areas : List AreaRule) : Type 0 where
   pub few : length areas ≤ 16
   pub quotas : All (λ rule. rule.quota ≤ 1048576) areas
@@ -48,7 +48,7 @@ named_at : (first : List AreaRule) (rule : AreaRule) (rest : List AreaRule) → 
 named_at [] rule rest = refl
 named_at (one ∷ first) rule rest = named_at first rule rest
 
--- an area of its own name isn't found among those before it
+-- an area with a name of its own isn't found among those before it
 before_fresh : (first : List AreaRule) (rule : AreaRule) (rest : List AreaRule) → AreNamed (first ++ rule ∷ rest) → area_of first rule.name ≡ None
 before_fresh first rule rest named =
     let areas : List AreaRule = first ++ rule ∷ rest in
@@ -64,7 +64,7 @@ before_named : (first : List AreaRule) (rule : AreaRule) (rest : List AreaRule) 
 before_named first rule rest named =
     subst (λ (name : List ℕ). is_name name ≡ true) (named_at first rule rest) (named.names (length first) (omega (arith, length-append first (rule ∷ rest))))
 
--- the part behind these area lines
+-- the part after these area lines
 abbrev pub part_behind : Part → List AreaRule → Part
 part_behind part [] = part
 part_behind part (rule ∷ rules) = Areas
@@ -73,7 +73,7 @@ still_areas : (rules : List AreaRule) → part_behind Areas rules ≡ Areas
 still_areas [] = refl
 still_areas (rule ∷ rules) = refl
 
--- these lines add these areas, and leave all else
+-- these lines add these areas, and change nothing else
 pub record AreasTo (all : List AreaRule) (place : WorldReader) (rest : List AreaRule) : Type 0 where
   pub next : WorldReader
   pub leads : LeadTo all place next (map AreaLine rest)

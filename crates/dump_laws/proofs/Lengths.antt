@@ -172,7 +172,7 @@ objects_short areas zero number (object ∷ objects) named long sayable = of_siz
 
 -- Other lines
 
--- short lines, together at most so many bytes
+-- short lines, together of at most this many bytes
 pub record AreFew (areas : List AreaRule) (lines : List WorldLine) (bytes : ℕ) : Type 0 where
   pub each : All (IsShort areas) lines
   pub all : length (text_of areas lines) ≤ bytes

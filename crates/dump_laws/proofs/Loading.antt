@@ -1,4 +1,4 @@
--- The objects of a dump as its lines say them: the groups stay.
+-- The objects of a dump as its lines mean them: their groups are unchanged.
 use Rattle.std.proofs.Common.{◌≡◌, ℕ, zero, suc, ◌+◌, ◌-◌, ◌≤◌, List, [], ◌∷◌, ◌++◌, length, take, drop, map, Bool, true, false, Option, Some, None, refl, ap, sym, ◌∙◌, subst, arith}
 use Rattle.std.specs.Prelude.{◌==◌, ◌&&◌, if◌then◌else◌, nat_le, option_map}
 use Rattle.std.proofs.lemmas.Bool.Decides.{nat_tests}
@@ -18,7 +18,7 @@ use Rattle.dump_laws.specs.Loaded.{load_first, loaded_from, own_charge}
 abbrev pub car_in : Object → Value
 car_in object = car_of object.body
 
--- The first ones stand in a line before, and stay
+-- An earlier line contains the first ones, which are unchanged
 
 pub loaded_take : (skip number : ℕ) (objects : List Object) → take skip (loaded_from skip number objects) ≡ take skip objects
 loaded_take zero number objects = refl
@@ -128,7 +128,7 @@ group_is area number (object ∷ objects) size is = group_from area number objec
 
 -- The groups of what is read
 
--- an object with a line of its own is no cell
+-- an object with a line of its own isn't a cell
 own_none : (area number : ℕ) (object : Object) (objects : List Object) → to_tail area number (load_first zero object ∷ objects) ≡ None
 own_none area number object objects =
     let nil = no_cell area is_nil object in
@@ -150,7 +150,7 @@ own_none area number object objects =
     no_cell : (area : ℕ) (test : Value → Bool) (object : Object) → is_cell area test (load_first zero object) ≡ false
     no_cell area test object = no_body area test object.area object.body
 
--- a group stays
+-- a group is unchanged
 stays_from : (area number : ℕ) (object : Object) (objects : List Object) {size : ℕ} → TailFrom area number object objects size
     → ((left : ℕ) → to_tail area (number + 1) objects ≡ Some left → to_tail area (number + 1) (loaded_from left (number + 1) objects) ≡ Some left)
     → to_tail area number (loaded_from size number (object ∷ objects)) ≡ Some size

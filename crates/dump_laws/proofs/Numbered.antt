@@ -79,7 +79,7 @@ within_front keys more all within = λ key is. within key (numbered_front keys m
 
 -- Other names of keys
 
--- keys of the list with one name are one
+-- keys of the list with the same name are the same
 abbrev pub AreApart : (ℕ → ℕ) → List ℕ → Type 0
 AreApart name all = (one two : ℕ) → is_numbered all one ≡ true → is_numbered all two ≡ true → name one ≡ name two → one ≡ two
 
@@ -118,7 +118,7 @@ lt_suc n size = elim (true_or_false (nat_lt n size)) [
   | inr past ↦ let e : nat_lt (1 + n) (suc size) ≡ false = grind (arith, nat_tests, past) in e ∙ sym past
 ]
 
--- a key is the first one, or stands one place further than in the rest
+-- a key is the first one, or its number is one more than in the rest
 pub number_cons : (first : ℕ) (keys : List ℕ) (key : ℕ) → number_of (first ∷ keys) key ≡ (if key == first then Some 0 else option_map (λ k. 1 + k) (number_of keys key))
 number_cons first keys key = of_tests (key == first) (position_or_len (λ k. key == k) keys) (length keys)
   where
@@ -150,7 +150,7 @@ number_front (first ∷ keys) more key is = elim (true_or_false (key == first)) 
       ]
 ]
 
--- one that isn't among them stands behind them
+-- one that isn't among them is found after them
 pub number_last : (keys : List ℕ) (key : ℕ) → is_numbered keys key ≡ false → number_of (keys ++ key ∷ []) key ≡ Some (length keys)
 number_last [] key fresh = number_here key [] key (key_same key)
 number_last (first ∷ keys) key fresh =

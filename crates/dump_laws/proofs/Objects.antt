@@ -30,7 +30,7 @@ abbrev pub PartsWritten : Body → Type 0
 PartsWritten (Cons car cdr) = IsWritten car × IsWritten cdr
 PartsWritten (Block code fields) = All IsWritten fields
 
--- an object that a line can say, in one of so many areas
+-- an object in one of this many areas that a line can mean
 pub record IsSayable (areas : ℕ) (object : Object) : Type 0 where
   pub within : object.area < areas
   pub code : code_of object.body ≤ 65535
@@ -45,7 +45,7 @@ charged_append area first others = sum_by-append (λ (object : Object). if objec
 charged_one : (object : Object) → charged_in object.area (object ∷ []) ≡ object.charge
 charged_one object = let e : (object.area == object.area) ≡ true = grind (arith, nat_tests) in rw e (omega arith)
 
--- what the objects so far and these leave of the quota is enough for these
+-- the quota that the objects so far leave is enough for these, if it is for these and more
 quota_left : (place : WorldReader) (area wanted : ℕ) (new others : List Object) → IsReached place → area < length place.world.areas → wanted ≡ charged_in area new
     → charged_in area (place.world.objects ++ (new ++ others)) ≤ quota_in place.world.areas area → HasQuota place area wanted
 quota_left place area wanted new others reached within is fits = record {
@@ -55,7 +55,7 @@ quota_left place area wanted new others reached within is fits = record {
 
 -- What object lines lead to
 
--- these lines add these objects, and leave all else
+-- these lines add these objects, and change nothing else
 pub record AddTo (areas : List AreaRule) (place : WorldReader) (lines : List WorldLine) (objects : List Object) : Type 0 where
   pub next : WorldReader
   pub leads : LeadTo areas place next lines
@@ -76,7 +76,7 @@ add_none areas place reached takes = record {
   world = ap (λ (objects : List Object). record place.world { objects = objects }) (sym (append-nil place.world.objects));
 }
 
--- the place behind an object line
+-- the place after an object line
 abbrev behind : WorldReader → ℕ → ℕ → List Object → WorldReader
 behind place area wanted objects = (with_objects place area wanted objects).1
 
@@ -142,7 +142,7 @@ run_allowed place areas area size number objects others reached takes second wit
 
 -- All object lines
 
--- the quotas are enough for these objects beside those of a place
+-- the quotas are enough for these objects in addition to those of a place
 abbrev pub FitQuotas : WorldReader → List Object → Type 0
 FitQuotas place objects = (area : ℕ) → area < length place.world.areas → charged_in area (place.world.objects ++ objects) ≤ quota_in place.world.areas area
 

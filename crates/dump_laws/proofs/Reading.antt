@@ -14,7 +14,7 @@ use Rattle.trace_text.proofs.world_text.reading_laws.LineLaws.{accepted_all}
 use Rattle.trace_text.proofs.world_text.reading_laws.Reached.{known_at, line_keeps}
 use Rattle.dump_laws.specs.Back.{read_from}
 
--- one line more is read
+-- one more line is read
 pub line_read : (place : WorldReader) (line : WorldLine) (text : List ℕ) (lines : List (List ℕ)) (next : WorldReader) → IsReached place → IsAllowed place line → text ≡ spelled place.world.areas line
     → read_from (outcome place line).1 lines ≡ Ok next → read_from place (text ∷ lines) ≡ Ok next
 unfolding read_from
@@ -45,7 +45,7 @@ pub lead_none : (areas : List AreaRule) (place : WorldReader) → IsReached plac
 unfolding read_from
 lead_none areas place reached = record { read = refl; reached = reached }
 
--- a line leads to what another of the same spelling brings about
+-- a line leads to what another of the same spelling causes
 pub lead_as : (areas : List AreaRule) (place next : WorldReader) (line said : WorldLine) (lines : List WorldLine) → IsReached place → IsAllowed place said → spelled areas line ≡ spelled place.world.areas said
     → LeadTo areas (outcome place said).1 next lines → LeadTo areas place next (line ∷ lines)
 lead_as areas place next line said lines reached allowed same rest = record {
@@ -53,7 +53,7 @@ lead_as areas place next line said lines reached allowed same rest = record {
   reached = rest.reached;
 }
 
--- a line leads to what it brings about
+-- a line leads to what it causes
 pub lead_more : (areas : List AreaRule) (place next : WorldReader) (line : WorldLine) (lines : List WorldLine) → IsReached place → IsAllowed place line → spelled areas line ≡ spelled place.world.areas line
     → LeadTo areas (outcome place line).1 next lines → LeadTo areas place next (line ∷ lines)
 lead_more areas place next line lines reached allowed same rest = lead_as areas place next line line lines reached allowed same rest

@@ -19,7 +19,7 @@ use Rattle.dump_laws.specs.Renamed.{HasSameCharges, IsRenamed, renamed}
 use Rattle.dump_laws.proofs.Numbered.{Within, names_agree, number_cons, number_of, numbered_at, numbered_first, numbered_front, numbered_last, numbered_place, numbered_renamed, numbered_tail, within_front}
 use Rattle.dump_laws.proofs.Growing.{HasNumber, all_grow, chain_grows, grows_within, numbering_fields, numbering_one, numbering_registers, walk_grows}
 
--- what holds of all keys holds of one of them
+-- what is true of all keys is true of one of them
 pub at_key : (P : ℕ → Type 0) (keys : List ℕ) (key : ℕ) → All P keys → is_numbered keys key ≡ true → P key
 at_key P keys key holds is =
     let place = numbered_place keys key is in
@@ -36,7 +36,7 @@ pub fields_long : (graph : KeyedGraph) (key start size : ℕ) → length (fields
 fields_long graph key start zero = refl
 fields_long graph key start (suc size) = ap suc (fields_long graph key (start + 1) size)
 
--- what holds of all fields holds of one of them
+-- what is true of all fields is true of one of them
 pub at_field : (P : Seen → Type 0) (graph : KeyedGraph) (key index : ℕ) → All P (fields_of graph key) → index < (graph.form key).length → P (graph.field key index)
 at_field P graph key index holds within =
     let e : get_or (fields_of graph key) index Nil ≡ graph.field key index = field_from graph key 0 (graph.form key).length index Nil within ∙ ap (graph.field key) (omega arith) in
@@ -164,7 +164,7 @@ all_show : (name : ℕ → ℕ) (all : List ℕ) (graph other : KeyedGraph) (val
 all_show name all graph other values same has shows =
     All-map (Shows other) (renamed name) values (λ index default within. shows_renamed name all graph other _ same (has index default within) (shows index default within))
 
--- what is told of a key is told of its name
+-- what is known of a key is known of its name
 all_names : (P Q : ℕ → Type 0) (name : ℕ → ℕ) (keys : List ℕ) → ((key : ℕ) → is_numbered keys key ≡ true → P key → Q (name key)) → All P keys → All Q (map name keys)
 all_names P Q name [] tells holds = All-nil Q
 all_names P Q name (key ∷ keys) tells holds =
@@ -224,7 +224,7 @@ object_renamed : (name : ℕ → ℕ) (all : List ℕ) (graph other : KeyedGraph
 object_renamed name all graph other key same charges whole is =
     rw (same.areas key is, charges key is, same.kinds key is, same.codes key is, fields_dumped name all graph other key same whole is) refl
 
--- a list of names is gone over as the list of keys
+-- mapping a list of names gives the same as mapping the list of keys
 pub names_map : {X : Type 0} (f g : ℕ → X) (name : ℕ → ℕ) (keys : List ℕ) → ((key : ℕ) → is_numbered keys key ≡ true → f (name key) ≡ g key) → map f (map name keys) ≡ map g keys
 names_map f g name [] same = refl
 names_map f g name (key ∷ keys) same = rw (same key (numbered_first key keys), names_map f g name keys (λ one is. same one (numbered_tail key keys one is))) refl

@@ -22,7 +22,7 @@ use Rattle.trace_text.proofs.world_text.reading_laws.LineLaws.{accepted_all}
 use Rattle.trace_text.proofs.world_text.reading_laws.Reached.{known_at}
 use Rattle.dump_laws.proofs.Reading.{LeadTo, lead_more, lead_none, lead_on}
 
--- where object lines may come, root lines may
+-- when object lines are allowed, so are root lines
 pub object_then_root : (second : Bool) (part : Part) → takes_object second part ≡ true → takes_root second part ≡ true
 object_then_root second Opening takes = takes
 object_then_root second Sizing takes = takes
@@ -32,11 +32,11 @@ object_then_root second Objects takes = takes
 object_then_root second Roots takes = refl
 object_then_root second Closed takes = takes
 
--- a value of a register among so many objects
+-- a value of a register in a world with this many objects
 abbrev pub IsRoot : ℕ → Value → Type 0
 IsRoot count value = IsWritten value × RefersBelow count value
 
--- these lines set the roots, and leave all else
+-- these lines set the roots, and change nothing else
 pub record SetTo (areas : List AreaRule) (place : WorldReader) (lines : List WorldLine) (roots : List Value) : Type 0 where
   pub next : WorldReader
   pub leads : LeadTo areas place next lines

@@ -11,7 +11,7 @@ use Rattle.trace_text.specs.world_text.Limits.{charged_in}
 use Rattle.dump_laws.proofs.Objects.{charged_append}
 use Rattle.dump_laws.proofs.Lengths.{total, total_append}
 
--- the charges of so many areas
+-- the charges of this many areas
 all_areas : ℕ → List Object → ℕ
 all_areas zero objects = 0
 all_areas (suc areas) objects = charged_in areas objects + all_areas areas objects

@@ -1,4 +1,4 @@
--- What is read where the lines of a dump are read again.
+-- What is read when the lines of a dump are read again.
 use Rattle.std.specs.Prelude.{◌≡◌, ℕ, ◌<◌, ◌≤◌, ◌^◌, pos, negsuc, ⊤, List, [], ◌∷◌, ◌++◌, length, map, flat_map, codes, Bool, true, false, if◌then◌else◌, Result, Ok}
 use Rattle.std.specs.List.{All}
 use Rattle.trace_text.specs.store_word.declared.space.Space.{Space}
@@ -26,7 +26,7 @@ use Rattle.dump_laws.specs.Loaded.{loaded}
 
 -- Lines
 
--- the place behind these lines, or why the first that is refused is
+-- the place after these lines, or why the first refused one is refused
 unfoldable pub read_from : WorldReader → List (List ℕ) → Result WorldReader WorldFault
 read_from place [] = Ok place
 read_from place (line ∷ lines) = line_at place line >>= (λ said. read_from said.1 lines)
@@ -40,7 +40,7 @@ pub record IsLine (line : List ℕ) : Type 0 where
   pub short : length line ≤ 32768
   pub graphic : All (λ byte. (32 ≤ byte) × (byte ≤ 126)) line
 
--- the lines of an input before `trace`, or of a world file before `end-world`, say this world
+-- the lines of an input before `trace`, or of a world file before `end-world`, mean this world
 pub record SayWorld (file : Bool) (lines : List (List ℕ)) (world : World) : Type 0 where
   pub place : WorldReader
   pub read : read_from (opening_place file) lines ≡ Ok place
@@ -57,14 +57,14 @@ IsInteger Nil = ⊤
 IsInteger (Cons key) = ⊤
 IsInteger (Block key) = ⊤
 
--- the object with this key is within the limits of a machine with so many areas
+-- the object with this key is within the limits of a machine with this many areas
 pub record IsWithin (areas : ℕ) (graph : KeyedGraph) (key : ℕ) : Type 0 where
   pub area : (graph.form key).area < areas
   pub code : (graph.form key).code ≤ 65535
   pub wide : (graph.form key).length ≤ 2047
   pub integers : All IsInteger (fields_of graph key)
 
--- the world that the lines of the dump say, where the objects have these numbers
+-- the world that the lines of the dump mean, if the objects have these numbers
 abbrev pub read_world : KeyedGraph → List ℕ → Space → List AreaRule → World
 read_world graph keys space areas = record {
   space = space;
@@ -81,7 +81,7 @@ pub record KeepsLimits (graph : KeyedGraph) (keys : List ℕ) (space : Space) (a
   pub objects : All (IsWithin (length areas) graph) keys
   pub quotas : (area : ℕ) → area < length areas → charged_in area (read_world graph keys space areas).objects ≤ quota_in areas area
 
--- The text is a world file. Its lines are accepted, also as an input's with `trace`, `dump` and `end` behind them; the world that they say has the same dump, and no other.
+-- The text is a world file. Its lines are accepted, and also as an input's, followed by `trace`, `dump` and `end`; the world that they mean has the same dump, and no other.
 pub record IsReadBack (graph : KeyedGraph) (keys : List ℕ) (space : Space) (areas : List AreaRule) (text : List ℕ) : Type 0 where
   pub lines : List (List ℕ)
   pub is : text ≡ with_feeds (lines ++ codes "end-world" ∷ [])

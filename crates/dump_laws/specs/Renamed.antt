@@ -12,7 +12,7 @@ renamed name Nil = Nil
 renamed name (Cons key) = Cons (name key)
 renamed name (Block key) = Block (name key)
 
--- The other graph shows the objects with these keys by the names of the keys, but for what they are charged.
+-- The other graph shows the objects with these keys by the names of the keys, with possibly other charges.
 pub record IsRenamed (name : ℕ → ℕ) (keys : List ℕ) (graph other : KeyedGraph) : Type 0 where
   pub apart : (one two : ℕ) → is_numbered keys one ≡ true → is_numbered keys two ≡ true → name one ≡ name two → one ≡ two
   pub registers : other.registers ≡ map (renamed name) graph.registers
@@ -23,6 +23,6 @@ pub record IsRenamed (name : ℕ → ℕ) (keys : List ℕ) (graph other : Keyed
   pub lengths : (key : ℕ) → is_numbered keys key ≡ true → (other.form (name key)).length ≡ (graph.form key).length
   pub fields : (key index : ℕ) → is_numbered keys key ≡ true → index < (graph.form key).length → other.field (name key) index ≡ renamed name (graph.field key index)
 
--- and they are charged the same
+-- their charges are the same
 abbrev pub HasSameCharges : (ℕ → ℕ) → List ℕ → KeyedGraph → KeyedGraph → Type 0
 HasSameCharges name keys graph other = (key : ℕ) → is_numbered keys key ≡ true → (other.form (name key)).charge ≡ (graph.form key).charge

@@ -17,14 +17,14 @@ pub fn graphs_have_one_dump()
         → IsRenamed name dump.keys graph other → HasSameCharges name dump.keys graph other → IsDump other space areas text }
 {}
 
-/// What a dump of a world writes is a function of the world.
+/// What a dump of a world contains is a function of the world.
 pub fn dumps_are_functions()
     ensures { (world : World) (text : List ℕ) → IsDump (keyed (opening world)) world.space world.areas text → text ≡ dumped world }
 {}
 
-/// The lines of a dump are accepted, as a world file, and with `trace`, `dump` and `end` in the place of `end-world` as an input; the
-/// world that they say has the same dump. Required: the space and the areas are those of an accepted world, the objects keep
-/// the limits of a machine, and their charges as read fit the quotas.
+/// The lines of a dump are accepted, as a world file, and with `trace`, `dump` and `end` instead of `end-world` as an input; the
+/// world that they mean has the same dump. Required: the space and the areas are those of an accepted world, the objects are
+/// within the limits of a machine, and their charges as read fit the quotas.
 pub fn dumps_are_read_back()
     ensures { (graph : KeyedGraph) (space : Space) (areas : List AreaRule) (text : List ℕ) → (dump : IsDump graph space areas text)
         → KeepsLimits graph dump.keys space areas → IsReadBack graph dump.keys space areas text }

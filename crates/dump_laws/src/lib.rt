@@ -1,7 +1,7 @@
-//! What holds of dumps, whoever writes them.
+//! Laws on dumps, whoever writes them.
 //!
 //! A graph has one dump, whatever keys its objects are found by (specs/Renamed), and that of a world is a function of the world
-//! (specs/Written). A dump is read back: its lines are accepted, and the world that they say has the same dump (specs/Back).
+//! (specs/Written). A dump is read back: its lines are accepted, and the world that they mean has the same dump (specs/Back).
 #![tactic(auto)]
 
 mod laws;

@@ -12,7 +12,7 @@ use Rattle.lisp_graph.specs.World.{IsCharge}
 use Rattle.world_text.specs.Limits.{IsAccepted, charged_in}
 use Rattle.world_text.specs.Objects.{quota_in}
 
--- what the objects of the areas below a number are charged
+-- the charges of the objects in the areas with numbers below this one
 charged_below : ℕ → List Object → ℕ
 charged_below zero objects = 0
 charged_below (suc area) objects = charged_in area objects + charged_below area objects

@@ -1,6 +1,7 @@
 pub mod Telling
 pub mod Charged
 pub mod Lines
+mod DumpFiles
 mod Sound
 mod Taking
 mod Worlds

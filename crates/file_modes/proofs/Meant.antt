@@ -1,4 +1,4 @@
--- What is read of a text of expressions.
+-- What is read of a text of S-expressions.
 use Rattle.std.proofs.Common.{◌≡◌, inl, inr, ℕ, ◌+◌, ◌<◌, ◌^◌, List, [], ◌++◌, length, true, Option, Ok, Err, refl, sym, ap, ◌∙◌, subst, arith, Vec}
 use Rattle.std.specs.Prelude.{nat_lt, unwrap_or, count_by}
 use Rattle.std.specs.Result.{result_map_both}
@@ -24,14 +24,14 @@ use Rattle.file_modes.specs.Taken.{IsEnough, Takes, WasTaken}
 too_long : (text : List ℕ) → 2 ^ 40 < length text → meaning text ≡ Err (Bad (line_of_byte (2 ^ 40) text) InputTooLong)
 too_long text long = let t : nat_lt (2 ^ 40) (length text) ≡ true = grind (arith, nat_tests) in rw t refl
 
--- so they stay, whatever stands behind them
+-- a text that is too long means the same, whatever follows it
 longer_same : (b rest : List ℕ) → 2 ^ 40 < length b → meaning (b ++ rest) ≡ meaning b
 longer_same b rest long =
     too_long (b ++ rest) (omega (arith, long, length-append b rest))
     ∙ ap (λ (front : List ℕ). Err (Bad (1 + count_by is_feed front) InputTooLong)) (take-append-le (2 ^ 40) b rest (omega (arith, long)))
     ∙ sym (too_long b long)
 
--- what was taken says what all of the text says
+-- what was taken means the same as all of the text
 enough_says : (i b rest : List ℕ) → i ≡ b ++ rest → IsEnough (2 ^ 40) i b → meaning i ≡ meaning b
 enough_says i b rest is (inl all) = ap meaning (sym all)
 enough_says i b rest is (inr long) = ap meaning is ∙ longer_same b rest long
@@ -92,7 +92,7 @@ read_untaken {G} trouble taken = record {
   reads = untaken G taken.i taken.b trouble taken.takes;
 }
 
--- the trouble with what a text says isn't that the source failed
+-- the trouble with the meaning of a text isn't that the source failed
 pub fault_read : (fault : SexprFault) (P : Type 0) → trouble_of fault ≡ Input T.Read → P
 fault_read (Bad line reason) P e = absurd (cc (e))
 fault_read (TooSmall line) P e = absurd (cc (e))

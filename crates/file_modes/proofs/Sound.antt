@@ -155,7 +155,7 @@ expression_begins bound next labels pieces EndSexpr b at plain below is = object
 expression_begins bound next labels pieces Unknown b at plain below is = object_begins bound next labels pieces b plain (λ _. below) is
 expression_begins bound next labels pieces End b at plain below is = object_begins bound next labels pieces b plain (λ _. below) is
 
--- What was read, where each name is below the bound
+-- The result of reading; each name in it is below the bound
 
 pub record IsRead (bound : ℕ) (read : Read Value) : Type 0 where
   pub value : RefersBelow bound read.value
@@ -168,7 +168,7 @@ abbrev pub IsSound : Reader → Type 0
 IsSound reader = (bound next : ℕ) (labels : List (ℕ × ℕ)) (pieces : List Piece) (read : Read Value) → reader next labels pieces ≡ Ok read
     → AreBelow bound labels → ArePlain pieces → next + length read.objects ≤ bound → IsRead bound read
 
--- what was read of the fields of a block, behind the first ones
+-- the result of reading the fields of a block after the first ones
 record AreRead (bound had : ℕ) (read : Read (List Value)) : Type 0 where
   values : All (RefersBelow bound) read.value
   few : had + length read.value ≤ 2047
@@ -179,7 +179,7 @@ record AreRead (bound had : ℕ) (read : Read (List Value)) : Type 0 where
 with_rest : (bound : ℕ) (read : Read Value) (n : ℕ) → IsRead bound read → IsRead bound (record read { rest = drop n read.rest })
 with_rest bound read n is = record { value = is.value; objects = is.objects; labels = is.labels; rest = behind n read.rest is.rest }
 
--- a test before what is read
+-- a test before the reading
 if_read : {A : Type 0} (b : Bool) (first : A) (fault : SexprFault) (read : A) → (if b then Ok first else Err fault) ≡ Ok read → first ≡ read
 if_read true first fault read is = ok_is first read is
 if_read false first fault read is = absurd (cc (is))

@@ -8,7 +8,7 @@ use Rattle.line_input.specs.declared.statuses.status.RunError.{RunError}
 use Rattle.line_input.specs.declared.statuses.status.RunError.TheVariants.{Memory, Read}
 use Rattle.file_modes.specs.Taken.{Takes, WasTaken}
 
--- all of the text begins with what was given
+-- the whole text begins with what was given
 whole_text : {left : Option (List ℕ)} (left' : Option (List ℕ)) (b : List ℕ) → Gave left left' b → IfSome left (λ bytes. bytes ≡ b ++ unwrap_or left' [])
 whole_text None b gave = subst (λ (l : Option (List ℕ)). IfSome l (λ bytes. bytes ≡ b ++ [])) (sym gave) tt
 whole_text (Some rest) b gave = subst (λ (l : Option (List ℕ)). IfSome l (λ bytes. bytes ≡ b ++ rest)) (sym gave) refl
@@ -50,7 +50,7 @@ pub whole_taken : {G : Type 0} {left left' left'' : Option (List ℕ)} (limit n 
 whole_taken {left = left} {left'} {left''} limit n bytes piece none gave given end =
     taken_whole limit bytes (subst (λ (b : List ℕ). Gave left left'' b) (ap (λ (k : ℕ). bytes.items ++ take k piece) none ∙ append-nil bytes.items) (gave_then left left' left'' bytes.items (take n piece) gave given)) end
 
--- it gave a piece
+-- the source gave a piece
 pub gave_piece : {left left' : Option (List ℕ)} (left'' : Option (List ℕ)) (b piece new : List ℕ) → new ≡ b ++ piece → Gave left left' b → Gave left' left'' piece → Gave left left'' new
 gave_piece {left} {left'} left'' b piece new is gave given = subst (λ (bytes : List ℕ). Gave left left'' bytes) (sym is) (gave_then left left' left'' b piece gave given)
 

@@ -1,4 +1,4 @@
--- What is answered and written.
+-- The answer, and what is written.
 use Rattle.std.proofs.Common.{◌≡◌, ◌≢◌, inl, inr, ℕ, List, Option, Result, Ok, Err, IfErr, refl, sym, ap, ◌∙◌, subst}
 use Rattle.command_words.specs.declared.mode.FileMode.{FileMode}
 use Rattle.lisp_graph.specs.declared.world.World.{World}
@@ -76,7 +76,7 @@ answers_read mode world T.Read P answers e = absurd answers
 answers_read mode world T.Swap P answers e = absurd answers
 answers_read mode world T.Usage P answers e = absurd answers
 
--- the status that tells that the source failed
+-- the status that reports that the source failed
 status_read : (outcome : Result (List ℕ) FileError) (P : Type 0) → IfErr outcome (λ trouble. trouble ≡ Input T.Read → P) → outcome_status outcome ≡ S.ReadFailed → P
 status_read (Ok text) P h e = absurd cc
 status_read (Err (Input (T.Line n reason))) P h e = absurd cc
@@ -95,7 +95,7 @@ pub closed_read : {held held' : List ℕ → Type 0} (outcome : Result (List ℕ
 closed_read outcome status P h (inl written) e = status_read outcome P h (sym written.0 ∙ e)
 closed_read outcome status P h (inr failed) e = (let x = failed.0 in absurd cc)
 
--- no other status tells that
+-- no other status reports that
 pub closed_quiet : {held held' : List ℕ → Type 0} (outcome : Result (List ℕ) FileError) (status : Status) (P : Type 0) → (outcome ≢ Err (Input T.Read) → P) → Closed held held' (outcome_text outcome) (outcome_status outcome) status
     → status ≢ S.ReadFailed → status ≢ S.WriteFailed → P
 closed_quiet outcome status P h (inl written) other right = h (λ e. other (written.0 ∙ ap outcome_status e))

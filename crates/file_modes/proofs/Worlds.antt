@@ -1,4 +1,4 @@
--- A world that a text means is one of which a machine can be asked: its references are to its objects, and it has a root for each register.
+-- A mode can be applied to each world that a text means: its references are to its objects, and each register has a root.
 use Rattle.std.proofs.Common.{◌≡◌, ℕ, zero, suc, ◌+◌, ◌-◌, ◌<◌, ◌≤◌, List, [], ◌∷◌, length, drop, take, Bool, true, false, Option, Some, None, Result, Ok, Err, refl, ap, ◌∙◌, subst, arith}
 use Rattle.std.specs.Prelude.{if◌then◌else◌, ◌==◌, ◌^◌, nat_lt, replicate, slice_index, bytes_eq, codes}
 use Rattle.std.specs.List.{All}
@@ -97,7 +97,7 @@ record IsRooted (bound : ℕ) (rooted : Rooted) : Type 0 where
   objects : All (IsObject bound) rooted.objects
   labels : AreBelow bound rooted.labels
 
--- a root more
+-- one more root
 record IsRooting (rooted : Rooted) (pieces : List Piece) (next : Rooted) (rest : List Piece) : Type 0 where
   size : length next.roots ≡ length rooted.roots
   grows : length rooted.objects ≤ length next.objects

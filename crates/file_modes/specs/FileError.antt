@@ -1,4 +1,4 @@
--- The error lines and statuses of files of which nothing is answered.
+-- The error lines and statuses of files that get no answer.
 use Rattle.std.specs.Prelude.{ℕ, List, [], ◌++◌, codes, decimal}
 use Rattle.line_input.specs.declared.statuses.status.Status.{Status}
 use Rattle.line_input.specs.declared.statuses.status.Status.TheVariants as S
@@ -12,7 +12,7 @@ use Rattle.sexpr_text.specs.declared.fault.SexprFault.TheVariants as F
 use Rattle.file_modes.specs.declared.trouble.FileError.{FileError}
 use Rattle.file_modes.specs.declared.trouble.FileError.TheVariants.{Input, Text}
 
--- the words of a reason that the lines of a world don't have, without its number
+-- the words of a reason that only a text of S-expressions has, without its number
 abbrev pub fixed_words : SexprReason → List ℕ
 fixed_words (R.Header reason) = []
 fixed_words R.BadToken = codes "bad token"
@@ -31,19 +31,19 @@ fixed_words R.InputTooLong = lines.fixed_words L.InputTooLong
 abbrev pub label_words : ℕ → List ℕ
 label_words label = codes "no label " ++ decimal label
 
--- the error line of line n for a reason
+-- the error line with this reason for line n
 abbrev pub reason_line : ℕ → SexprReason → List ℕ
 reason_line n (R.Header reason) = lines.error_line n (lines.reason_words reason)
 reason_line n (R.NoLabel label) = lines.error_line n (label_words label)
 reason_line n reason = lines.error_line n (fixed_words reason)
 
--- the error line of a text of expressions that gives no world
+-- the error line of a text of S-expressions that gives no world
 abbrev pub fault_line : SexprFault → List ℕ
 fault_line (F.Bad n reason) = reason_line n reason
 fault_line (F.TooSmall n) = lines.trouble_line (T.TooSmall n)
 fault_line F.NoMemory = lines.trouble_line T.Memory
 
--- the status that it goes with
+-- the status that goes with it
 abbrev pub fault_status : SexprFault → Status
 fault_status (F.Bad n reason) = S.Refused
 fault_status (F.TooSmall n) = S.NoSpace
@@ -54,7 +54,7 @@ abbrev pub trouble_line : FileError → List ℕ
 trouble_line (Input trouble) = lines.trouble_line trouble
 trouble_line (Text fault) = fault_line fault
 
--- the status that it goes with
+-- the status that goes with it
 abbrev pub status_of : FileError → Status
 status_of (Input trouble) = lines.status_of trouble
 status_of (Text fault) = fault_status fault

@@ -1,4 +1,4 @@
--- What each mode asks of a world.
+-- What each mode requests of a world.
 use Rattle.std.specs.Prelude.{◌≡◌, ℕ, ◌<◌, ◌≤◌, List, length, map, Result, Ok, Err}
 use Rattle.command_words.specs.declared.mode.FileMode.{FileMode}
 use Rattle.command_words.specs.declared.mode.FileMode.TheVariants.{Why, Census, Print, Compile}
@@ -19,7 +19,7 @@ use Rattle.why_held.specs.CensusText.{census_text}
 use Rattle.why_held.specs.Reached.{AreReached, counted_key}
 use Rattle.sexpr_print.specs.Spelling.{IsPrint}
 
--- the text tells why an object of the world is held
+-- the text says why an object of the world is held
 pub record IsWhyText (world : World) (object : ℕ) (text : List ℕ) : Type 0 where
   pub within : object < length world.objects
   pub answer : Answer
@@ -38,30 +38,30 @@ pub record IsCensusText (world : World) (text : List ℕ) : Type 0 where
 abbrev pub IsDumpOf : World → List ℕ → Type 0
 IsDumpOf world text = IsDump (keyed (opening world)) world.space world.areas text
 
--- the text that the mode asks of the world
+-- the text that the mode requests of the world
 abbrev pub Demands : FileMode → World → List ℕ → Type 0
 Demands (Why object) world text = IsWhyText world object text
 Demands Census world text = IsCensusText world text
 Demands Print world text = IsPrint world text
 Demands Compile world text = IsDumpOf world text
 
--- the mode asks for an object that isn't one of the world's
+-- the mode requests an object that isn't one of the world's
 abbrev pub IsMissing : FileMode → World → ℕ → Type 0
 IsMissing (Why asked) world object = (asked ≡ object) × (length world.objects ≤ asked)
 IsMissing mode world object = ⊥
 
--- a world that can be dumped: each reference is to one of its objects, it has a root for each register, and at most 6 levels
+-- a world that can be dumped: each reference is to one of its objects, each register has a root, and there are at most 6 levels
 pub record IsDumpable (world : World) : Type 0 where
   pub graph : IsGraph (opening world)
   pub roots : length world.roots ≡ world.space.registers
   pub levels : world.space.levels ≤ 6
 
--- a world of which the mode can be asked
+-- a world that the mode can be applied to
 abbrev pub IsFor : FileMode → World → Type 0
 IsFor Compile world = IsDumpable world
 IsFor mode world = IsAccepted world
 
--- what is answered of the world: the text, or that there is no such object; or memory ran out
+-- the answer for the world: the text, or that there is no such object; or memory ran out
 abbrev pub Answers : FileMode → World → Result (List ℕ) RunError → Type 0
 Answers mode world (Ok text) = Demands mode world text
 Answers mode world (Err (T.NoObject object)) = IsMissing mode world object

@@ -1,5 +1,5 @@
 -- What a run over a file reads and writes, for each status.
-use Rattle.std.specs.Prelude.{◌≡◌, ℕ, List, [], ◌++◌, Option, Result, Ok, Err, IfSome, unwrap_or}
+use Rattle.std.specs.Prelude.{◌≡◌, ℕ, List, [], ◌++◌, Option, Result, Ok, Err, IfErr, IfSome, unwrap_or}
 use Rattle.outer_ports.specs.Ports.{Gave}
 use Rattle.command_words.specs.declared.mode.FileMode.{FileMode}
 use Rattle.lisp_graph.specs.declared.world.World.{World}
@@ -13,7 +13,7 @@ use Rattle.file_modes.specs.Modes.{Demands, IsMissing}
 use Rattle.file_modes.specs.Reading.{IsOfFile, IsUndecided, IsWorldOf, world_of}
 use Rattle.file_modes.specs.FileError.{status_of, trouble_line}
 
--- What can be answered of the file i, of which the source gave b: the text that the mode asks of its world; that there is no such object; that the source failed before b decided anything; that memory ran out; the trouble with what the file says.
+-- The possible answers to the file i, of which the source gave b: the text that the mode requests of its world; that there is no such object; that the source failed before b decided anything; that memory ran out; the trouble with the file.
 abbrev pub IsOutcome : FileMode → List ℕ → List ℕ → Result (List ℕ) FileError → Type 0
 IsOutcome mode i b (Ok text) = (world : World) × IsWorldOf mode i b world × Demands mode world text
 IsOutcome mode i b (Err (Input (T.NoObject object))) = (world : World) × IsWorldOf mode i b world × IsMissing mode world object
@@ -21,17 +21,21 @@ IsOutcome mode i b (Err (Input T.Read)) = IsUndecided mode b
 IsOutcome mode i b (Err (Input T.Memory)) = Unit {0}
 IsOutcome mode i b (Err trouble) = IsOfFile trouble × (world_of mode i ≡ Err trouble)
 
--- the status that an outcome goes with
+-- the status that goes with an outcome
 abbrev pub outcome_status : Result (List ℕ) FileError → Status
 outcome_status (Ok text) = S.Done
 outcome_status (Err trouble) = status_of trouble
 
--- all that is written of it: the text, or the error line
+-- if an outcome reports that the source failed, it has a cause: the source's count of failed calls rose
+abbrev pub IsCaused : Type 0 → Result (List ℕ) FileError → Type 0
+IsCaused source_rose outcome = IfErr outcome (λ trouble. trouble ≡ Input T.Read → source_rose)
+
+-- everything that is written for an outcome: the text, or the error line
 abbrev pub outcome_text : Result (List ℕ) FileError → List ℕ
 outcome_text (Ok text) = text
 outcome_text (Err trouble) = trouble_line trouble
 
--- What was answered of a file, before it is written: i is the file, and b what the source gave of it.
+-- The answer to a file, before it is written: i is the file, and b what the source gave of it.
 pub record WasAnswered (mode : FileMode) (left left' : Option (List ℕ)) (outcome : Result (List ℕ) FileError) : Type 0 where
   pub i : List ℕ
   pub b : List ℕ
@@ -40,7 +44,7 @@ pub record WasAnswered (mode : FileMode) (left left' : Option (List ℕ)) (outco
   pub rest : i ≡ b ++ unwrap_or left' []
   pub right : IsOutcome mode i b outcome
 
--- A run that ended with this status: i is the file, and b what the source gave of it. A file that the source doesn't tell is what it gave. The sink gained the text of the outcome, whose status it is; or it failed, and gained a prefix of that text.
+-- A run that ended with this status: i is the file, and b what the source gave of it. If the source doesn't report what remains, the file is what it gave. The sink gained the text of the outcome, and the status is that of the outcome; or the sink failed, and gained a prefix of the text.
 pub record Ran (mode : FileMode) (left left' : Option (List ℕ)) (held held' : List ℕ → Type 0) (status : Status) : Type 0 where
   pub i : List ℕ
   pub b : List ℕ

@@ -1,14 +1,14 @@
--- What was taken of a text of expressions.
+-- What was taken of a text of S-expressions.
 use Rattle.std.specs.Prelude.{◌≡◌, ◌⊎◌, ◌<◌, ◌≤◌, ℕ, List, [], ◌++◌, length, Option, Result, Ok, Err, IfSome, unwrap_or, Vec}
 use Rattle.outer_ports.specs.Ports.{Gave}
 use Rattle.line_input.specs.declared.statuses.status.RunError.{RunError}
 use Rattle.line_input.specs.declared.statuses.status.RunError.TheVariants as T
 
--- b is all of the text, or more of it than a text may have
+-- b is all of the text, or a part of it that is already too long
 abbrev pub IsEnough : ℕ → List ℕ → List ℕ → Type 0
 IsEnough limit i b = (b ≡ i) ⊎ (limit < length b)
 
--- what was taken of the text: bytes that are enough; or the source failed before that, or memory ran out
+-- what was taken of the text: enough bytes; or the source failed before that, or memory ran out
 abbrev pub Takes : {G : Type 0} → ℕ → List ℕ → List ℕ → Result (Vec ℕ G) RunError → Type 0
 Takes limit i b (Ok bytes) = (bytes.items ≡ b) × IsEnough limit i b
 Takes limit i b (Err T.Read) = length b ≤ limit

@@ -23,7 +23,7 @@ fn reached_of(alloc: Global, world: &World) -> Result<CensusRows, NoMemory>
     }
 }
 
-/// The census of a world: what its registers reach, and what they don't, by area and code.
+/// The census of a world as a text: what its registers reach and what they don't, by area and code.
 pub fn census_of(alloc: Global, world: &World) -> Result<Text, NoMemory>
     requires { IsAccepted world.now }
     ensures { IfOk result (IsCensusText world.now) }

@@ -1,4 +1,4 @@
-//! What is asked of a world.
+//! What each mode requests of a world.
 ghost use Rattle.std.specs.Prelude.{◌<◌, length, IfOk};
 ghost use Rattle.world_text.specs.Limits.{IsAccepted};
 ghost use Rattle.sexpr_print.specs.Spelling.{IsPrint};
@@ -23,7 +23,7 @@ fn why_of(alloc: Global, world: &World, object: u64) -> Result<Text, NoMemory>
     why_text(alloc, &answer)
 }
 
-/// A world as expressions.
+/// A world as S-expressions.
 fn printed(alloc: Global, world: &World) -> Result<Text, NoMemory>
     requires { IsAccepted world.now }
     ensures { IfOk result (IsPrint world.now) }
@@ -31,7 +31,7 @@ fn printed(alloc: Global, world: &World) -> Result<Text, NoMemory>
     print_sexpr(alloc, world)
 }
 
-/// The text that the mode asks of a world, or the trouble that there is with it: the object isn't one of the world's, or memory
+/// The text that the mode requests of a world; or the trouble: the requested object isn't one of the world's, or memory
 /// ran out.
 pub fn text_of(alloc: Global, mode: FileMode, world: &World) -> Result<Text, RunError>
     requires { IsFor mode world.now }

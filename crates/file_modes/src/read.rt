@@ -1,4 +1,4 @@
-//! Reading a file as the mode reads it.
+//! Reading a file as its mode requires.
 ghost use Rattle.std.specs.Prelude.{◌≡◌, ◌≢◌, ◌≤◌, Err, IfErr, IfOk};
 ghost use Rattle.outer_ports.specs.Ports.{Rose};
 ghost use Rattle.line_input.specs.declared.statuses.status.RunError.TheVariants.{Read};
@@ -17,7 +17,7 @@ use lisp_graph::World;
 use outer_ports::Source;
 use std::alloc::Global;
 
-/// The world of a world file, which is read through one buffer of 32,769 bytes up to its end or its first bad line. The trouble is with
+/// The world of a world file, which is read through one buffer of 32,769 bytes up to its end or its first bad line. The trouble is that of
 /// the first line that breaks a rule; or the source failed, or memory ran out.
 pub fn read_world<S: Source>(alloc: Global, source: &mut S) -> Result<World, RunError>
     ensures was_read { lines.WasRead file_rules start (S.left source.old) (S.left source.new) result }
@@ -29,7 +29,7 @@ pub fn read_world<S: Source>(alloc: Global, source: &mut S) -> Result<World, Run
     read_lines(alloc, WorldFile::start(alloc), source)
 }
 
-/// The world of a file that the mode reads: `Compile` a text of expressions, and the others a world file.
+/// The world of a file: for `Compile` of a text of S-expressions, for the other modes of a world file.
 pub fn read_file<S: Source>(
     alloc: Global,
     mode: FileMode,

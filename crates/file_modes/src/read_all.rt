@@ -1,4 +1,4 @@
-//! Taking a whole text from a source.
+//! Reading a whole text from a source.
 ghost use Rattle.std.specs.Prelude.{◌≡◌, ◌≢◌, ◌≤◌, ◌<◌, ◌^◌, [], length, Err, IfErr, IfOk};
 ghost use Rattle.outer_ports.specs.Ports.{Rose};
 ghost use Rattle.line_input.specs.declared.statuses.status.RunError.TheVariants.{Read};
@@ -8,17 +8,17 @@ use line_input::RunError;
 use outer_ports::Source;
 use std::alloc::{AllocError, Global};
 
-/// How many bytes are asked for at a time.
+/// The most bytes that are requested in a call.
 const PIECE: usize = 65_536;
 
-/// Where the next bytes are taken to.
+/// A buffer for the next bytes.
 fn piece_buffer(alloc: Global) -> Result<Vec<u8>, AllocError>
     ensures { IfOk result (λ piece. 0 < length piece.items) }
 {
     vec![in alloc; 0; PIECE]
 }
 
-/// What a source gives behind nothing, up to its end or to more than `limit` bytes. It is taken through `piece`.
+/// Appends what a source gives to `bytes`, which is empty, up to the end or until there are more than `limit` bytes. It is taken through `piece`.
 fn gather<S: Source>(
     limit: usize,
     source: &mut S,
@@ -49,7 +49,7 @@ fn gather<S: Source>(
     Ok(bytes)
 }
 
-/// What a source gives, up to its end or to more than `limit` bytes.
+/// What a source gives, up to its end or until there are more than `limit` bytes.
 pub fn read_all<S: Source>(alloc: Global, limit: usize, source: &mut S) -> Result<Vec<u8>, RunError>
     requires { limit ≤ 2 ^ 40 }
     ensures taken { WasTaken limit (S.left source.old) (S.left source.new) result }

@@ -1,11 +1,11 @@
 //! A run over a file.
 ghost use Rattle.std.specs.Prelude.{◌≡◌, ◌≢◌, Err, IfErr};
-ghost use Rattle.outer_ports.specs.Ports.{Rose};
+ghost use Rattle.outer_ports.specs.Ports.{FailedLast, Rose};
 ghost use Rattle.line_input.specs.declared.statuses.status.Status.TheVariants.{ReadFailed as read_failed, WriteFailed as write_failed};
 ghost use Rattle.line_input.specs.declared.statuses.status.RunError.TheVariants.{Read};
 ghost use Rattle.line_input.specs.Statuses.{Closed};
 ghost use Rattle.file_modes.specs.declared.trouble.FileError.TheVariants.{Input};
-ghost use Rattle.file_modes.specs.Outcome.{Ran, WasAnswered, outcome_status, outcome_text};
+ghost use Rattle.file_modes.specs.Outcome.{IsCaused, Ran, WasAnswered, outcome_status, outcome_text};
 
 use crate::mode::text_of;
 use crate::read::read_file;
@@ -16,7 +16,7 @@ use lisp_graph::Text;
 use outer_ports::{Sink, Source, give_all};
 use std::alloc::Global;
 
-/// What is answered of a file.
+/// The answer to a file: the text that the mode requests, or the trouble.
 fn answer<S: Source>(alloc: Global, mode: FileMode, source: &mut S) -> Result<Text, FileError>
     ensures answered { WasAnswered mode (S.left source.old) (S.left source.new) result }
     ensures read { IfErr result (λ trouble. trouble ≡ Input Read → Rose (S.faults source.old) (S.faults source.new)) }
@@ -29,10 +29,11 @@ fn answer<S: Source>(alloc: Global, mode: FileMode, source: &mut S) -> Result<Te
     }
 }
 
-/// Writes an answer, or the error line of a trouble, and tells how the run ended.
+/// Writes an answer, or the error line of a trouble, and returns how the run ended.
 fn write_answer<K: Sink>(sink: &mut K, answer: &Result<Text, FileError>) -> Status
     ensures wrote { Closed (K.stands sink.old) (K.stands sink.new) (outcome_text answer.now) (outcome_status answer.now) result }
     ensures write { result ≡ write_failed → Rose (K.faults sink.old) (K.faults sink.new) }
+    ensures last { result ≡ write_failed → FailedLast (K.faults sink.old) (K.faults sink.new) (K.failed sink.new) }
     ensures quiet { result ≢ write_failed → K.faults sink.new ≡ K.faults sink.old }
 {
     match answer {
@@ -44,13 +45,13 @@ fn write_answer<K: Sink>(sink: &mut K, answer: &Result<Text, FileError>) -> Stat
     }
 }
 
-/// Reads a file and writes what the mode asks of its world. Nothing is written before the file is read. The status is `Done` only
-/// where the file was read to its end and has a world, and all that is asked was written; `Refused` and `NoSpace` where a line of it
-/// or a piece of a text of expressions is refused, and `Refused` where that text has more than 2^40 bytes; `NoObject` where a world
-/// file is accepted and has no object with the number that is asked for; `ReadFailed`, `NoMemory` and `WriteFailed` where the source
-/// failed, memory ran out or the sink failed. Of a text of expressions quotas aren't asked for: `NoSpace` comes where its areas want
-/// more regions than there are. The sink's count of faults stays as it was but at `WriteFailed`, and the source's but at that and at
-/// `ReadFailed`.
+/// Reads a file and writes what the mode requests of its world. Nothing is written before the file is read. The status is `Done` only
+/// if the file was read to its end and has a world, and everything requested was written; `Refused` or `NoSpace` if a line of it
+/// or a piece of a text of S-expressions is refused, and `Refused` if that text has more than 2^40 bytes; `NoObject` if a world
+/// file is accepted and has no object with the requested number; `ReadFailed`, `NoMemory` and `WriteFailed` if the source
+/// failed, memory ran out or the sink failed. In a text of S-expressions quotas aren't checked: `NoSpace` means that its areas need
+/// more regions than there are. The sink's count of failed calls is unchanged except at `WriteFailed`, the source's except at
+/// `WriteFailed` and `ReadFailed`.
 pub fn run_mode<S: Source, K: Sink>(
     alloc: Global,
     mode: FileMode,
@@ -58,8 +59,15 @@ pub fn run_mode<S: Source, K: Sink>(
     sink: &mut K,
 ) -> Status
     ensures ran { Ran mode (S.left source.old) (S.left source.new) (K.stands sink.old) (K.stands sink.new) result }
+
+    // The same run: its outcome reports a failed source only if the source's count of failed calls rose, also if the sink fails in that report.
+    ensures cause { (ran : Ran mode (S.left source.old) (S.left source.new) (K.stands sink.old) (K.stands sink.new) result)
+        × IsCaused (Rose (S.faults source.old) (S.faults source.new)) ran.outcome }
+
+    // A status reports a device's failure only if the device's count of failed calls rose. Otherwise the count is unchanged.
     ensures read { result ≡ read_failed → Rose (S.faults source.old) (S.faults source.new) }
     ensures write { result ≡ write_failed → Rose (K.faults sink.old) (K.faults sink.new) }
+    ensures last { result ≡ write_failed → FailedLast (K.faults sink.old) (K.faults sink.new) (K.failed sink.new) }
     ensures quiet_source { result ≢ read_failed → result ≢ write_failed → S.faults source.new ≡ S.faults source.old }
     ensures quiet_sink { result ≢ write_failed → K.faults sink.new ≡ K.faults sink.old }
 {

@@ -1,4 +1,4 @@
-//! Reading a text of expressions.
+//! Reading a text of S-expressions.
 ghost use Rattle.std.specs.Prelude.{◌≡◌, ◌≢◌, Err, IfErr, IfOk};
 ghost use Rattle.outer_ports.specs.Ports.{Rose};
 ghost use Rattle.line_input.specs.declared.statuses.status.RunError.TheVariants.{Read};
@@ -18,7 +18,7 @@ use std::alloc::Global;
 /// The longest text, in bytes.
 const LONGEST: usize = 1 << 40;
 
-/// The trouble with a text that gives no world for this fault.
+/// The trouble with a text that, for this reason (`fault`), gives no world.
 fn trouble_of(fault: SexprFault) -> FileError
     ensures { result ≡ trouble_of fault }
 {
@@ -28,8 +28,8 @@ fn trouble_of(fault: SexprFault) -> FileError
     }
 }
 
-/// The world that a text of expressions means, of which all is taken, up to its end or to more than 2^40 bytes. Quotas aren't asked
-/// for.
+/// The world that a text of S-expressions means. The text is taken up to its end, or until it has more than 2^40 bytes. Quotas aren't
+/// checked.
 pub fn read_sexpr<S: Source>(alloc: Global, source: &mut S) -> Result<World, FileError>
     ensures was_read { WasRead FileMode.Compile (S.left source.old) (S.left source.new) result }
     ensures read { IfErr result (λ trouble. trouble ≡ Input Read → Rose (S.faults source.old) (S.faults source.new)) }

@@ -1,4 +1,4 @@
-//! Runs over devices in memory: modes, files, and what they answer.
+//! Runs over devices in memory: modes, files, and their answers.
 use crate::run_mode;
 use command_words::FileMode;
 use line_input::Status;
@@ -11,7 +11,7 @@ use std::test::Fail;
 const HEADER: &str = "lispm-world 2\nspace 16 32 8 1 2\narea work dynamic 10\ncapacity 0\n";
 
 /// Runs a mode over a file, and compares the status and what was written. The calls of the source and of the sink with these
-/// numbers fail; 0 is none.
+/// numbers fail; 0 means none.
 fn run(
     rt: &impl Abort,
     alloc: Global,
@@ -30,7 +30,7 @@ fn run(
     Ok(())
 }
 
-/// What is asked of a world, and the text that is written.
+/// What each mode requests of a world, and the text that is written.
 #[test]
 fn answers(rt: HostRuntime) -> Result<(), Fail> {
     let alloc = rt.alloc();
@@ -77,7 +77,7 @@ fn answers(rt: HostRuntime) -> Result<(), Fail> {
     )
 }
 
-/// Files that are refused, by what stands behind the header.
+/// Files that are refused, by their lines after the header.
 #[test]
 fn refusals(rt: HostRuntime) -> Result<(), Fail> {
     let alloc = rt.alloc();

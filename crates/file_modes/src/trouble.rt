@@ -1,6 +1,6 @@
-//! Why nothing is answered of a file, and the error line of that.
-ghost use Rattle.std.specs.Prelude.{◌≡◌, ◌≢◌, ◌≤◌};
-ghost use Rattle.outer_ports.specs.Ports.{HasCause, Rose, Wrote};
+//! Why a file gets no answer, and the error line for that.
+ghost use Rattle.std.specs.Prelude.{◌≡◌, ◌≢◌, ◌≤◌, OnErr};
+ghost use Rattle.outer_ports.specs.Ports.{FailedLast, HasCause, Rose, Wrote};
 ghost use Rattle.line_input.specs.Statuses.{Closed, error_line};
 ghost use Rattle.file_modes.specs.FileError.{fault_line, fault_status, fixed_words, label_words, reason_line, status_of, trouble_line};
 
@@ -9,17 +9,17 @@ use line_input::{RunError, Status, tell_line};
 use outer_ports::{Sink, SinkFault, give_parts};
 use sexpr_text::{SexprFault, SexprReason};
 
-/// Why nothing is answered of a file.
+/// Why a file gets no answer.
 #[derive(Debug, Drop)]
 pub enum FileError {
-    /// The trouble is one that an input of lines can have, too: a line of a world file is refused, no object of its world has the
-    /// number that is asked for, the source failed, or memory ran out.
+    /// A trouble that an input of lines can have, too: a line of a world file is refused, the world has no object with the
+    /// requested number, the source failed, or memory ran out.
     Input(RunError),
-    /// A text of expressions gives no world.
+    /// A text of S-expressions gives no world.
     Text(SexprFault),
 }
 
-/// The words of a reason that the lines of a world don't have, without its number.
+/// The words of a reason that only a text of S-expressions has, without a number.
 fn fixed_words(reason: SexprReason) -> &'static [u8]
     ensures { result.now ≡ fixed_words reason }
 {
@@ -40,10 +40,11 @@ fn fixed_words(reason: SexprReason) -> &'static [u8]
     }
 }
 
-/// Writes the error line of a line that names a label which isn't there.
+/// Writes the error line for a line that names a label that doesn't exist.
 fn write_no_label<K: Sink>(sink: &mut K, line: u64, label: u32) -> Result<(), SinkFault>
     ensures wrote { Wrote (K.stands sink.old) (K.stands sink.new) (error_line line (label_words label)) result }
     ensures cause { HasCause (K.faults sink.old) (K.faults sink.new) result }
+    ensures last { OnErr result (FailedLast (K.faults sink.old) (K.faults sink.new) (K.failed sink.new)) }
 {
     let mut digits = Buffer::new();
     let number = digits.format(line).as_bytes();
@@ -55,10 +56,11 @@ fn write_no_label<K: Sink>(sink: &mut K, line: u64, label: u32) -> Result<(), Si
     )
 }
 
-/// Writes the error line of a line that names a label which isn't there, and answers `Refused`, or `WriteFailed` where the sink failed.
+/// Writes the error line for a line that names a label that doesn't exist, and returns `Refused`, or `WriteFailed` if the sink failed.
 fn tell_label<K: Sink>(sink: &mut K, line: u64, label: u32) -> Status
     ensures wrote { Closed (K.stands sink.old) (K.stands sink.new) (error_line line (label_words label)) Status.Refused result }
     ensures write { result ≡ Status.WriteFailed → Rose (K.faults sink.old) (K.faults sink.new) }
+    ensures last { result ≡ Status.WriteFailed → FailedLast (K.faults sink.old) (K.faults sink.new) (K.failed sink.new) }
     ensures later { K.faults sink.old ≤ K.faults sink.new }
     ensures quiet { result ≢ Status.WriteFailed → K.faults sink.new ≡ K.faults sink.old }
 {
@@ -68,10 +70,11 @@ fn tell_label<K: Sink>(sink: &mut K, line: u64, label: u32) -> Status
     }
 }
 
-/// Writes the error line of a line for a reason.
+/// Writes the error line with this reason for the line of this number, and returns `Refused`, or `WriteFailed` if the sink failed.
 fn tell_reason<K: Sink>(sink: &mut K, line: u64, reason: SexprReason) -> Status
     ensures wrote { Closed (K.stands sink.old) (K.stands sink.new) (reason_line line reason) Status.Refused result }
     ensures write { result ≡ Status.WriteFailed → Rose (K.faults sink.old) (K.faults sink.new) }
+    ensures last { result ≡ Status.WriteFailed → FailedLast (K.faults sink.old) (K.faults sink.new) (K.failed sink.new) }
     ensures later { K.faults sink.old ≤ K.faults sink.new }
     ensures quiet { result ≢ Status.WriteFailed → K.faults sink.new ≡ K.faults sink.old }
 {
@@ -82,10 +85,11 @@ fn tell_reason<K: Sink>(sink: &mut K, line: u64, reason: SexprReason) -> Status
     }
 }
 
-/// Writes the error line of a text that gives no world, and answers its status, or `WriteFailed` where the sink failed.
+/// Writes the error line of a text that gives no world, and returns its status, or `WriteFailed` if the sink failed.
 fn tell_fault<K: Sink>(sink: &mut K, fault: SexprFault) -> Status
     ensures wrote { Closed (K.stands sink.old) (K.stands sink.new) (fault_line fault) (fault_status fault) result }
     ensures write { result ≡ Status.WriteFailed → Rose (K.faults sink.old) (K.faults sink.new) }
+    ensures last { result ≡ Status.WriteFailed → FailedLast (K.faults sink.old) (K.faults sink.new) (K.failed sink.new) }
     ensures later { K.faults sink.old ≤ K.faults sink.new }
     ensures quiet { result ≢ Status.WriteFailed → K.faults sink.new ≡ K.faults sink.old }
 {
@@ -96,10 +100,11 @@ fn tell_fault<K: Sink>(sink: &mut K, fault: SexprFault) -> Status
     }
 }
 
-/// Writes the error line of a trouble, and answers its status, or `WriteFailed` where the sink failed.
+/// Writes the error line of a trouble, and returns its status, or `WriteFailed` if the sink failed.
 pub fn report_file_error<K: Sink>(sink: &mut K, trouble: &FileError) -> Status
     ensures wrote { Closed (K.stands sink.old) (K.stands sink.new) (trouble_line trouble.now) (status_of trouble.now) result }
     ensures write { result ≡ Status.WriteFailed → Rose (K.faults sink.old) (K.faults sink.new) }
+    ensures last { result ≡ Status.WriteFailed → FailedLast (K.faults sink.old) (K.faults sink.new) (K.failed sink.new) }
     ensures later { K.faults sink.old ≤ K.faults sink.new }
     ensures quiet { result ≢ Status.WriteFailed → K.faults sink.new ≡ K.faults sink.old }
 {

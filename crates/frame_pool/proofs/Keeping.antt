@@ -1,13 +1,14 @@
 -- What each call keeps of the pool.
-use Rattle.std.proofs.Common.{◌≡◌, ◌≢◌, ℕ, ◌+◌, ◌*◌, ◌<◌, ◌⊎◌, inl, inr, Bool, true, false, eqb, Option, Some, None, List, [], ◌∷◌, ◌++◌, length, sym, ap, subst, ◌∙◌, arith, length-append}
-use Rattle.std.specs.Prelude.{Contains, IfSome}
+use Rattle.std.proofs.Common.{◌≡◌, ◌≢◌, ℕ, ◌+◌, ◌*◌, ◌<◌, ◌^◌, ◌⊎◌, refl, inl, inr, Bool, true, false, eqb, Option, Some, None, List, [], ◌∷◌, ◌++◌, length, sym, ap, subst, ◌∙◌, arith, length-append}
+use Rattle.std.specs.Prelude.{Contains, IfSome, MatchOption, slice_index}
 use Rattle.std.specs.Option.{option_eq, unwrap_or}
 use Rattle.std.proofs.lemmas.Bool.{cases_eq, eqb-true, eqb-false}
 use Rattle.store_word.specs.Words.{Parts}
 use Rattle.index_lists.specs.Chains.{Chains, list_at, without, with_list, last_of, IsSound}
+use Rattle.index_lists.proofs.Ends.{none_last}
 use Rattle.index_lists.proofs.Callers.{list_at-with_list_same, list_at-with_list_other, length-with_list, length-without, without-last, Contains-without, Contains-push_old, Contains-push_new}
 use Rattle.frame_pool.specs.Pool.{Pool, frames_of, with_latest, IsPool}
-use Rattle.frame_pool.specs.Invariant.{pool_of, PoolInvariant}
+use Rattle.frame_pool.specs.Invariant.{pool_of, IsLatest, PoolInvariant}
 use Rattle.frame_pool.proofs.Moving.{moved}
 
 -- what callers may rely on
@@ -118,3 +119,42 @@ other_option (Some m) n e s = eqb-false m n (sym e) (ap (λ (k : Option ℕ). un
 pub inside_if_used : (p : Pool) (o : Option ℕ) → IsPool p → IfSome o (Contains p.used) → IfSome o (λ frame. frame < frames_of p)
 inside_if_used p None h m = tt
 inside_if_used p (Some frame) h m = h.used_in frame m
+
+-- the most recently used frame and its page
+
+pub last-push : (xs : List ℕ) (x : ℕ) → last_of (xs ++ x ∷ []) ≡ Some x
+last-push [] x = refl
+last-push (y ∷ []) x = refl
+last-push (y ∷ z ∷ zs) x = last-push (z ∷ zs) x
+
+pub latest-push : (before used pages : List ℕ) (page frame : ℕ) → used ≡ before ++ frame ∷ [] → page ≡ slice_index pages frame → IsLatest used pages page frame
+latest-push before used pages page frame is at =
+    subst (λ (o : Option ℕ). MatchOption o (page ≡ 2 ^ 32) (λ last. (frame ≡ last) × (page ≡ slice_index pages last))) (sym (ap last_of is ∙ last-push before frame)) (refl, at)
+
+pub latest-is : (used pages : List ℕ) (page frame : ℕ) (o : Option ℕ) → o ≡ last_of used → MatchOption o (page ≡ 2 ^ 32) (λ last. (frame ≡ last) × (page ≡ slice_index pages last)) → IsLatest used pages page frame
+latest-is used pages page frame o is h = subst (λ (q : Option ℕ). MatchOption q (page ≡ 2 ^ 32) (λ last. (frame ≡ last) × (page ≡ slice_index pages last))) is h
+
+-- a page that is below 2^32 is that of a frame
+pub latest_found : (used pages : List ℕ) (page frame : ℕ) → page < 2 ^ 32 → IsLatest used pages page frame → (last_of used ≡ Some frame) × (slice_index pages frame ≡ page)
+latest_found used pages page frame low h = by (last_of used) refl h
+  where
+    by : (o : Option ℕ) → last_of used ≡ o → MatchOption o (page ≡ 2 ^ 32) (λ last. (frame ≡ last) × (page ≡ slice_index pages last)) → (last_of used ≡ Some frame) × (slice_index pages frame ≡ page)
+    by None is e = absurd (omega (arith, e))
+    by (Some last) is e = (is ∙ ap (λ (n : ℕ). Some n) (sym e.0), ap (slice_index pages) e.0 ∙ sym e.1)
+
+-- the page of the last frame is the one that is kept
+pub latest_page : (used pages : List ℕ) (page frame last : ℕ) → IsLatest used pages page frame → last_of used ≡ Some last → page ≡ slice_index pages last
+latest_page used pages page frame last h is = (subst (λ (o : Option ℕ). MatchOption o (page ≡ 2 ^ 32) (λ k. (frame ≡ k) × (page ≡ slice_index pages k))) is h).1
+
+pub latest-none : (used pages : List ℕ) (frame : ℕ) → used ≡ [] → IsLatest used pages (2 ^ 32) frame
+latest-none used pages frame is = latest-is used pages (2 ^ 32) frame None (sym (ap last_of is)) refl
+
+-- if some frame is taken, the kept frame is the last
+pub latest_last : (used pages : List ℕ) (page frame taken : ℕ) → Contains used taken → IsLatest used pages page frame → last_of used ≡ Some frame
+latest_last used pages page frame taken m h = by (last_of used) refl h
+  where
+    by : (o : Option ℕ) → last_of used ≡ o → MatchOption o (page ≡ 2 ^ 32) (λ last. (frame ≡ last) × (page ≡ slice_index pages last)) → last_of used ≡ Some frame
+    by None is e =
+        let empty : used ≡ [] = (none_last used None (sym is)).0 refl in
+        absurd (omega (arith, m.1, ap length empty))
+    by (Some last) is e = is ∙ ap (λ (n : ℕ). Some n) (sym e.0)

@@ -9,7 +9,7 @@ pub record Fills (old new : List Parts) (page : ℕ) (word : ℕ → Option Part
   pub below : (i : ℕ) → i < 256 * page → slice_get new i ≡ slice_get old i
   pub above : (i : ℕ) → 256 * page + 256 ≤ i → slice_get new i ≡ slice_get old i
 
--- so many words from a place on are these, and no other word has changed
+-- `count` words from a place on are these, and no other word has changed
 pub record FillsSpan (old new : List Parts) (at count : ℕ) (word : ℕ → Parts) : Type 0 where
   pub size : length new ≡ length old
   pub here : (i : ℕ) → i < count → slice_index_or new (at + i) null_word ≡ word i

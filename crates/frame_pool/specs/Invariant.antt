@@ -1,14 +1,18 @@
--- The two lists of frames behind what callers see.
-use Rattle.std.specs.Prelude.{ℕ, ◌≡◌, ◌+◌, ◌*◌, ◌<◌, ◌≤◌, ◌⊎◌, Bool, List, length, Contains}
+-- The two lists of frames that represent what callers see.
+use Rattle.std.specs.Prelude.{ℕ, ◌≡◌, ◌+◌, ◌*◌, ◌<◌, ◌≤◌, ◌⊎◌, ◌^◌, Bool, List, length, slice_index, Contains, MatchOption}
 use Rattle.store_word.specs.Words.{Parts}
-use Rattle.index_lists.specs.Chains.{Chains, list_at, IsSound}
+use Rattle.index_lists.specs.Chains.{Chains, list_at, last_of, IsSound}
 use Rattle.frame_pool.specs.Pool.{Pool}
 
 -- list 0 has the free frames, list 1 the taken ones
 abbrev pub pool_of : Chains → List ℕ → List Bool → List Parts → Pool
 pool_of c pages tags words = record { free = list_at c 0; used = list_at c 1; pages = pages; tags = tags; words = words }
 
--- what is kept from call to call
+-- the last frame in the order of use and its page are these; the page is 2^32 if no frame is taken
+abbrev pub IsLatest : List ℕ → List ℕ → ℕ → ℕ → Type 0
+IsLatest used pages page frame = MatchOption (last_of used) (page ≡ 2 ^ 32) (λ last. (frame ≡ last) × (page ≡ slice_index pages last))
+
+-- what holds between calls
 pub record PoolInvariant (c : Chains) (p : Pool) : Type 0 where
   pub sound : IsSound c
   pub two : length c.lists ≡ 2

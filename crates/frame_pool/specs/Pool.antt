@@ -35,7 +35,7 @@ page_at p frame = slice_index p.pages frame
 abbrev pub tag_of : Pool → ℕ → Bool
 tag_of p frame = slice_index_or p.tags frame false
 
--- the pool with a free frame taken by a page: it is the last to be evicted, its tag is unset, and its words stay
+-- the pool after a page has taken a free frame: the frame is the last to be evicted, its tag is unset, and its words are unchanged
 abbrev pub with_taken : Pool → ℕ → ℕ → Pool
 with_taken p frame page = record p {
   free = without frame p.free;
@@ -60,7 +60,7 @@ with_free p frame = record p { free = p.free ++ frame ∷ []; used = without fra
 abbrev pub with_latest : Pool → ℕ → Pool
 with_latest p frame = record p { used = without frame p.used ++ frame ∷ [] }
 
--- each frame is free or taken, and is so once
+-- each frame is either free or taken, and is listed once
 pub record IsPool (p : Pool) : Type 0 where
   pub few : frames_of p ≤ 4096
   pub tag_each : length p.tags ≡ frames_of p

@@ -1,11 +1,12 @@
 //! The frames, and the calls on them.
 ghost use Rattle.std.specs.Prelude.{◌≡◌, ◌≢◌, ℕ, ◌+◌, ◌*◌, ◌<◌, ◌≤◌, ◌↔◌, [], length, slice_get, slice_set, slice_index_or, Some, Contains, IfOk, IfSome, IsNone, MatchOption};
-ghost use Rattle.index_lists.specs.Chains.{first_of, last_of, next_in};
+ghost use Rattle.index_lists.specs.Chains.{first_of, last_of, next_in, list_at};
+ghost use Rattle.frame_pool.specs.Invariant.{IsLatest};
 ghost use Rattle.frame_pool.specs.Fills.{Fills, FillsSpan};
 ghost use Rattle.store_word.specs.Words.{null_word};
 ghost use Rattle.frame_pool.specs.Pool.{fresh_pool, frames_of, page_at, tag_of, with_free, with_latest, with_taken, IsPool, Takes};
 
-use crate::words::{PAGE_WORDS, clear_frame, copy_span, fill_frame, fill_span};
+use crate::words::FrameWords;
 use index_lists::Lists;
 use std::alloc::Global;
 use std::marker::Model;
@@ -17,29 +18,38 @@ const FREE: u32 = 0;
 // The list of the taken frames, the least recently used first.
 const USED: u32 = 1;
 
-/// Frames of 256 words, each of them free or taken by a page. Frames go by number, from 0.
+// Greater than each page.
+const NO_PAGE: u64 = 1 << 32;
+
+/// Frames of 256 words, each of them free or taken by a page. Frames are numbered from 0.
 #[derive(Drop)]
 pub struct FramePool {
     chains: Lists,
     pages: Vec<u32>,
     tags: Vec<bool>,
-    words: Vec<Word>,
+    words: FrameWords,
+
+    // The most recently used frame and its page; the page is 2^32 if no frame is taken.
+    latest_page: u64,
+    latest_frame: u32,
 }
 
 impl Model for FramePool {
     ghost use Rattle.frame_pool.specs.Pool.{Pool};
-    ghost use Rattle.frame_pool.specs.Invariant.{pool_of, PoolInvariant};
+    ghost use Rattle.frame_pool.specs.Invariant.{pool_of, IsLatest, PoolInvariant};
+    ghost use Rattle.index_lists.specs.Chains.{list_at};
 
     ghost Value = { Pool };
 
-    ghost view = { λ a. pool_of a.chains a.pages.items a.tags.items a.words.items };
+    ghost view = { λ a. pool_of a.chains a.pages.items a.tags.items a.words };
 
-    ghost invariant = { λ a. PoolInvariant a.chains (pool_of a.chains a.pages.items a.tags.items a.words.items) };
+    ghost invariant = { λ a. PoolInvariant a.chains (pool_of a.chains a.pages.items a.tags.items a.words)
+        × IsLatest (list_at a.chains 1) a.pages.items a.latest_page a.latest_frame };
 }
 
 impl FramePool {
-    /// At most 4,096 frames, all of them free. It takes 2,048 bytes for the words of each frame,
-    /// and no later call takes memory.
+    /// At most 4,096 frames, all of them free. It reserves 2,048 bytes for the words of each frame,
+    /// which aren't touched before the frame is used, and no later call allocates memory.
     pub fn new(alloc: Global, frames: u32) -> Result<FramePool, NoMemory>
         requires { frames ≤ 4096 }
         ensures fresh { IfOk result (λ pool. pool ≡ fresh_pool frames) }
@@ -52,16 +62,18 @@ impl FramePool {
         let count = frames as usize;
         let pages = vec![in alloc; 0; count]?;
         let tags = vec![in alloc; false; count]?;
-        let words = vec![in alloc; Word::null(); count * PAGE_WORDS]?;
+        let words = FrameWords::new(alloc, frames)?;
         Ok(FramePool {
             chains,
             pages,
             tags,
             words,
+            latest_page: NO_PAGE,
+            latest_frame: 0,
         })
     }
 
-    /// A free frame; None where every frame is taken.
+    /// A free frame; None if and only if every frame is taken.
     pub fn free_frame(&self) -> Option<u32>
         ensures first { result ≡ first_of self.now.free }
         ensures none { IsNone result ↔ (length self.now.used ≡ frames_of self.now) }
@@ -98,7 +110,7 @@ impl FramePool {
         self.fill(frame, from);
     }
 
-    // A page takes a free frame, whose words stay. Its tag is unset, and it is the most recently used.
+    // A page takes a free frame, whose words are unchanged. The frame is untagged, and used last.
     fn claim(&mut self, frame: u32, page: u32)
         requires { Contains self.old.free frame }
         ensures claimed { self.new ≡ with_taken self.old frame page }
@@ -110,6 +122,8 @@ impl FramePool {
         self.chains.push_back(USED, frame);
         self.pages[frame as usize] = page;
         self.tags[frame as usize] = false;
+        self.latest_page = page as u64;
+        self.latest_frame = frame;
     }
 
     // The 256 words of a frame become NULL.
@@ -119,7 +133,7 @@ impl FramePool {
         ensures rest { self.new ≡ record (self.old) { words = self.new.words } }
         ensures sound { IsPool self.new }
     {
-        clear_frame(&mut self.words, frame);
+        self.words.clear(frame);
     }
 
     /// A taken frame becomes free.
@@ -131,9 +145,12 @@ impl FramePool {
     {
         self.chains.remove(frame);
         self.chains.push_back(FREE, frame);
+        let (page, latest) = latest_in(&self.chains, &self.pages);
+        self.latest_page = page;
+        self.latest_frame = latest;
     }
 
-    /// A taken frame becomes the most recently used. This writes nothing where it is that already.
+    /// A taken frame becomes the most recently used. If it is that already, nothing is written.
     pub fn touch(&mut self, frame: u32)
         requires { Contains self.old.used frame }
         ensures touched { self.new ≡ with_latest self.old frame }
@@ -141,14 +158,16 @@ impl FramePool {
         ensures inside { frame < frames_of self.new }
         ensures sound { IsPool self.new }
     {
-        if self.chains.back(USED) == Some(frame) {
+        if self.latest_frame == frame {
             return;
         }
         self.chains.move_back(frame);
+        self.latest_page = self.pages[frame as usize] as u64;
+        self.latest_frame = frame;
     }
 
-    /// The most recently used frame, where it is this page's; None where it is another's, or no frame is taken. To touch what it
-    /// answers would change nothing.
+    /// The most recently used frame, if this page has taken it; None if another page has, or no frame is taken. To touch the frame
+    /// returned would change nothing.
     pub fn latest_of(&self, page: u32) -> Option<u32>
         ensures used { IfSome result (Contains self.now.used) }
         ensures same { IfSome result (λ frame. with_latest self.now frame ≡ self.now) }
@@ -156,15 +175,14 @@ impl FramePool {
         ensures none { IsNone result → (frame : ℕ) → last_of self.now.used ≡ Some frame → page_at self.now frame ≢ page }
         ensures sound { IsPool self.now }
     {
-        let frame = self.chains.back(USED)?;
-        if self.pages[frame as usize] == page {
-            Some(frame)
+        if self.latest_page == page as u64 {
+            Some(self.latest_frame)
         } else {
             None
         }
     }
 
-    /// The least recently used of the taken frames; None where no frame is taken.
+    /// The least recently used of the taken frames; None if and only if no frame is taken.
     pub fn oldest(&self) -> Option<u32>
         ensures first { result ≡ first_of self.now.used }
         ensures none { IsNone result ↔ (self.now.used ≡ []) }
@@ -175,7 +193,7 @@ impl FramePool {
         self.chains.front(USED)
     }
 
-    /// The taken frame that was used next after this one; None where this is the most recently used.
+    /// The taken frame that was used next after this one; None if this is the most recently used.
     pub fn after(&self, frame: u32) -> Option<u32>
         requires { Contains self.now.used frame }
         ensures next { result ≡ next_in self.now.used frame }
@@ -186,7 +204,7 @@ impl FramePool {
         self.chains.next(frame)
     }
 
-    /// The page that has taken a frame; None where the frame is free.
+    /// The page that has taken a frame; None if and only if the frame is free.
     pub fn page_of(&self, frame: u32) -> Option<u32>
         requires { frame < frames_of self.now }
         ensures page { MatchOption result (Contains self.now.free frame)
@@ -210,8 +228,7 @@ impl FramePool {
             → slice_get result.now k ≡ slice_get self.now.words (256 * frame + k) }
         ensures sound { IsPool self.now }
     {
-        let start = frame as usize * PAGE_WORDS;
-        &self.words[start..start + PAGE_WORDS]
+        self.words.page(frame)
     }
 
     /// Changes one word of a frame. The offset is below 256.
@@ -222,7 +239,7 @@ impl FramePool {
             ≡ record (self.old) { words = slice_set self.old.words (256 * frame + offset) word } }
         ensures sound { IsPool self.new }
     {
-        self.words[frame as usize * PAGE_WORDS + offset as usize] = word;
+        self.words.set(frame, offset, word);
     }
 
     /// The 256 words of a frame become those of a slice.
@@ -233,10 +250,10 @@ impl FramePool {
         ensures rest { self.new ≡ record (self.old) { words = self.new.words } }
         ensures sound { IsPool self.new }
     {
-        fill_frame(&mut self.words, frame, from);
+        self.words.fill(frame, from);
     }
 
-    /// Copies so many words of a frame, from an offset on, to an offset of a frame, which may be the
+    /// Copies `count` words of a frame, from an offset on, to an offset of a frame, perhaps the
     /// same one. Both places are within their frame.
     pub fn copy_words(&mut self, from_frame: u32, from: u32, to_frame: u32, to: u32, count: u32)
         requires from_frame { from_frame < frames_of self.old }
@@ -247,15 +264,10 @@ impl FramePool {
         ensures rest { self.new ≡ record (self.old) { words = self.new.words } }
         ensures sound { IsPool self.new }
     {
-        copy_span(
-            &mut self.words,
-            from_frame as usize * PAGE_WORDS + from as usize,
-            to_frame as usize * PAGE_WORDS + to as usize,
-            count as usize,
-        );
+        self.words.copy(from_frame, from, to_frame, to, count);
     }
 
-    /// Writes one word to so many offsets of a frame, from one on. All are below 256.
+    /// Writes one word to `count` offsets of a frame, from one on. All are below 256.
     pub fn fill_words(&mut self, frame: u32, from: u32, count: u32, word: Word)
         requires frame { frame < frames_of self.old }
         requires from { from + count ≤ 256 }
@@ -263,12 +275,7 @@ impl FramePool {
         ensures rest { self.new ≡ record (self.old) { words = self.new.words } }
         ensures sound { IsPool self.new }
     {
-        fill_span(
-            &mut self.words,
-            frame as usize * PAGE_WORDS + from as usize,
-            count as usize,
-            word,
-        );
+        self.words.fill_span(frame, from, count, word);
     }
 
     /// Whether a frame has its tag.
@@ -287,5 +294,17 @@ impl FramePool {
         ensures sound { IsPool self.new }
     {
         self.tags[frame as usize] = tag;
+    }
+}
+
+// The page of the last frame in the order of use, and the frame.
+fn latest_in(chains: &Lists, pages: &[u32]) -> (u64, u32)
+    requires two { length chains.now.lists ≡ 2 }
+    requires inside { (frame : ℕ) → Contains (list_at chains.now 1) frame → frame < length pages.now }
+    ensures { IsLatest (list_at chains.now 1) pages.now result.0 result.1 }
+{
+    match chains.back(USED) {
+        Some(frame) => (pages[frame as usize] as u64, frame),
+        None => (NO_PAGE, 0),
     }
 }

@@ -1,15 +1,156 @@
-//! The words of all frames stand one frame after another.
-ghost use Rattle.std.specs.Prelude.{◌≡◌, ◌+◌, ◌*◌, ◌≤◌, length, slice_get, slice_index_or, Some};
+//! The words of all frames, stored frame after frame.
+ghost use Rattle.std.specs.Prelude.{◌≡◌, ℕ, ◌+◌, ◌-◌, ◌*◌, ◌<◌, ◌≤◌, ◌++◌, length, replicate, slice_get, slice_set, slice_index_or, vec_len, vec_capacity, Some, IfOk};
 ghost use Rattle.store_word.specs.Words.{null_word};
 ghost use Rattle.frame_pool.specs.Fills.{Fills, FillsSpan};
 
-use store_word::Word;
+use std::alloc::Global;
+use std::marker::Model;
+use store_word::{NoMemory, Word};
 
-/// The words of a frame.
-pub(crate) const PAGE_WORDS: usize = 256;
+// The words of a frame.
+const PAGE_WORDS: usize = 256;
 
-/// The words of one frame become those of a slice.
-pub(crate) fn fill_frame(words: &mut [Word], frame: u32, from: &[Word])
+/// The words of all frames. Those of the first frames are stored, up to the last frame that was ever written to; the others
+/// are NULL. `new` reserves room for all of them, but doesn't touch it.
+#[derive(Drop)]
+pub(crate) struct FrameWords {
+    stored: Vec<Word>,
+    blank: Vec<Word>,
+    frames: u32,
+}
+
+impl Model for FrameWords {
+    ghost use Rattle.std.specs.Prelude.{◌≡◌, ◌*◌, List, replicate, vec_capacity};
+    ghost use Rattle.store_word.specs.Words.{Parts, null_word};
+    ghost use Rattle.frame_pool.specs.Stored.{padded, IsStored};
+
+    ghost Value = { List Parts };
+
+    ghost view = { λ w. padded (256 * w.frames) w.stored.items };
+
+    ghost invariant = { λ w. IsStored w.frames (vec_capacity w.stored) w.stored.items × (w.blank.items ≡ replicate 256 null_word) };
+}
+
+impl FrameWords {
+    /// The words of this many frames, at most 4,096, all of them NULL. No later call allocates memory.
+    pub(crate) fn new(alloc: Global, frames: u32) -> Result<FrameWords, NoMemory>
+        requires { frames ≤ 4096 }
+        ensures { IfOk result (λ words. words ≡ replicate (frames * 256) null_word) }
+    {
+        let stored = Vec::with_capacity(alloc, frames as usize * PAGE_WORDS)?;
+        let blank = vec![in alloc; Word::null(); PAGE_WORDS]?;
+        Ok(FrameWords {
+            stored,
+            blank,
+            frames,
+        })
+    }
+
+    /// The 256 words of a frame.
+    pub(crate) fn page(&self, frame: u32) -> &[Word]
+        requires { 256 * frame + 256 ≤ length self.now }
+        ensures size { length result.now ≡ 256 }
+        ensures words { (k : ℕ) → k < 256 → slice_get result.now k ≡ slice_get self.now (256 * frame + k) }
+    {
+        let start = frame as usize * PAGE_WORDS;
+        if start < self.stored.len() {
+            &self.stored[start..start + PAGE_WORDS]
+        } else {
+            &self.blank
+        }
+    }
+
+    /// Changes one word of a frame.
+    pub(crate) fn set(&mut self, frame: u32, offset: u32, word: Word)
+        requires frame { 256 * frame + 256 ≤ length self.old }
+        requires offset { offset < 256 }
+        ensures { self.new ≡ slice_set self.old (256 * frame + offset) word }
+    {
+        let start = frame as usize * PAGE_WORDS;
+        reach(&mut self.stored, start + PAGE_WORDS);
+        self.stored[start + offset as usize] = word;
+    }
+
+    /// The words of one frame become those of a slice.
+    pub(crate) fn fill(&mut self, frame: u32, from: &[Word])
+        requires inside { 256 * frame + 256 ≤ length self.old }
+        requires page { length from.now ≡ 256 }
+        ensures { Fills self.old self.new frame (slice_get from.now) }
+    {
+        reach(&mut self.stored, frame as usize * PAGE_WORDS + PAGE_WORDS);
+        fill_frame(&mut self.stored, frame, from);
+    }
+
+    /// The words of one frame become NULL.
+    pub(crate) fn clear(&mut self, frame: u32)
+        requires inside { 256 * frame + 256 ≤ length self.old }
+        ensures { Fills self.old self.new frame (λ _. Some null_word) }
+    {
+        reach(&mut self.stored, frame as usize * PAGE_WORDS + PAGE_WORDS);
+        clear_frame(&mut self.stored, frame);
+    }
+
+    /// Copies `count` words of a frame, from an offset on, to an offset of a frame, perhaps the same one.
+    pub(crate) fn copy(&mut self, from_frame: u32, from: u32, to_frame: u32, to: u32, count: u32)
+        requires from_frame { 256 * from_frame + 256 ≤ length self.old }
+        requires from { from + count ≤ 256 }
+        requires to_frame { 256 * to_frame + 256 ≤ length self.old }
+        requires to { to + count ≤ 256 }
+        ensures { FillsSpan self.old self.new (256 * to_frame + to) count (λ i. slice_index_or self.old (256 * from_frame + from + i) null_word) }
+    {
+        let start = from_frame as usize * PAGE_WORDS;
+        let target = to_frame as usize * PAGE_WORDS;
+        reach(&mut self.stored, start.max(target) + PAGE_WORDS);
+        copy_span(
+            &mut self.stored,
+            start + from as usize,
+            target + to as usize,
+            count as usize,
+        );
+    }
+
+    /// Writes one word to `count` offsets of a frame, from one on.
+    pub(crate) fn fill_span(&mut self, frame: u32, from: u32, count: u32, word: Word)
+        requires frame { 256 * frame + 256 ≤ length self.old }
+        requires from { from + count ≤ 256 }
+        ensures { FillsSpan self.old self.new (256 * frame + from) count (λ _. word) }
+    {
+        let start = frame as usize * PAGE_WORDS;
+        reach(&mut self.stored, start + PAGE_WORDS);
+        fill_span(
+            &mut self.stored,
+            start + from as usize,
+            count as usize,
+            word,
+        );
+    }
+}
+
+// Stores words up to a number of words: those that weren't stored are NULL.
+#[inline]
+fn reach(stored: &mut Vec<Word>, end: usize)
+    requires { end ≤ vec_capacity stored.old }
+    ensures items { stored.new.items ≡ stored.old.items ++ replicate (end - length stored.old.items) null_word }
+    ensures capacity { vec_capacity stored.old ≤ vec_capacity stored.new }
+{
+    if stored.len() < end {
+        store_more(stored, end);
+    }
+}
+
+// Stores NULL words up to a number of words.
+#[inline(never)]
+fn store_more(stored: &mut Vec<Word>, end: usize)
+    requires room { end ≤ vec_capacity stored.old }
+    requires more { vec_len stored.old < end }
+    ensures items { stored.new.items ≡ stored.old.items ++ replicate (end - length stored.old.items) null_word }
+    ensures capacity { vec_capacity stored.old ≤ vec_capacity stored.new }
+{
+    stored.resize(end, Word::null()).unwrap();
+}
+
+// The words of one frame become those of a slice.
+fn fill_frame(words: &mut [Word], frame: u32, from: &[Word])
     requires inside { 256 * frame + 256 ≤ length words.old }
     requires page { length from.now ≡ 256 }
     ensures { Fills words.old words.new frame (slice_get from.now) }
@@ -18,8 +159,8 @@ pub(crate) fn fill_frame(words: &mut [Word], frame: u32, from: &[Word])
     words[start..start + PAGE_WORDS].copy_from_slice(from);
 }
 
-/// The words of one frame become NULL.
-pub(crate) fn clear_frame(words: &mut [Word], frame: u32)
+// The words of one frame become NULL.
+fn clear_frame(words: &mut [Word], frame: u32)
     requires inside { 256 * frame + 256 ≤ length words.old }
     ensures { Fills words.old words.new frame (λ _. Some null_word) }
 {
@@ -27,8 +168,8 @@ pub(crate) fn clear_frame(words: &mut [Word], frame: u32)
     words[start..start + PAGE_WORDS].fill(Word::null());
 }
 
-/// So many words from one place on become those from another.
-pub(crate) fn copy_span(words: &mut [Word], from: usize, to: usize, count: usize)
+// The `count` words from one place on become those from another.
+fn copy_span(words: &mut [Word], from: usize, to: usize, count: usize)
     requires from_inside { from + count ≤ length words.old }
     requires to_inside { to + count ≤ length words.old }
     ensures { FillsSpan words.old words.new to count (λ i. slice_index_or words.old (from + i) null_word) }
@@ -36,8 +177,8 @@ pub(crate) fn copy_span(words: &mut [Word], from: usize, to: usize, count: usize
     words.copy_within(from..from + count, to);
 }
 
-/// So many words from a place on become one word.
-pub(crate) fn fill_span(words: &mut [Word], at: usize, count: usize, word: Word)
+// The `count` words from a place on become one word.
+fn fill_span(words: &mut [Word], at: usize, count: usize, word: Word)
     requires inside { at + count ≤ length words.old }
     ensures { FillsSpan words.old words.new at count (λ _. word) }
 {

@@ -1,4 +1,4 @@
--- An allocation that is admitted is a step, and so is one that is refused; with the silent steps before it, it is what the definition does.
+-- An allocation that is admitted is a transition, and so is one that is refused; with the silent steps before it, it is what the definition does.
 use Rattle.std.proofs.Common.{◌≡◌, ℕ, ◌+◌, ◌-◌, ◌*◌, ◌<◌, ◌≤◌, inl, Bool, true, false, not, ◌&&◌, if◌then◌else◌, List, Option, MatchBool, IsTrue, refl, sym, ◌∙◌, ap, subst, arith}
 use Rattle.std.specs.Prelude.{is_some}
 use Rattle.std.proofs.lemmas.Bool.{and_from, leb-true, lt-ltb, or_right}
@@ -32,7 +32,7 @@ use Rattle.heap_collect.specs.Admitting.{HasLeft, Wants, refusal}
 use Rattle.heap_collect.specs.Laws.{AdmittedIsStep, PreparedGoes}
 use Rattle.heap_collect.proofs.Reclaimed.{swept_of}
 
--- What a table and a state say of an area
+-- What a table and a state record of an area
 
 module _ (m : Store) (t : Table) (registers : List Parts) (k : RoleMap) (s : State) (b : Represents m t registers k s) (area : ℕ) (inside : area < areas_of t) where
   pub account_is : account_of t area ≡ account_now s area
@@ -65,7 +65,7 @@ module _ (m : Store) (t : Table) (scan : Scan) (registers : List Parts) (k : Rol
   over_here : (may : Bool) → IsOverAfter s may s (is_over s.phase)
   over_here may = record { stays = λ e. e; only_by = λ no yes. absurd (cc); at_last = still_going s.phase refl }
 
-  -- where the quota leaves less nothing changes
+  -- if the quota allows less nothing changes
   pub refused_steps : exceeds s (wanted_of area charge) ≡ true → StepsTo m t scan registers s c (exhausted s (wanted_of area charge))
   refused_steps more =
       let answer : answer_of s c w.effect_of ≡ (exhausted s (wanted_of area charge), s) =
@@ -88,7 +88,7 @@ module _ (m : Store) (t : Table) (scan : Scan) (registers : List Parts) (k : Rol
       let same : refusal t area charge ≡ exhausted s (wanted_of area charge) = ap (λ (n : ℕ). R.Exhausted area n charge (quota_of t area)) a ∙ ap (λ (n : ℕ). R.Exhausted area (account_now s area) charge n) q in
       subst (λ (r : Reply). StepsTo m t scan registers s c r) (sym same) (refused_steps (lt-ltb (rule_of s.areas area).quota (account_now s area + charge) (omega arith)))
 
-  -- a fault of the scan before it
+  -- a swap error in the scan before it
   pub fault_steps : (m' : Store) (t' : Table) (scan' : Scan) (registers' : List Parts) → IsTrue (may_fault c) → HasScannedAhead m t m' t' scan' registers' k s 0 → StepsTo m' t' scan' registers' s c R.Fault
   fault_steps m' t' scan' registers' may y =
       let wants : is_some (wanted_by (effect (graph_of s) c)) ≡ true = ap (λ (o : Option Effect). is_some (wanted_by o)) w.is ∙ ap is_some w.wanted in
@@ -96,7 +96,7 @@ module _ (m : Store) (t : Table) (scan : Scan) (registers : List Parts) (k : Rol
 
 -- Admitted
 
--- the scan before it leaves as much of the quota
+-- the quota allows as much after the scan before it
 pub left_still : (m m' : Store) (t t' : Table) (registers registers' : List Parts) (k k' : RoleMap) (s : State) (area charge : ℕ) → Represents m t registers k s → Represents m' t' registers' k' s → area < areas_of t → account_of t area + charge ≤ quota_of t area → HasLeft t' area charge
 left_still m m' t t' registers registers' k k' s area charge b b' inside left =
     let n = areas_agree m t k s.space.levels s.areas s.store (aim_of s.phase) b.kept in

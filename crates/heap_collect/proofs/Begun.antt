@@ -1,4 +1,4 @@
--- How many units there were at the start stays while units are scanned.
+-- How many units there were at the start is unchanged while units are scanned.
 use Rattle.std.proofs.Common.{◌≡◌, ℕ, List, refl, ◌∙◌, ap}
 use Rattle.store_word.specs.Words.{Parts}
 use Rattle.mem_port.specs.Store.{Store}

@@ -72,7 +72,7 @@ module _ (m : Store) (t u : Table) (pages : List ℕ) (scan scan' : Scan) (what 
         (record { strong = stands.strong; ground = record { kept = on.kept; ground = ground; named = named; table = table'; room = on.room; agrees = record { levels = on.agrees.levels; quotas = on.agrees.quotas; kinds = on.agrees.kinds } } })
         (clean registers held, going) marks
 
--- where the memory is the same after it, and the table but for its pages
+-- if the memory is the same after it, and the table too except for its pages
 module _ (m m1 m' : Store) (t u v : Table) (scan scan' : Scan) (what : Condemn) (count : ℕ) (one : m1 ≡ m) (two : m' ≡ m1) (same : v ≡ record u { pages = v.pages }) where
   both : m' ≡ m
   both = two ∙ one
@@ -105,7 +105,7 @@ few_of m t u what count condemns is =
     let same : u.regions ≡ t.regions = ap (λ (w : Table). w.regions) condemns.same in
     omega arith
 
--- the scan begins with the table's set of pages as it is then
+-- the scan begins with the table's set of pages at that time
 pub begins_there : (m m1 : Store) (t1 t2 : Table) (what : Condemn) (old new : Scan) → m1 ≡ m → t2 ≡ (record t1 { pages = t2.pages }) → Begins m1 t1 what old new → Begins m t2 what old new
 begins_there m m1 t1 t2 what old new memory table begins =
     let x = subst (λ (y : Store). Begins y t1 what old new) memory begins in

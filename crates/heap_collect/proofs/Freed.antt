@@ -1,4 +1,4 @@
--- What a reclaim frees, and a flip leaves.
+-- What a reclaim frees, and what a flip leaves unchanged.
 use Rattle.std.proofs.Common.{◌≡◌, ℕ, ◌/◌, ◌<◌, ◌⊎◌, inl, inr, refl, sym, ◌∙◌, ap, subst, List, [], length, Option, arith}
 use Rattle.std.specs.Prelude.{Contains, slice_get, unwrap_or, Bool, true, false}
 use Rattle.std.proofs.lemmas.Option.{get_or_from_slice_get, unwrap_or-slice_get}

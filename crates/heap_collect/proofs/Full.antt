@@ -30,7 +30,7 @@ some_suc : (p : ℕ → Bool) (n : ℕ) → some_below p (suc n) ≡ (p n || som
 unfolding some_below
 some_suc p n = refl
 
--- it isn't empty where some level is full
+-- it isn't empty if and only if some level is full
 pub bits_some : (p : ℕ → Bool) (n : ℕ) → some_below p n ≡ not (bits_of p n == 0)
 bits_some p zero = some_zero p ∙ ap (λ (x : ℕ). not (x == 0)) (sym (total-zero (λ i. if_true (p i) (2 ^ i))))
 bits_some p (suc n) = go (p n) refl (bits_some p n)
@@ -79,7 +79,7 @@ from_set None bits value none small some = let few : 64 ≤ bits = none.0 refl i
 from_set (Some levels) bits value none small some =
     ap (λ (b : ℕ). let o : Option Levels = Some (record { 0 = b }) in o) value ∙ sym (ap (λ (b : Bool). let o : Option Levels = if b then None else Some (record { 0 = bits }) in o) (ne_eqb bits 0 some))
 
--- a set that is told
+-- the set, if there is one
 pub set_some : (bits : ℕ) (levels : Levels) → some_set bits ≡ Some levels → (levels ≡ record { 0 = bits }) × (not (bits == 0) ≡ true)
 set_some bits levels e = go (bits == 0) e
   where
@@ -87,7 +87,7 @@ set_some bits levels e = go (bits == 0) e
     go true x = absurd (cc)
     go false x = (cc, refl)
 
--- and where none is
+-- and if none is
 pub set_none : (bits : ℕ) → some_set bits ≡ None → not (bits == 0) ≡ false
 set_none bits e = go (bits == 0) e
   where

@@ -1,4 +1,4 @@
--- An allocation that looks at an object before it asks for words.
+-- An allocation that looks at an object before it requests words.
 use Rattle.std.proofs.Common.{◌≡◌, ◌≢◌, ◌*◌, inl, inr, refl, sym, ◌∙◌, ap, subst, List, Option, Some, None, arith}
 use Rattle.store_word.specs.Words.{Parts}
 use Rattle.lisp_graph.specs.declared.command.Command.{Command}
@@ -57,7 +57,7 @@ module _ (clean : CleanStays) (units : UnitsStay) (m m' : Store) (t t' : Table) 
 pub stands_after_look : CleanStays → UnitsStay → StandsAfterLook
 stands_after_look clean units m m' t t' scan registers registers' k s b marks preserves others stays_fresh x = stands_there clean units m m' t t' scan registers registers' k s b preserves others stays_fresh x marks
 
--- Before words are asked for
+-- Before words are requested
 
 wants_of : (s : State) (c : Command) (w : Wanted) (o : Option Effect) → effect (graph_of s) c ≡ o → wanted_by o ≡ Some w → Wants s c w.area w.charge
 wants_of s c w None is e = absurd (let x : None ≡ Some w = e in cc)
@@ -68,7 +68,7 @@ module _ (clean : CleanStays) (units : UnitsStay) (law : PerformsIsStep) (m m' :
   unasked : wanted_by (effect (graph_of s) c) ≡ None → StepsTo m' t' scan registers' s c r
   unasked none = law m m' t t' scan registers registers' k s c r 0 b.represents b.scans b.reach (λ e is. sym (ap (paid_wanting s) (sym (ap wanted_by is) ∙ none))) p
 
-  -- a fault
+  -- a swap error
   failed : (o : Option Wanted) → wanted_by (effect (graph_of s) c) ≡ o → FaultsOn m t m' t' registers' c r k s → StepsTo m' t' scan registers' s c r
   failed None is f = unasked is
   failed (Some w) is f =

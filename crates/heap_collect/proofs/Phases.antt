@@ -1,4 +1,4 @@
--- The steps of `flip` and `reclaim`, by the phase.
+-- The transitions of `flip` and `reclaim`, by the phase.
 use Rattle.std.proofs.Common.{◌≡◌, ℕ, ◌*◌, ◌≤◌, refl, sym, ◌∙◌, subst, inl, Bool, true, false, None, List, length, arith}
 use Rattle.std.specs.Prelude.{MatchBool}
 use Rattle.store_word.specs.Words.{Parts}

@@ -1,4 +1,4 @@
--- What a row of scans leaves.
+-- The state after several scans.
 use Rattle.std.proofs.Common.{◌≡◌, ℕ, ◌+◌, ◌-◌, ◌≤◌, inl, inr, Bool, true, false, refl, sym, ◌∙◌, ap, subst, List, Option, Some, None, nat_le, arith}
 use Rattle.std.specs.Prelude.{is_some, not, if◌then◌else◌, Result, Ok, Err, OnOk}
 use Rattle.std.proofs.lemmas.Bool.{cases_Bool, leb-true}
@@ -54,7 +54,7 @@ pub none_of : {A : Type 0} (o r : Option A) (b : Bool) → r ≡ o → is_some r
 none_of None r b same is told = refl
 none_of (Some x) r b same is told = let y : is_some r ≡ true = ap is_some same in let z : not b ≡ false = ap not told in let w : true ≡ false = sym y ∙ is ∙ z in cc
 
--- where none runs in the table none does in the state
+-- if none runs in the table none does in the state
 pub idle_phase : (t : Table) (p : Phase) → Aims t p → t.aim ≡ None → p ≡ Idle
 idle_phase t Idle a none = refl
 idle_phase t (Running c) a none = absurd (some_none c.aim.what (sym a ∙ none))
@@ -178,7 +178,7 @@ module _ (m : Store) (t : Table) (scan : Scan) (registers : List Parts) (k : Rol
     scans = subst (λ (p : Phase). Scans m t scan registers k s.store p 0) (sym ends_as) (record { clean = w.clean; over = refl; work = λ going. (let a = w.work going in omega arith) });
   }
 
--- by what was scanned ahead
+-- for what was scanned ahead
 pub scavenges : (m m' : Store) (t t' : Table) (scan' : Scan) (registers registers' : List Parts) (k : RoleMap) (s : State) (count limit : ℕ) (r : Reply) → limit ≡ count → (t.aim ≡ None → ⊥) → Represents m t registers k s → HasScannedAhead m t m' t' scan' registers' k s limit
     → r ≡ (if scan'.over then R.Done else R.More) → StepsTo m' t' scan' registers' s (C.Scavenge count) r
 scavenges m m' t t' scan' registers registers' k s count limit r same some b y is =
@@ -189,7 +189,7 @@ scavenges m m' t t' scan' registers registers' k s count limit r same some b y i
 pub faulted_ahead : (m m' : Store) (t t' : Table) (scan' : Scan) (registers registers' : List Parts) (k : RoleMap) (s : State) (count ahead : ℕ) → HasScannedAhead m t m' t' scan' registers' k s ahead → StepsTo m' t' scan' registers' s (C.Scavenge count) R.Fault
 faulted_ahead m m' t t' scan' registers registers' k s count ahead x = fault_is_step m' t' scan' registers' x.represented.map s (C.Scavenge count) ahead x.represented.represents x.scans refl refl
 
--- Answers of calls
+-- Results of calls
 
 pub ok_then : {A E : Type 0} {P Q : Type 0} (r : Result A E) → OnOk r P → (P → Q) → OnOk r Q
 ok_then (Ok x) p f = f p

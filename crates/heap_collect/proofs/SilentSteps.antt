@@ -1,4 +1,4 @@
--- What the silent steps leave.
+-- The state after the silent steps.
 use Rattle.std.proofs.Common.{◌≡◌, ◌⊎◌, inl, inr, ℕ, suc, ◌+◌, ◌*◌, ◌^◌, ◌<◌, ◌≤◌, ◌==◌, Bool, true, false, not, ◌&&◌, nat_le, nat_lt, List, Option, Some, None, if◌then◌else◌, is_none, is_some, MatchBool, refl, sym, ◌∙◌, ap, subst, arith}
 use Rattle.std.specs.Prelude.{IfSome}
 use Rattle.std.proofs.lemmas.Nat.{mul-add-lt}
@@ -75,7 +75,7 @@ module _ (m : Store) (t : Table) (scan : Scan) (registers : List Parts) (k : Rol
   pub some_aim : scan.over ≡ false → t.aim ≡ None → ⊥
   some_aim going none = let e = over_while_idle m t scan registers k s x (idle_phase t s.phase x.represents.aims none) in absurd (cc)
 
-  -- where none comes
+  -- if none occurs
   pub no_reclaim : (t.aim ≡ None) ⊎ (scan.over ≡ false) → SilentReclaim s s.phase s
   no_reclaim (inl none) = subst (λ (p : Phase). SilentReclaim s p s) (sym (idle_phase t s.phase x.represents.aims none)) refl
   no_reclaim (inr going) =
@@ -83,7 +83,7 @@ module _ (m : Store) (t : Table) (scan : Scan) (registers : List Parts) (k : Rol
       let w = swept_of m t scan registers k s c.0 x c.1 in
       subst (λ (p : Phase). SilentReclaim s p s) (sym c.1) (subst (λ (b : Bool). MatchBool b (Settles s c.0.aim s) (s ≡ s)) (sym (sym w.over ∙ going)) refl)
 
--- where one comes
+-- if one occurs
 pub reclaim_silent : (s new : State) (c : Collection) → s.phase ≡ Running c → c.over ≡ true → Settles s c.aim new → SilentReclaim s s.phase new
 reclaim_silent s new c running over settles = subst (λ (p : Phase). SilentReclaim s p new) (sym running) (subst (λ (b : Bool). MatchBool b (Settles s c.aim new) (new ≡ s)) (sym over) settles)
 
@@ -111,7 +111,7 @@ module _ (m : Store) (t : Table) (scan : Scan) (registers : List Parts) (k : Rol
   bits_same : full_bits t s.space s.space.levels ≡ (full_levels s).0
   bits_same = total-cong (λ i. if_true (is_full_on t s.space (suc i)) (2 ^ i)) (λ i. if_true (is_full s (suc i)) (2 ^ i)) s.space.levels (λ i l. ap (λ (b : Bool). if_true b (2 ^ i)) (full_same i l))
 
-  -- whether one comes
+  -- whether one occurs
   comes : (b : Bool) → not (full_bits t s.space s.space.levels == 0) ≡ b → (is_idle s.phase && some_below (λ i. is_full s (suc i)) s.space.levels) ≡ b
   comes b e =
       ap (λ (p : Phase). is_idle p && some_below (λ i. is_full s (suc i)) s.space.levels) idle
@@ -130,7 +130,7 @@ module _ (m : Store) (t : Table) (scan : Scan) (registers : List Parts) (k : Rol
       let y = set_none (full_bits t s.space s.space.levels) (ap (full_levels_on t) same ∙ none) in
       subst (λ (b : Bool). MatchBool b ((n : ℕ) × (n ≤ 16 * s.space.regions) × (s ≡ flipped s (Chosen (full_levels s)) n)) (s ≡ s)) (sym (comes false y)) refl
 
--- where a collection runs none comes
+-- if a collection runs none occurs
 pub no_flip_running : (s : State) (c : Collection) → s.phase ≡ Running c → SilentFlip s s
 no_flip_running s c running =
     subst (λ (b : Bool). MatchBool b ((n : ℕ) × (n ≤ 16 * s.space.regions) × (s ≡ flipped s (Chosen (full_levels s)) n)) (s ≡ s))
@@ -139,7 +139,7 @@ no_flip_running s c running =
 pub is_resting : (m : Store) (t : Table) (scan : Scan) (space : Space) → StandsIn m t scan space → t.aim ≡ None → IsResting m t scan
 is_resting m t scan space x none = record { registers = x.registers; map = x.map; state = x.state; represents = x.represents; idle = idle_phase t x.state.phase x.represents.represents.aims none }
 
--- Whether something is there, by tests
+-- Whether there is one, by tests
 
 pub aim_some : {A : Type 0} (o r : Option A) (b : Bool) → r ≡ o → b ≡ is_some r → b ≡ true → o ≡ None → ⊥
 aim_some o r b same is there none = let x : is_some r ≡ false = ap is_some (same ∙ none) in let z : true ≡ false = sym there ∙ is ∙ x in cc
@@ -148,7 +148,18 @@ pub aim_none : {A : Type 0} (o r : Option A) (b : Bool) → r ≡ o → b ≡ is
 aim_none None r b same is gone = refl
 aim_none (Some v) r b same is gone = let x : is_some r ≡ true = ap is_some same in let z : false ≡ true = sym gone ∙ is ∙ x in absurd (cc)
 
+-- if a scan has finished and no reclaim is due, no collection runs
+pub aim_gone : {A : Type 0} (over : Bool) (aim : Option A) → over ≡ true → (over && is_some aim) ≡ false → aim ≡ None
+aim_gone true None is never = refl
+aim_gone true (Some v) is never = absurd (cc)
+aim_gone false aim is never = absurd (cc)
+
 -- Both
+
+-- if some level is collected by itself, a reclaim that doesn't occur isn't due
+pub not_due : (alone due : Bool) → alone ≡ true → (alone && due) ≡ false → due ≡ false
+not_due true due is never = never
+not_due false due is never = absurd (cc)
 
 -- the ground after a reclaim is one that a flip may begin with
 pub stands_after : (m m' : Store) (t t' : Table) (scan : Scan) (space : Space) → StandsIn m t scan space → t'.regions ≡ t.regions
@@ -162,7 +173,7 @@ both_silent : (s mid new : State) (space : Space) → s.space ≡ space → coll
 both_silent s mid new space same alone first second =
     subst (λ (b : Bool). MatchBool b ((mid : State) × SilentReclaim s s.phase mid × SilentFlip mid new) (new ≡ s)) (sym (ap collects_alone same ∙ alone)) (mid, first, second)
 
--- the world stays
+-- the world is unchanged
 reclaim_areas : (s mid : State) (p : Phase) → SilentReclaim s p mid → mid.areas ≡ s.areas
 reclaim_areas s mid Idle x = ap (λ (w : State). w.areas) x
 reclaim_areas s mid (Running c) x = go c.over x
@@ -189,7 +200,7 @@ prepares m t scan registers s mid new map space same alone first within second r
   represents = represents;
 }
 
--- whether a flip comes was to be seen before the reclaim
+-- whether a flip occurs could be seen before the reclaim
 pub comes_alone : (m : Store) (t t' : Table) (scan : Scan) (space : Space) → StandsIn m t scan space → collects_alone space ≡ true
     → (scan.over ≡ true → t'.aim ≡ None) → (scan.over ≡ false → t'.aim ≡ t.aim) → ((level : ℕ) → level < levels_of t → level_total t' level ≡ level_total t level)
     → flips_idle t' space ≡ flips_alone t scan space
@@ -226,14 +237,14 @@ module _ (t t' : Table) (scan : Scan) (space : Space) (same : flips_idle t' spac
   pub placed_then : (placed : ℕ) → t'.placed ≡ t.placed → (flips_idle t' space ≡ false → placed ≡ t'.placed) → (flips_idle t' space ≡ true → placed ≡ 0) → placed ≡ placed_from t scan space
   placed_then placed reclaimed still anew = from_here (flips_alone t scan space) placed t.placed (λ e. still (same ∙ e) ∙ reclaimed) (λ e. anew (same ∙ e))
 
--- where none come
+-- if none occur
 pub done_quiet : (t : Table) (scan : Scan) (space : Space) → collects_alone space ≡ false → scan.done ≡ done_from t scan space
 done_quiet t scan space quiet = sym (ap (λ (b : Bool). if (b && (scan.over && is_some (full_levels_on t space))) then 0 else scan.done) quiet)
 
 pub placed_quiet : (t : Table) (scan : Scan) (space : Space) → collects_alone space ≡ false → t.placed ≡ placed_from t scan space
 placed_quiet t scan space quiet = sym (ap (λ (b : Bool). if (b && (scan.over && is_some (full_levels_on t space))) then 0 else t.placed) quiet)
 
--- a flip comes by itself only if no collection runs
+-- a silent flip occurs only if no collection runs
 pub idle_flips : (t : Table) (space : Space) → flips_idle t space ≡ true → t.aim ≡ None
 idle_flips t space flips = go t.aim flips
   where
@@ -245,7 +256,7 @@ idle_flips t space flips = go t.aim flips
 pub full_again : (t u : Table) (space : Space) (P : Levels → Type 0) → full_levels_on u space ≡ full_levels_on t space → IfSome (full_levels_on u space) P → IfSome (full_levels_on t space) P
 full_again t u space P same there = subst (λ (o : Option Levels). IfSome o P) same there
 
--- no flip comes by itself in a world without a capacity
+-- no silent flip occurs in a world without a capacity
 pub never_alone : (t : Table) (scan : Scan) (space : Space) → collects_alone space ≡ false → flips_alone t scan space ≡ true → ⊥
 never_alone t scan space none comes = go (collects_alone space) none comes
   where

@@ -1,4 +1,4 @@
--- What is asked before an allocation.
+-- What an allocation requests.
 use Rattle.std.specs.Prelude.{◌≡◌, ℕ, ◌+◌, ◌≤◌, Some}
 use Rattle.lisp_graph.specs.declared.command.Command.{Command}
 use Rattle.lisp_graph.specs.declared.reply.Reply.{Reply}
@@ -9,16 +9,16 @@ use Rattle.area_space.specs.Table.{Table, quota_of}
 use Rattle.heap_state.specs.lisp_meaning.State.{State}
 use Rattle.heap_state.specs.lisp_meaning.Flip.{graph_of}
 
--- the command wants so many words of an area
+-- the command needs `charge` words of an area
 pub record Wants (s : State) (c : Command) (area charge : ℕ) : Type 0 where
   pub effect_of : Effect
   pub is : effect (graph_of s) c ≡ Some effect_of
   pub wanted : effect_of.wanted ≡ Some (record { area = area; charge = charge })
 
--- the quota of an area leaves so many words
+-- the quota of an area allows `charge` more words
 abbrev pub HasLeft : Table → ℕ → ℕ → Type 0
 HasLeft t area charge = account_of t area + charge ≤ quota_of t area
 
--- the reply where it leaves less
+-- the reply if it allows less
 abbrev pub refusal : Table → ℕ → ℕ → Reply
 refusal t area charge = R.Exhausted area (account_of t area) charge (quota_of t area)

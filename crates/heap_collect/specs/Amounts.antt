@@ -9,15 +9,15 @@ use Rattle.heap_state.specs.transporter.Moving.{MovesAtMost}
 use Rattle.scavenger.specs.Left.{units_of}
 use Rattle.scavenger.specs.Scan.{Scan}
 
--- so many, or all that were left
+-- `limit` more units were scanned, or all that remained
 abbrev pub Amount : Scan → Scan → ℕ → Type 0
 Amount old new limit = (new.done ≡ old.done + limit) ⊎ ((new.done < old.done + limit) × (new.over ≡ true))
 
--- as many more words are used as were placed
+-- the number of used words grew by the number of words placed
 abbrev pub CountsPlaced : Table → Table → Type 0
 CountsPlaced old new = total (used_of new) new.regions + old.placed ≡ total (used_of old) old.regions + new.placed
 
--- The scan has gone on: the units that were scanned and those that are left are those that were left and the words placed; one that was over is; at most one transport more was made than units were scanned; and pages got marks by what was moved or settled alone
+-- The scan has gone on: the units scanned and those that remain are those that remained before and the words placed; a scan that had finished still has; at most one more transport was made than units were scanned; and pages got marks only from what was moved or settled
 pub record ScansOn (m : Store) (t : Table) (scan : Scan) (registers : List Parts) (m' : Store) (t' : Table) (scan' : Scan) (registers' : List Parts) : Type 0 where
   pub some : scan.done ≤ scan'.done
   pub units : (scan'.done - scan.done) + units_of m' scan' t' registers' ≡ units_of m scan t registers + (t'.placed - t.placed)

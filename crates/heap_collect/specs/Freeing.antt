@@ -10,7 +10,7 @@ pub record IsFreed (t t' : Table) (region : ℕ) : Type 0 where
   pub old : IsOld t region
   pub free : IsUnclassed t' region
 
--- No page without marks has got any, and no word or used end has changed but those of regions that were old and are free: their words are NULL
+-- No page without marks has got any, and no word or used end has changed except those of regions that were old and are free: their words are NULL
 pub record FreesAtMost (m : Store) (t : Table) (m' : Store) (t' : Table) : Type 0 where
   pub unmarked : (page : ℕ) → m.marks page ≡ 0 → m'.marks page ≡ 0
   pub words : (a : ℕ) → (word_at m'.words a ≡ word_at m.words a) ⊎ (IsFreed t t' (a / 4096) × (word_at m'.words a ≡ null_word))

@@ -9,14 +9,14 @@ use Rattle.heap_state.specs.lisp_meaning.Roles.{RoleMap}
 use Rattle.scavenger.specs.Scan.{Scan}
 use Rattle.heap_state.specs.RepresentsAll.{RepresentsAll}
 
--- the ground and the scan stand for some state, by some words of registers
+-- the ground and the scan represent some state, with some register words
 pub record StandsForSome (m : Store) (t : Table) (scan : Scan) : Type 0 where
   pub registers : List Parts
   pub map : RoleMap
   pub state : State
   pub represents : RepresentsAll m t scan registers map state
 
--- the machine stands for some state in which no collection runs
+-- the machine represents some state in which no collection runs
 pub record IsResting (m : Store) (t : Table) (scan : Scan) : Type 0 where
   pub registers : List Parts
   pub map : RoleMap
@@ -24,7 +24,7 @@ pub record IsResting (m : Store) (t : Table) (scan : Scan) : Type 0 where
   pub represents : RepresentsAll m t scan registers map state
   pub idle : state.phase ≡ Idle
 
--- the machine stands for some state in which a collection is over
+-- the machine represents some state in which a collection has finished
 pub record IsDone (m : Store) (t : Table) : Type 0 where
   pub scan : Scan
   pub registers : List Parts
@@ -35,7 +35,7 @@ pub record IsDone (m : Store) (t : Table) : Type 0 where
   pub running : state.phase ≡ Running collection
   pub over : collection.over ≡ true
 
--- a collection ran, and the machine stands for a state in which it has settled
+-- a collection ran, and the machine represents a state that follows its reclaim
 pub record HasSettled (m : Store) (t : Table) (scan : Scan) (registers : List Parts) (s : State) : Type 0 where
   pub collection : Collection
   pub running : s.phase ≡ Running collection
@@ -44,7 +44,7 @@ pub record HasSettled (m : Store) (t : Table) (scan : Scan) (registers : List Pa
   pub map : RoleMap
   pub represents : RepresentsAll m t scan registers map next
 
--- the machine stands for some state
+-- the machine represents some state
 pub record IsStanding (m : Store) (t : Table) (scan : Scan) (registers : List Parts) : Type 0 where
   pub map : RoleMap
   pub state : State

@@ -1,4 +1,4 @@
--- The steps that a machine takes by itself before an allocation.
+-- The steps that a machine takes by itself before an allocation (silent steps).
 use Rattle.std.specs.Prelude.{◌≡◌, ℕ, suc, ◌-◌, ◌^◌, ◌==◌, Bool, ◌&&◌, nat_lt, nat_le, if◌then◌else◌, Option, Some, None, is_none, is_some, List, length, slice_index, MatchBool}
 use Rattle.std.specs.List.{list_any}
 use Rattle.store_word.specs.Words.{Parts}
@@ -16,11 +16,11 @@ use Rattle.heap_state.specs.RepresentsAll.{RepresentsAll}
 
 -- Full levels
 
--- the charge at which a level is collected by itself; 0 is never
+-- the charge at which a level is collected without a command; 0 if it never is
 abbrev pub capacity_at : Space → ℕ → ℕ
 capacity_at space level = slice_index space.capacity (level - 1)
 
--- some level is collected by itself
+-- some level is collected without a command
 abbrev pub collects_alone : Space → Bool
 collects_alone space = list_any (nat_lt 0) space.capacity
 
@@ -28,7 +28,7 @@ collects_alone space = list_any (nat_lt 0) space.capacity
 abbrev pub is_full_on : Table → Space → ℕ → Bool
 is_full_on t space level = nat_lt 0 (capacity_at space level) && nat_le (capacity_at space level) (level_total t level)
 
--- the set of the levels from 1 to this one whose total has, as a number
+-- the set, as a number, of the levels from 1 to this one whose total has reached their capacity
 abbrev pub full_bits : Table → Space → ℕ → ℕ
 full_bits t space levels = total (λ i. if_true (is_full_on t space (suc i)) (2 ^ i)) levels
 
@@ -46,22 +46,26 @@ full_levels_on t space = some_set (full_bits t space space.levels)
 abbrev pub IsSilent : State → State → Type 0
 IsSilent s new = MatchBool (collects_itself s) ((mid : State) × SilentReclaim s s.phase mid × SilentFlip mid new) (new ≡ s)
 
--- where no collection runs and some level is full, a flip comes by itself
+-- no collection runs and some level is full, so that a silent flip occurs
 abbrev pub flips_idle : Table → Space → Bool
 flips_idle t space = is_none t.aim && is_some (full_levels_on t space)
 
--- before an allocation one comes: some level is collected by itself, no collection runs or its scan is over, and some level is full
+-- whether one occurs before an allocation: some level is collected without a command, no collection runs or its scan has finished, and some level is full
 abbrev pub flips_alone : Table → Scan → Space → Bool
 flips_alone t scan space = collects_alone space && (scan.over && is_some (full_levels_on t space))
 
--- so many units are scanned of the collection that runs when an allocation begins, and so many words placed since its flip
+-- and a reclaim does: some level is collected by itself, a collection runs, and its scan has finished
+abbrev pub reclaims_alone : Table → Scan → Space → Bool
+reclaims_alone t scan space = collects_alone space && (scan.over && is_some t.aim)
+
+-- the units that were scanned of the collection that runs when an allocation begins, and the words placed since its flip
 abbrev pub done_from : Table → Scan → Space → ℕ
 done_from t scan space = if flips_alone t scan space then 0 else scan.done
 
 abbrev pub placed_from : Table → Scan → Space → ℕ
 placed_from t scan space = if flips_alone t scan space then 0 else t.placed
 
--- the machine stands for some state of a world with this space, with a word for each register and all its regions
+-- the machine represents some state of a world with this space, with a word for each register and all its regions
 pub record StandsIn (m : Store) (t : Table) (scan : Scan) (space : Space) : Type 0 where
   pub registers : List Parts
   pub map : RoleMap

@@ -24,12 +24,12 @@ use scavenger::ScanSet;
 use std::sync::ledger::Ledger;
 use store_word::{Steps, Word};
 
-/// Asks for an allocation of so many words in an area. Where the quota leaves less it is refused as
-/// `Exhausted`, and nothing has changed. Else, where a collection runs, so many units are scanned for
-/// each of the words as the rate says, or all that are left; a fault of that scan is answered.
+/// Requests an allocation of `charge` words in an area. If the quota allows less, it is refused as
+/// `Exhausted`, and nothing has changed. Otherwise, if a collection runs, `rate` units are scanned for
+/// each of the words, or all that remain; a swap error in that scan is returned.
 ///
-/// Where it is admitted, it takes at most 48 steps for each unit scanned and 4 for each word placed,
-/// and places at most 2,048 words for each unit. Where no collection runs, it takes none.
+/// If it is admitted, it takes at most 48 memory accesses for each unit scanned and 4 for each word placed,
+/// and places at most 2,048 words for each unit. If no collection runs, it takes none.
 pub fn admit<M: Memory, L: Ledger>(
     ground: &mut Ground<M>,
     scan: &mut ScanSet,
@@ -57,14 +57,14 @@ pub fn admit<M: Memory, L: Ledger>(
     ensures amount { OnOk result (Amount scan.old scan.new (rate * charge)) }
     ensures on { ScansOn (view ground.old) scan.old registers.old (view ground.new) scan.new registers.new }
 
-    // what stays
+    // what is unchanged
     ensures begun { OnOk result (scan.new.begun ≡ scan.old.begun) }
     ensures idle { ground.old.table.aim ≡ None → (ground.new ≡ ground.old) × (scan.new ≡ scan.old) × (registers.new ≡ registers.old) × (steps.new ≡ steps.old) }
     ensures registers { RegistersPreserved ground.new.table registers.old registers.new }
     ensures regions { ground.new.table.regions ≡ ground.old.table.regions }
     ensures table { OnlyGrows ground.old.table ground.new.table }
 
-    // costs and faults
+    // costs and swap errors
     ensures grows { ground.old.table.placed ≤ ground.new.table.placed }
     ensures placed { CountsPlaced ground.old.table ground.new.table }
     ensures few { OnOk result (ground.new.table.placed ≤ ground.old.table.placed + 2048 * (scan.new.done - scan.old.done)) }

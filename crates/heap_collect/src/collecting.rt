@@ -18,12 +18,12 @@ use lisp_graph::{Condemn, Reply};
 use mem_port::{Memory, known};
 use scavenger::ScanSet;
 
-/// `flip`: a collection begins, and is answered with the number of base pages to scan; if one runs,
-/// it is answered `Busy`, and nothing has changed. The swap can't fail in it.
+/// `flip`: begins a collection, and replies with the number of base pages to scan; if one runs,
+/// it replies `Busy`, and nothing has changed. The swap can't fail in it.
 pub fn flip<M: Memory>(ground: &mut Ground<M>, scan: &mut ScanSet, what: Condemn) -> Reply
     requires standing { StandsForSome (view ground.old) scan.old }
 
-    // what the machine stands for
+    // what the machine represents
     ensures step { (registers : List Parts) (k : RoleMap) (s : State) → RepresentsAll (view ground.old) scan.old registers k s
         → length registers ≡ s.space.registers → ground.old.table.regions ≡ s.space.regions
         → StepsTo (view ground.new) scan.new registers s (FlipCommand what) result }
@@ -31,11 +31,11 @@ pub fn flip<M: Memory>(ground: &mut Ground<M>, scan: &mut ScanSet, what: Condemn
         → RepresentsAll (view ground.old) scan.old registers k s → length registers ≡ s.space.registers
         → RepresentsAll (view ground.new) scan.new registers k (flipped s what (base_pages (view ground.new) what)) }
 
-    // what is answered
+    // the reply
     ensures busy { ground.old.table.aim ≢ None → (result ≡ Reply.Busy) × (ground.new ≡ ground.old) × (scan.new ≡ scan.old) }
     ensures pages { ground.old.table.aim ≡ None → result ≡ Reply.Flipped (base_pages (view ground.new) what) }
 
-    // what is old, and what is left to scan
+    // what is old, and what remains to be scanned
     ensures table { ground.old.table.aim ≡ None → Condemns ground.old.table (record ground.new.table { pages = [] }) what }
     ensures begins { ground.old.table.aim ≡ None → Begins (view ground.new) what scan.old scan.new }
     ensures few { ground.old.table.aim ≡ None → base_pages (view ground.new) what ≤ 16 * ground.old.table.regions }
@@ -43,7 +43,7 @@ pub fn flip<M: Memory>(ground: &mut Ground<M>, scan: &mut ScanSet, what: Condemn
     ensures done { ground.old.table.aim ≡ None → scan.new.done ≡ 0 }
     ensures placed { ground.old.table.aim ≡ None → ground.new.table.placed ≡ 0 }
 
-    // what stays
+    // what is unchanged
     ensures memory { ground.new.mem ≡ ground.old.mem }
     ensures regions { ground.new.table.regions ≡ ground.old.table.regions }
 {
@@ -54,13 +54,13 @@ pub fn flip<M: Memory>(ground: &mut Ground<M>, scan: &mut ScanSet, what: Condemn
     Reply::Flipped { pages }
 }
 
-/// `reclaim`: ends the collection that runs, if its scan is over: the old regions are free, and what
-/// stood there is gone. It is answered `NotDone` if a unit is left, and `NotFlipped` if no collection
+/// `reclaim`: ends the collection that runs, if its scan has finished: the old regions are free, and what
+/// was in them is gone. It replies `NotDone` if a unit remains to be scanned, and `NotFlipped` if no collection
 /// runs, and then nothing has changed. The swap can't fail in it.
 pub fn reclaim<M: Memory>(ground: &mut Ground<M>, scan: &ScanSet) -> Reply
     requires standing { StandsForSome (view ground.old) scan.now }
 
-    // what the machine stands for
+    // what the machine represents
     ensures step { (registers : List Parts) (k : RoleMap) (s : State) → RepresentsAll (view ground.old) scan.now registers k s
         → StepsTo (view ground.new) scan.now registers s ReclaimCommand result }
     ensures reclaims { result ≡ Reply.Reclaimed → (registers : List Parts) (k : RoleMap) (s : State)
@@ -69,7 +69,7 @@ pub fn reclaim<M: Memory>(ground: &mut Ground<M>, scan: &ScanSet) -> Reply
         → RepresentsAll (view ground.old) other registers k s → s.phase ≡ Running c → c.over ≡ true
         → HasSettled (view ground.new) other registers s }
 
-    // what is answered
+    // the reply
     ensures idle { ground.old.table.aim ≡ None → (result ≡ Reply.NotFlipped) × (ground.new ≡ ground.old) }
     ensures left { ground.old.table.aim ≢ None → scan.now.over ≡ false → (result ≡ Reply.NotDone) × (ground.new ≡ ground.old) }
     ensures over { ground.old.table.aim ≢ None → scan.now.over ≡ true → result ≡ Reply.Reclaimed }
@@ -79,7 +79,7 @@ pub fn reclaim<M: Memory>(ground: &mut Ground<M>, scan: &ScanSet) -> Reply
     ensures frees { FreesAtMost (view ground.old) (view ground.new) }
     ensures rests { result ≡ Reply.Reclaimed → ground.new.table.aim ≡ None }
 
-    // what stays
+    // what is unchanged
     ensures regions { ground.new.table.regions ≡ ground.old.table.regions }
     ensures placed { ground.new.table.placed ≡ ground.old.table.placed }
     ensures faults { M.faults ground.new.mem ≡ M.faults ground.old.mem }
@@ -95,10 +95,10 @@ pub fn reclaim<M: Memory>(ground: &mut Ground<M>, scan: &ScanSet) -> Reply
     Reply::Reclaimed
 }
 
-// Begins a collection: what is condemned becomes old, and its scan starts. It answers how many base
-// pages are to be scanned. No collection may run before.
+// Begins a collection: what is condemned becomes old, and its scan starts. It returns how many base
+// pages are to be scanned. No collection may be running.
 //
-// It reads and writes no word; the set of pages and the marks are all that it looks at.
+// It reads and writes no word; it looks only at the set of pages and the marks.
 pub(crate) fn begin_collection<M: Memory>(
     ground: &mut Ground<M>,
     scan: &mut ScanSet,
@@ -106,13 +106,13 @@ pub(crate) fn begin_collection<M: Memory>(
 ) -> u32
     requires resting { IsResting (view ground.old) scan.old }
 
-    // what the machine stands for, and what is old
+    // what the machine represents, and what is old
     ensures flips { (registers : List Parts) (k : RoleMap) (s : State)
         → RepresentsAll (view ground.old) scan.old registers k s → s.phase ≡ Idle → length registers ≡ s.space.registers
         → RepresentsAll (view ground.new) scan.new registers k (flipped s what result) }
     ensures table { Condemns ground.old.table (record ground.new.table { pages = [] }) what }
 
-    // what is left to scan
+    // what remains to be scanned
     ensures pages { result ≡ base_pages (view ground.new) what }
     ensures begins { Begins (view ground.new) what scan.old scan.new }
     ensures few { result ≤ 16 * ground.old.table.regions }
@@ -120,7 +120,7 @@ pub(crate) fn begin_collection<M: Memory>(
     ensures done { scan.new.done ≡ 0 }
     ensures placed { ground.new.table.placed ≡ 0 }
 
-    // what stays
+    // what is unchanged
     ensures memory { ground.new.mem ≡ ground.old.mem }
     ensures regions { ground.new.table.regions ≡ ground.old.table.regions }
 {
@@ -132,8 +132,8 @@ pub(crate) fn begin_collection<M: Memory>(
     pages
 }
 
-// Ends a collection whose scan is over: the old regions are free, and what stood there is gone. Each
-// condemned object that was transported stays, at its survivor's level. The swap can't fail in it.
+// Ends a collection whose scan has finished: the old regions are free, and what was in them is gone. Each
+// condemned object that was transported remains, at its survivor's level. The swap can't fail in it.
 pub(crate) fn end_collection<M: Memory>(ground: &mut Ground<M>)
     requires done { IsDone (view ground.old) }
     ensures reclaims { (scan : Scan) (registers : List Parts) (k : RoleMap) (s : State) (c : Collection)

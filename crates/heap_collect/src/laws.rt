@@ -4,8 +4,8 @@ ghost use Rattle.heap_collect.specs.Laws.{AdmittedIsStep, AdmittedCommandIsStep,
 use heap_state::commands_are_steps;
 use scavenger::scans_go_on;
 
-/// An allocation that was admitted and performed is a step, and with the silent steps before it what the
-/// definition does.
+/// An allocation that was admitted and performed is a transition, and together with the silent steps before
+/// it what the definition does.
 pub fn allocations_are_steps()
     ensures admitted { AdmittedIsStep }
     ensures prepared { PreparedGoes }
@@ -13,8 +13,8 @@ pub fn allocations_are_steps()
     commands_are_steps();
 }
 
-/// An allocation that looks at an object before it asks for words is a step, whether it finds that
-/// nothing is wanted, or is admitted and performed. A machine stands after a look for what it stood for.
+/// An allocation that looks at an object before it requests words is a transition, whether it finds that
+/// no words are needed, or is admitted and performed. After a look a machine represents the same states.
 pub fn looks_are_steps()
     ensures stands { StandsAfterLook }
     ensures unasked { UnaskedIsStep }

@@ -1,7 +1,7 @@
 //! A collection begins with a flip, goes on by scans, and ends with a reclaim.
 //!
 //! All are calls over a ground, a scan set and the words of the registers. Contracts say what the
-//! machine stands for after them (`RepresentsAll` of `heap_state`), for whatever it stood for before.
+//! machine represents after them (`RepresentsAll` of `heap_state`), for each state that it represented before.
 #![tactic(auto)]
 
 mod admitting;

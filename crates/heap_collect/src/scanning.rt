@@ -1,4 +1,4 @@
-//! Scans of so many units.
+//! Scans a number of units.
 ghost use Rattle.std.specs.Prelude.{◌≡◌, ◌≢◌, ◌+◌, ◌-◌, ◌*◌, ◌<◌, ◌≤◌, None, OnOk, OnErr, false, true};
 ghost use Rattle.mem_port.specs.View.{Tells, TellsIf};
 ghost use Rattle.area_space.specs.View.{view};
@@ -20,15 +20,15 @@ use scavenger::ScanSet;
 use std::sync::ledger::Ledger;
 use store_word::{Steps, SwapFault, Word};
 
-// Scans so many units, or all that are left, each the next one, where a collection runs; else it
+// Scans `count` units in order, or all that remain, if a collection runs; otherwise it
 // does nothing.
 //
-// The machine stands for the same state, by a later map, with so many units scanned ahead of what
-// the state has paid. Then it has taken at most 48 steps for each unit scanned and 4 for each word
-// placed, and has placed at most 2,048 words for each unit. After a fault the units that were scanned
-// before it are scanned, the machine still stands for that state, and none counts as ahead; how many
-// steps were taken isn't said. Whatever it answers, the units that were scanned and those that are
-// left are together those that were left and the words placed.
+// The machine represents the same state, by a later map, with this number of units scanned ahead of what
+// the state has paid. Then it has taken at most 48 memory accesses for each unit scanned and 4 for each word
+// placed, and has placed at most 2,048 words for each unit. After a swap error the units that were scanned
+// before it are scanned, the machine still represents that state, and none counts as ahead; how many
+// memory accesses were made isn't specified. Whatever it returns, the units scanned and those that remain
+// are together those that remained before and the words placed.
 #[inline(always)]
 pub(crate) fn scan_ahead<M: Memory, L: Ledger>(
     ground: &mut Ground<M>,
@@ -39,7 +39,7 @@ pub(crate) fn scan_ahead<M: Memory, L: Ledger>(
 ) -> Result<(), SwapFault>
     requires standing { IsStanding (view ground.old) scan.old registers.old }
 
-    // what the machine stands for
+    // what the machine represents
     ensures ahead { OnOk result ((k : RoleMap) (s : State) → RepresentsAll (view ground.old) scan.old registers.old k s
         → HasScannedAhead (view ground.old) (view ground.new) scan.new registers.new k s limit) }
     ensures fault { OnErr result ((k : RoleMap) (s : State) → RepresentsAll (view ground.old) scan.old registers.old k s
@@ -50,14 +50,14 @@ pub(crate) fn scan_ahead<M: Memory, L: Ledger>(
     ensures amount { OnOk result (Amount scan.old scan.new limit) }
     ensures on { ScansOn (view ground.old) scan.old registers.old (view ground.new) scan.new registers.new }
 
-    // what stays
+    // what is unchanged
     ensures begun { OnOk result (scan.new.begun ≡ scan.old.begun) }
     ensures idle { ground.old.table.aim ≡ None → (ground.new ≡ ground.old) × (scan.new ≡ scan.old) × (registers.new ≡ registers.old) × (steps.new ≡ steps.old) }
     ensures registers { RegistersPreserved ground.new.table registers.old registers.new }
     ensures regions { ground.new.table.regions ≡ ground.old.table.regions }
     ensures table { OnlyGrows ground.old.table ground.new.table }
 
-    // costs and faults
+    // costs and swap errors
     ensures grows { ground.old.table.placed ≤ ground.new.table.placed }
     ensures placed { CountsPlaced ground.old.table ground.new.table }
     ensures few { OnOk result (ground.new.table.placed ≤ ground.old.table.placed + 2048 * (scan.new.done - scan.old.done)) }
@@ -70,12 +70,12 @@ pub(crate) fn scan_ahead<M: Memory, L: Ledger>(
     scan.scan_up_to(ground, registers, limit, steps)
 }
 
-/// `scavenge`: scans so many units of the collection that runs, or all that are left. It answers `Done`
-/// where none is left, and `More` where one is; `NotFlipped` where no collection runs; and `Fault` where
-/// the swap failed. The units that were scanned and those that are left are together those that were
-/// left and the words placed, whatever it answers.
+/// `scavenge`: scans this number of units of the collection that runs, or all that remain. It replies `Done`
+/// if none remains, and `More` if one does; `NotFlipped` if no collection runs; and `Fault` if
+/// the swap failed. Whatever it replies, the units scanned and those that remain are together those that
+/// remained before and the words placed.
 ///
-/// Where no fault comes, it takes at most 48 steps for each unit scanned and 4 for each word placed,
+/// If no swap error occurs, it takes at most 48 memory accesses for each unit scanned and 4 for each word placed,
 /// and places at most 2,048 words for each unit.
 pub fn scavenge<M: Memory, L: Ledger>(
     ground: &mut Ground<M>,
@@ -86,7 +86,7 @@ pub fn scavenge<M: Memory, L: Ledger>(
 ) -> Reply
     requires standing { IsStanding (view ground.old) scan.old registers.old }
 
-    // what the machine stands for
+    // what the machine represents
     ensures step { (k : RoleMap) (s : State) → RepresentsAll (view ground.old) scan.old registers.old k s
         → StepsTo (view ground.new) scan.new registers.new s (ScavengeCommand count) result }
 
@@ -97,12 +97,12 @@ pub fn scavenge<M: Memory, L: Ledger>(
     ensures more { result ≡ Reply.More → scan.new.over ≡ false }
     ensures done { result ≡ Reply.Done → scan.new.over ≡ true }
 
-    // what stays
+    // what is unchanged
     ensures begun { result ≢ Reply.Fault → scan.new.begun ≡ scan.old.begun }
     ensures registers { RegistersPreserved ground.new.table registers.old registers.new }
     ensures table { OnlyGrows ground.old.table ground.new.table }
 
-    // costs and faults
+    // costs and swap errors
     ensures grows { ground.old.table.placed ≤ ground.new.table.placed }
     ensures placed { CountsPlaced ground.old.table ground.new.table }
     ensures few { result ≢ Reply.Fault → ground.new.table.placed ≤ ground.old.table.placed + 2048 * (scan.new.done - scan.old.done) }

@@ -1,5 +1,5 @@
-//! The steps that a machine takes by itself before an allocation.
-ghost use Rattle.std.specs.Prelude.{◌≡◌, ℕ, ◌*◌, ◌<◌, ◌≤◌, true, false, List, length, None, IfSome};
+//! The steps that a machine takes by itself before an allocation (silent steps).
+ghost use Rattle.std.specs.Prelude.{◌≡◌, ℕ, ◌*◌, ◌<◌, ◌≤◌, ◌&&◌, true, false, List, length, None, is_some, IfSome};
 ghost use Rattle.area_space.specs.View.{view};
 ghost use Rattle.scavenger.specs.Views.{Begins};
 ghost use Rattle.heap_collect.specs.Views.{FreesAtMost, PreparesTo, StandsIn};
@@ -10,7 +10,7 @@ ghost use Rattle.area_space.specs.Table.{levels_of, used_of, IsUnclassed};
 ghost use Rattle.heap_state.specs.lisp_meaning.Roles.{RoleMap};
 ghost use Rattle.heap_state.specs.lisp_meaning.Run.{SilentFlip, SilentReclaim};
 ghost use Rattle.heap_state.specs.lisp_meaning.State.{State};
-ghost use Rattle.heap_collect.specs.Silent.{collects_alone, done_from, flips_alone, flips_idle, full_levels_on, is_full_on, placed_from};
+ghost use Rattle.heap_collect.specs.Silent.{collects_alone, done_from, flips_alone, flips_idle, full_levels_on, is_full_on, placed_from, reclaims_alone};
 
 use crate::collecting::{begin_collection, end_collection};
 use area_space::{Ground, RegionTable};
@@ -19,7 +19,7 @@ use mem_port::Memory;
 use scavenger::ScanSet;
 use store_word::{Levels, Space};
 
-// The levels whose total, in words charged over all areas, has reached a capacity above 0; None where
+// The levels whose total, in words charged over all areas, has reached a capacity above 0; None if
 // there are none.
 fn full_levels(table: &RegionTable, space: &Space) -> Option<Levels>
     requires levels { space.now.levels < levels_of table.now }
@@ -50,7 +50,7 @@ fn is_full(table: &RegionTable, space: &Space, level: u8) -> bool
     capacity > 0 && capacity <= table.total(level)
 }
 
-// Whether some level is collected by itself.
+// Whether some level is collected without a command.
 #[inline(always)]
 fn has_capacity(space: &Space) -> bool
     ensures { result ≡ collects_alone space.now }
@@ -58,13 +58,14 @@ fn has_capacity(space: &Space) -> bool
     space.capacity.iter().any(|capacity| *capacity > 0)
 }
 
-// Reclaims, where the scan of a collection is over.
+// Reclaims, if the scan of a collection has finished.
 #[inline(never)]
 fn reclaim_alone<M: Memory>(ground: &mut Ground<M>, scan: &ScanSet, space: &Space)
     requires standing { StandsIn (view ground.old) scan.now space.now }
     ensures reclaims { (registers : List Parts) (k : RoleMap) (s : State) → RepresentsAll (view ground.old) scan.now registers k s
         → (map : RoleMap) × (mid : State) × RepresentsAll (view ground.new) scan.now registers map mid × SilentReclaim s s.phase mid × (mid.space ≡ s.space) }
     ensures frees { FreesAtMost (view ground.old) (view ground.new) }
+    ensures still { (scan.now.over && is_some ground.old.table.aim) ≡ false → ground.new ≡ ground.old }
     ensures idle { scan.now.over ≡ true → ground.new.table.aim ≡ None }
     ensures going { scan.now.over ≡ false → ground.new.table.aim ≡ ground.old.table.aim }
     ensures totals { (level : ℕ) → level < levels_of ground.old.table → level_total ground.new.table level ≡ level_total ground.old.table level }
@@ -79,7 +80,7 @@ fn reclaim_alone<M: Memory>(ground: &mut Ground<M>, scan: &ScanSet, space: &Spac
     }
 }
 
-// Flips the full levels, where no collection runs and there are any.
+// Flips the full levels, if no collection runs and there are any.
 #[inline(never)]
 fn flip_alone<M: Memory>(ground: &mut Ground<M>, scan: &mut ScanSet, space: &Space)
     requires standing { StandsIn (view ground.old) scan.old space.now }
@@ -108,9 +109,9 @@ fn flip_alone<M: Memory>(ground: &mut Ground<M>, scan: &mut ScanSet, space: &Spa
     }
 }
 
-/// The silent steps before an allocation, in a world where some level is collected by itself: a
-/// reclaim, where the scan of a collection is over, and then a flip of the full levels, where no
-/// collection runs and there are any. It takes no step, and meets no fault.
+/// The silent steps before an allocation, in a world in which some level is collected without a command: a
+/// reclaim, if the scan of a collection has finished, and then a flip of the full levels, if no
+/// collection runs and there are any. It takes no memory access, and meets no swap error.
 #[inline(always)]
 pub fn prepare<M: Memory>(ground: &mut Ground<M>, scan: &mut ScanSet, space: &Space)
     requires standing { StandsIn (view ground.old) scan.old space.now }
@@ -119,6 +120,8 @@ pub fn prepare<M: Memory>(ground: &mut Ground<M>, scan: &mut ScanSet, space: &Sp
         → PreparesTo (view ground.new) scan.new registers s }
     ensures frees { FreesAtMost (view ground.old) (view ground.new) }
     ensures quiet { collects_alone space.now ≡ false → (ground.new ≡ ground.old) × (scan.new ≡ scan.old) }
+    ensures memory { reclaims_alone ground.old.table scan.old space.now ≡ false → ground.new.mem ≡ ground.old.mem }
+    ensures rests { reclaims_alone ground.old.table scan.old space.now ≡ false → flips_alone ground.old.table scan.old space.now ≡ false → ground.new ≡ ground.old }
     ensures done { scan.new.done ≡ done_from ground.old.table scan.old space.now }
     ensures placed { ground.new.table.placed ≡ placed_from ground.old.table scan.old space.now }
     ensures still { flips_alone ground.old.table scan.old space.now ≡ false → scan.new ≡ scan.old }

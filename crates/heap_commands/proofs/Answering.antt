@@ -1,4 +1,4 @@
--- What a command leaves that allocates nothing.
+-- The state after a command that allocates nothing.
 use Rattle.std.proofs.Common.{◌≡◌, ◌≢◌, ℕ, inr, refl, List, Some, IsTrue, arith, sym, subst}
 use Rattle.store_word.specs.Words.{Parts}
 use Rattle.lisp_graph.specs.declared.command.Command.{Command}
@@ -18,7 +18,7 @@ use Rattle.heap_state.specs.Settled.{IsSettled}
 use Rattle.heap_state.proofs.Marked.{marks_of}
 use Rattle.heap_state.proofs.Playing.{Leaves, counted_represented, leaves_read, leaves_same, wider_represented}
 
--- it answered this, and the graph stays
+-- this is the reply, and the graph is unchanged
 pub performs_same : (m m' : Store) (t t' : Table) (registers registers' : List Parts) (c : Command) (reply : Reply)
     → ((k : RoleMap) (s : State) → Represents m t registers k s → effect (graph_of s) c ≡ Some (answered reply (graph_of s))) → reply ≢ R.Fault → (IsDone reply → (i : ℕ) → IsTrue (reads c i) → IsSettled t' registers' i)
     → Leaves m t registers m' t' registers' → Performs m t registers m' t' registers' c reply

@@ -1,4 +1,4 @@
--- A part of a cons goes to a register.
+-- A part of a cons is stored in a register.
 use Rattle.std.proofs.Common.{◌≡◌, ◌≢◌, ℕ, ◌<◌, sym, ap, subst, List, length, get_or, Some}
 use Rattle.store_word.specs.Words.{Parts, tag_of}
 use Rattle.store_word.specs.declared.word.Tag.TheVariants.{List as ListTag}
@@ -54,7 +54,7 @@ module _ (m m1 : Store) (t t1 : Table) (registers : List Parts) (to from : ℕ) 
         is = ap (λ (e : Effect). Some e) (cons_case s.store.objects (value_at s.registers from) v.name v.car v.cdr (λ name car cdr. fetched (graph_of s) to cdr) (answered R.WrongType (graph_of s)) v.value v.body);
       }
 
--- A call on the word of a register that is no cons
+-- A call on the word of a register that isn't a cons
 
 module _ (m m1 : Store) (t t1 : Table) (registers : List Parts) (from : ℕ) (from_in : from < length registers) (of : Parts) (read : of ≡ get_or registers from of) where
   pub no_cons : (found : State → ℕ → Value → Value → Effect) → tag_of of.content ≢ ListTag → (k : RoleMap) (s : State) → Represents m t registers k s
@@ -62,7 +62,7 @@ module _ (m m1 : Store) (t t1 : Table) (registers : List Parts) (from : ℕ) (fr
   no_cons found other k s b =
       ap (λ (e : Effect). Some e) (not_cons m t k s.space.levels s.areas s.store (aim_of s.phase) b.kept of.content (value_at s.registers from) (found s) (answered R.WrongType (graph_of s)) (value_there m t registers from from_in of read k s b) other)
 
-  -- kept what was represented
+  -- it kept what was represented
   pub kept_represented : KeepsCons m t m1 t1 of.content → PreservesScanned m t m1 t1 → RepresentsSame m t registers m1 t1 registers
   kept_represented kept preserves k s b reach =
       later_represented m m1 t t1 registers k s preserves.grows b (kept k s.space.levels s.areas s.registers s.store (aim_of s.phase) (get_or s.registers from V.Nil) (can_read m t registers from from_in of read k s b reach))

@@ -30,7 +30,7 @@ use Rattle.heap_state.proofs.Showing.{can_compare, same_words}
 use Rattle.heap_state.proofs.Playing.{Leaves, counted_represented, leaves_same, set_others}
 use Rattle.heap_commands.proofs.Readable.{only_one, only_two, value_there}
 
--- Whether two values are one
+-- Whether two values are equal
 
 truth : Bool → Reply
 truth same = if same then R.True else R.Nil
@@ -76,7 +76,7 @@ module _ (m m' : Store) (t : Table) (registers : List Parts) (left right : ℕ) 
             represented = counted_represented m m' t t registers k s s 0 0 0 (read_on m m' t registers k s b stays);
           })
 
--- A register's value goes to another
+-- A register's value is copied to another
 
 pub moved_performs : (m : Store) (t : Table) (registers : List Parts) (to from : ℕ) (word : Parts) → IsConsistent m t registers → to < length registers → from < length registers → get_or registers from null_word ≡ word → (HasOld t word → ⊥)
     → Performs m t registers m t (slice_set registers to word) (C.Move to from) R.Fine

@@ -57,7 +57,7 @@ use Rattle.heap_commands.proofs.Answering.{leaves_there, performs_same}
 use Rattle.heap_commands.proofs.Referring.{other_word, register_means, struct_block, with_block}
 use Rattle.heap_commands.proofs.Sizes.{told_length}
 
--- What is represented where nothing was stored was represented before
+-- If nothing was stored at its words, what is represented was represented before
 
 kept_on_words : (m m' : Store) (t : Table) (k : RoleMap) (top : ℕ) (areas : List AreaRule) (s : M.Store) (aim : Condemned) → m'.words ≡ m.words → m'.levels ≡ m.levels → m'.top ≡ m.top → GroundInvariant m t k top areas s aim → GroundInvariant m' t k top areas s aim
 kept_on_words m m' t k top areas s aim words levels greatest on = record {
@@ -76,7 +76,7 @@ back_represents m m' t t' registers k s stays same b =
 
 -- The effect of the command
 
--- a block that has the fields stays
+-- a block that has the fields is unchanged
 grown_stays : (s : State) (n code : ℕ) (fields : List Value) (wanted : ℕ) → wanted ≤ length fields → grown (graph_of s) n code fields wanted ≡ answered R.Fine (graph_of s)
 grown_stays s n code fields wanted few =
     ap (λ (b : Bool). if b then answered R.Fine (graph_of s) else record {
@@ -96,7 +96,7 @@ wider s n code fields wanted = record {
 grown_wider : (s : State) (n code : ℕ) (fields : List Value) (wanted : ℕ) → length fields < wanted → grown (graph_of s) n code fields wanted ≡ wider s n code fields wanted
 grown_wider s n code fields wanted more = ap (λ (b : Bool). if b then answered R.Fine (graph_of s) else wider s n code fields wanted) (lt-leb wanted (length fields) more)
 
--- it is what a block that grows wants
+-- it is the charge of a block that grows
 pub growing_effect : (s : State) (r wanted area charge : ℕ) → IsGrowing s r wanted area charge → (e : Effect) × (effect (graph_of s) (C.Grow r wanted) ≡ Some e) × (e.wanted ≡ Some (record { area = area; charge = charge }))
 growing_effect s r wanted area charge g =
     let x = g.block in (

@@ -11,4 +11,5 @@ pub mod Gets
 pub mod Grows
 pub mod Makes
 pub mod Marked
+pub mod Moves
 pub mod Settling

@@ -1,4 +1,4 @@
--- A new block goes to a register.
+-- A new block, with a register for it.
 use Rattle.std.proofs.Common.{◌≡◌, ℕ, suc, ◌+◌, ◌<◌, ◌≤◌, inr, refl, sym, ◌∙◌, ap, subst, List, [], ◌∷◌, length, slice_set, arith}
 use Rattle.store_word.specs.Words.{Parts}
 use Rattle.store_word.specs.declared.word.Content.TheVariants.{Struct as StructAt}
@@ -41,7 +41,7 @@ can_make m t registers area level count x area_in level_in fits = record {
 }
 
 module _ (m m' : Store) (t t' : Table) (registers : List Parts) (to area level code count : ℕ) (preserves : PreservesScanned m t m' t') (stays_fresh : AllFresh m t → AllFresh m' t') (marks : MarksFollow m t m' t') where
-  -- a fault makes nothing
+  -- a command that met a swap error makes nothing
   pub make_faulted : StaysOn m t m' t' → PerformsAt m t registers m' t' registers (C.Make to area code count) R.Fault area level
   make_faulted stays = performs_at m m' t t' registers registers (C.Make to area code count) R.Fault area level (performs_fault m m' t t' registers registers (C.Make to area code count) refl (record {
     represented = stays_represented m m' t t' registers preserves.grows stays;

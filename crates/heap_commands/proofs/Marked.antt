@@ -30,7 +30,7 @@ use Rattle.heap_state.specs.Consistent.{IsConsistent}
 use Rattle.heap_state.specs.Marks.{MarksByStoring}
 use Rattle.heap_commands.proofs.Readable.{list_tagged, value_there}
 
--- no forward stands where forwards lead
+-- the address to which forwards lead has no forward
 ends_plain : (words : List Parts) (count at to : ℕ) → Leads words count at to → forward_of (word_at words to).content ≡ None
 ends_plain words _ at _ (here e) = e
 ends_plain words (suc count) at to (on {next = next} f rest) = ends_plain words count next to rest
@@ -47,7 +47,7 @@ struct_tagged (GcForward a) struct = absurd (struct (λ e. cc))
 struct_tagged (Fixnum i) struct = absurd (struct (λ e. cc))
 
 -- a cdr code is that of a pair's first word, or another
-normal_cases : (c : CdrCode) → (c ≡ Normal) ⊎ (c ≢ Normal)
+pub normal_cases : (c : CdrCode) → (c ≡ Normal) ⊎ (c ≢ Normal)
 normal_cases Normal = inl refl
 normal_cases CdrNext = inr (λ e. cc)
 normal_cases CdrNil = inr (λ e. cc)
@@ -71,20 +71,20 @@ stored_marks {m} {m'} {t} {t'} r at w inside stores but = record { at = at; but 
           ];
         }
 
--- The word of a register refers to an object, into which is stored
+-- The word of a register refers to the object that is stored into
 module _ (m m' : Store) (t t' : Table) (registers : List Parts) (target : ℕ) (low : target < length registers) (of : Parts) (read : of ≡ get_or registers target of) (x : IsConsistent m t registers) where
   module _ (list : tag_of of.content ≢ ListTag → ⊥) where
-    refers : Refers m.words x.map x.state.store AsCons (list_tagged of.content list).0 (get_or x.state.registers target V.Nil)
+    pub refers : Refers m.words x.map x.state.store AsCons (list_tagged of.content list).0 (get_or x.state.registers target V.Nil)
     refers =
         let a = list_tagged of.content list in
         let value = get_or x.state.registers target V.Nil in
         let is : value_of x.map.role (ListAt a.0) ≡ Some value = sym (ap (value_of x.map.role) a.1) ∙ value_there m t registers target low of read x.map x.state x.represents in
         references_lead.values m t x.map x.state.space.levels x.state.areas x.state.store (aim_of x.state.phase) x.represents.kept AsCons a.0 value is
 
-    abbrev cons_at : ℕ
+    abbrev pub cons_at : ℕ
     cons_at = x.map.at refers.name
 
-    place : IsConsPlace m.words of.content cons_at
+    pub place : IsConsPlace m.words of.content cons_at
     place =
         let final = refers.leads.final in
         record {
@@ -106,7 +106,7 @@ module _ (m m' : Store) (t t' : Table) (registers : List Parts) (target : ℕ) (
       | inr ne ↦ (let follow = marks.cell cons_at place ne in record { at = 0; but = marks-but 0 follow; low = λ sure none. follow })
     ]
 
-    -- a fault came
+    -- a swap error occurred
     pub marks_faulted : MarksCdr m t m' t' of.content → MarksByStoring R.Fault m t m' t'
     marks_faulted marks = elim (normal_cases (word_at m.words cons_at).cdr) [
       | inl e ↦ record { at = suc cons_at; but = marks.pair cons_at place e; low = λ sure. absurd (sure refl) }

@@ -1,4 +1,4 @@
--- New conses go to registers.
+-- New conses, each with a register for it.
 use Rattle.std.proofs.Common.{◌≡◌, ℕ, ◌+◌, ◌*◌, ◌<◌, ◌≤◌, inl, inr, ◌||◌, ◌==◌, true, false, refl, sym, ◌∙◌, ap, subst, List, [], ◌∷◌, length, get_or, slice_index, slice_set, map, Some, IsTrue, arith}
 use Rattle.std.specs.Prelude.{eqb}
 use Rattle.std.specs.List.{All, list_any}
@@ -42,7 +42,7 @@ use Rattle.cdr_lists.specs.Lists.{CanList, ListedOn, MeansValues, item_word}
 use Rattle.cdr_lists.specs.Pairs.{CanPair, PairedOn}
 use Rattle.heap_commands.proofs.Readable.{either, only_two, value_there}
 
--- after a fault what was represented is represented
+-- after a swap error the same states are represented
 pub stays_leaves_at : (m m' : Store) (t t' : Table) (registers : List Parts) → StaysOn m t m' t' → PreservesScanned m t m' t' → (RegistersFresh t registers → AllFresh m t → AllFresh m' t') → MarksFollow m t m' t' → Leaves m t registers m' t' registers
 stays_leaves_at m m' t t' registers stays preserves stays_fresh marks = record { represented = stays_represented m m' t t' registers preserves.grows stays; preserves = preserves; others = registers_same t' registers; stays_fresh = stays_fresh; marks = marks }
 

@@ -40,7 +40,7 @@ pub record SettlesAll (m m1 : Store) (t t1 : Table) (registers registers1 : List
   pub inside : (i : ℕ) → i < length registers → i < length registers1
   pub settled : All (IsSettled t1 registers1) items
 
--- an object can be made in an area and at a level, and the quota leaves its charge
+-- an object can be made in an area and at a level, and its charge fits the quota
 pub record LeavesCharge (t : Table) (area level charge : ℕ) : Type 0 where
   pub area_in : area < areas_of t
   pub level_in : level < levels_of t
@@ -80,7 +80,7 @@ module _ (m m1 : Store) (t t1 : Table) (registers registers1 : List Parts) (befo
     settled = subst (λ (list : List ℕ). All (IsSettled t1 registers1) list) is settled;
   }
 
--- settling leaves what is charged and the quotas as they were
+-- settling changes neither what is charged nor the quotas
 pub still_allocates : (m m1 : Store) (t t1 : Table) (registers registers1 : List Parts) → IsConsistent m t registers → RepresentsSame m t registers m1 t1 registers1 → PreservesScanned m t m1 t1
     → (area level charge : ℕ) → area < areas_of t → level < levels_of t → account_of t area + charge ≤ quota_of t area → LeavesCharge t1 area level charge
 still_allocates m m1 t t1 registers registers1 before represented preserves area level charge area_in level_in fits =

@@ -1,4 +1,4 @@
--- A block's size is told.
+-- The reply to `size` is the number of the block's fields.
 use Rattle.std.proofs.Common.{◌≡◌, ◌≢◌, ℕ, ◌<◌, refl, sym, ◌∙◌, ap, subst, List, length, get_or, Some}
 use Rattle.std.specs.Prelude.{pos}
 use Rattle.std.proofs.lemmas.Bool.{eqb-true}
@@ -25,7 +25,7 @@ use Rattle.heap_commands.proofs.Answering.{performs_same}
 use Rattle.heap_commands.specs.Growth.{IsBlock}
 use Rattle.heap_commands.proofs.Referring.{other_word, register_means, struct_block, with_block}
 
--- the number of fields that was told is the block's
+-- the number of fields in the reply is the block's
 pub told_length : (m : Store) (t : Table) (registers : List Parts) (k : RoleMap) (s : State) (b : Represents m t registers k s) (r count : ℕ) (word : Parts) → word ≡ get_or registers r word → r < length registers → TellsLength m t word.content count → (x : IsBlock s (value_at s.registers r)) → count ≡ length x.fields
 told_length m t registers k s b r count word is low tells x =
     let told = tells k s.space.levels s.areas s.store (aim_of s.phase) x.name b.kept (register_means m t k s registers b r word is low ∙ ap (λ (v : Value). Some v) x.value) in

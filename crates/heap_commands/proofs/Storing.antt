@@ -1,4 +1,4 @@
--- A value of a register goes into a cons.
+-- A value of a register is stored in a cons.
 use Rattle.std.proofs.Common.{◌≡◌, ◌≢◌, ℕ, ◌<◌, ◌⊎◌, inl, inr, refl, sym, ap, subst, List, length, get_or, Some, IsTrue, ◌||◌, ◌==◌}
 use Rattle.store_word.specs.Words.{Parts, tag_of}
 use Rattle.store_word.specs.declared.word.Tag.TheVariants.{List as ListTag}

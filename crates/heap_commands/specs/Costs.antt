@@ -6,7 +6,7 @@ use Rattle.mem_port.specs.View.{TellsIf}
 use Rattle.area_space.specs.View.{GroundView}
 use Rattle.heap_state.specs.Reads.{is_fault, reply_of}
 
--- it tells each fault, places at most so many words, and if no fault comes takes at most so many steps, and 4 for each word placed
+-- it reports each swap error, places at most `words` words, and if no swap error occurs it takes at most `steps` memory accesses, and 4 for each word placed
 pub record CommandCosts (old new : GroundView) (before after : ℕ) (result : Result Reply SwapFault) (words steps : ℕ) : Type 0 where
   pub tells : TellsIf old.mem new.mem before after (is_fault (reply_of result))
   pub few : new.table.placed ≤ old.table.placed + words

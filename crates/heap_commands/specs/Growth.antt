@@ -32,35 +32,35 @@ pub record IsBlock (s : State) (v : Value) : Type 0 where
   pub value : v ≡ V.Ref name
   pub body : (object s.store name).body ≡ Block code fields
 
--- a register refers to a block of this area, which has fewer fields than are wanted, and will be charged so much
+-- a register refers to a block of this area, which has fewer fields than requested, and will be charged this much
 pub record IsGrowing (s : State) (target wanted area charge : ℕ) : Type 0 where
   pub block : IsBlock s (value_at s.registers target)
   pub area_is : (object s.store block.name).area ≡ area
   pub fewer : length block.fields < wanted
   pub charge_is : charge ≡ suc (grown_length (length block.fields) wanted)
 
--- so it is in each state that is represented, and the register is settled
+-- it does in each state that is represented, and the register is settled
 pub record WantsGrowth (m : Store) (t : Table) (registers : List Parts) (target wanted area charge : ℕ) : Type 0 where
   pub settled : IsSettled t registers target
   pub area_in : area < areas_of t
   pub grows : (k : RoleMap) (s : State) → Represents m t registers k s → IsGrowing s target wanted area charge
 
--- an answer was performed, and in each state that was represented no words are wanted, or the swap failed
+-- the reply was performed, and in each state that was represented no words are needed, or the swap failed
 pub record IsAnswered (m : Store) (t : Table) (registers : List Parts) (m' : Store) (t' : Table) (registers' : List Parts) (target wanted : ℕ) (reply : Reply) : Type 0 where
   pub performs : Performs m t registers m' t' registers' (C.Grow target wanted) reply
   pub unwanted : reply ≢ R.Fault → (k : RoleMap) (s : State) → Represents m t registers k s → Reach s s.phase → wanted_by (effect (graph_of s) (C.Grow target wanted)) ≡ None
 
--- what was found: an answer, or what a block will be charged
+-- what was found: a reply, or what a block will be charged
 abbrev pub Finds : Store → Table → List Parts → Store → Table → List Parts → ℕ → ℕ → Growing → Type 0
 Finds m t registers m' t' registers' target wanted (Answered reply) = IsAnswered m t registers m' t' registers' target wanted reply
 Finds m t registers m' t' registers' target wanted (Wants area charge) = WantsGrowth m' t' registers' target wanted area charge
 
--- what was found is that a page call failed
+-- the reply was found because a page call failed
 abbrev pub is_found_fault : Growing → Bool
 is_found_fault (Answered reply) = is_fault reply
 is_found_fault (Wants area charge) = false
 
--- some state is represented in which the block may grow: the quota of its area leaves its charge
+-- some state is represented in which the block may grow: its new charge fits the quota of its area
 pub record CanGrowIn (m : Store) (t : Table) (registers : List Parts) (target wanted : ℕ) : Type 0 where
   pub map : RoleMap
   pub state : State
@@ -71,7 +71,7 @@ pub record CanGrowIn (m : Store) (t : Table) (registers : List Parts) (target wa
   pub area_in : area < areas_of t
   pub fits : account_of t area + charge ≤ quota_of t area
 
--- as many words were placed as the block is charged in each state that was represented
+-- the number of words placed is the block's charge in each state that was represented
 abbrev pub PlacesGrowth : Store → Table → List Parts → Table → ℕ → ℕ → Type 0
 PlacesGrowth m t registers t' target wanted =
     (k : RoleMap) (s : State) (area charge : ℕ) → Represents m t registers k s → IsGrowing s target wanted area charge → t'.placed ≡ t.placed + charge

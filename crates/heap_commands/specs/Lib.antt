@@ -1,5 +1,6 @@
 pub mod Costs
 pub mod Growth
 pub mod Listing
+pub mod Moves
 pub mod Views
 pub use Rattle.cdr_lists.specs as cdr_lists

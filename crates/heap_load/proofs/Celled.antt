@@ -134,7 +134,7 @@ module _ (world : World) (number count : ℕ) (group : to_tail (object_at world.
 
 -- The words of a list's cells
 
--- the first register, so many times
+-- a list that has the first register `count` times
 abbrev pub zeros : ℕ → List ℕ
 zeros count = replicate count 0
 
@@ -159,7 +159,7 @@ nils_mean role nil is count = record {
       ap (λ (w : Parts). value_of role w.content) (item_nil nil is count i here) ∙ ap (λ (v : Value). Some v) (sym (get_or-replicate count i V.Nil V.Nil here));
 }
 
--- a list of so many can be made
+-- a list of `count` conses can be made
 module _ (m : Memory.Store) (t : Table) (world : World) (places : List Place) (number count : ℕ) (group : to_tail (object_at world.objects number).area number (drop number world.objects) ≡ Some count)
     (w : IsLoadable world) (x : Drafted m t world places number) (low : number < length world.objects) where
   pub group_within : number + count ≤ length world.objects

@@ -1,4 +1,4 @@
--- What an area is charged for the objects of a world.
+-- The charges of an area for the objects of a world.
 use Rattle.std.proofs.Common.{◌≡◌, ℕ, zero, suc, ◌+◌, ◌<◌, ◌≤◌, refl, ap, ap₂, ◌∙◌, arith, List, [], ◌∷◌, ◌++◌, length}
 use Rattle.std.specs.Prelude.{◌-◌, if◌then◌else◌, nat_lt, ◌&&◌, ◌==◌, true}
 use Rattle.std.proofs.lemmas.Bool.{lt-ltb}
@@ -13,7 +13,7 @@ use Rattle.block_store.specs.lisp_meaning.Charges.{account_now, per_area}
 use Rattle.block_store.specs.lisp_meaning.Opening.{opening}
 use Rattle.heap_load.specs.Drafts.{charge_in, with_objects}
 
--- an object's charge, where it is of the area
+-- an object's charge, if it is of the area
 abbrev charged : ℕ → Object → ℕ
 charged area object = if object.area == area then object.charge else 0
 
@@ -26,7 +26,7 @@ all_held : (world : World) (area n : ℕ) → n < length world.objects
     → if_true (is_held (opening world).store n && per_area (opening world).store area n) (object_at world.objects n).charge ≡ charged area (object_at world.objects n)
 all_held world area n within = let t : nat_lt n (length world.objects) ≡ true = lt-ltb n (length world.objects) within in rw t refl
 
--- an account is no more than charges, since no husk stands there
+-- an account is no more than charges, since there is no husk
 account_is : (world : World) (area : ℕ) → account_now (opening world) area ≡ first_charges world.objects area (length world.objects) + total (λ level. 0) (suc world.space.levels) + 0
 account_is world area =
     ap (λ n. n + total (λ level. 0) (suc world.space.levels) + 0)

@@ -1,4 +1,4 @@
--- The words of a cons and of a block are stored where they stand.
+-- The words of a cons and of a block are stored at their addresses.
 use Rattle.std.proofs.Common.{◌≡◌, ℕ, suc, ◌+◌, ◌<◌, inl, inr, refl, sym, ap, ◌∙◌, subst, arith, List, length, get_or, true, false, Some}
 use Rattle.store_word.specs.Words.{Parts}
 use Rattle.store_word.specs.declared.word.CdrCode.{CdrCode}

@@ -44,7 +44,7 @@ use Rattle.heap_load.specs.Loading.{Drafted, Holds, HoldsSome, IsLoadable, IsPla
 abbrev pub store_with : World → List Object → M.Store
 store_with world objects = (opening (with_objects world objects)).store
 
--- the ground stands for more objects
+-- the ground represents more objects
 holds_more : (m m' : Store) (t t' : Table) (world : World) (objects made : List Object) (x : Holds m t world objects) (kind : Kind) (at : ℕ)
     → MadeOn m t m' t' x.map world.space.levels world.areas (store_with world objects) (with_made (store_with world objects) made 0) no_aim kind at → OnlyGrows t t' → Holds m' t' world (objects ++ made)
 holds_more m m' t t' world objects made x kind at y g = record {
@@ -133,7 +133,7 @@ module _ (m : Store) (t : Table) (world : World) (places : List Place) (n : ℕ)
       let within = w.fits area low in
       record { area_in = low; level_in = omega arith; fits = omega arith }
 
--- where nothing was made the ground stands for what it stood for
+-- if nothing was made the ground represents the same objects
 pub drafted_left : (m m' : Store) (t t' : Table) (world : World) (places : List Place) (n : ℕ) → Drafted m t world places n → StaysOn m t m' t' → OnlyGrows t t' → HoldsSome m' t' world
 drafted_left m m' t t' world places n x stays g = record {
   objects = x.objects;
@@ -201,7 +201,7 @@ nil_word = record { cdr = Next; content = NilWord }
 
 -- Parts that are known
 
--- such a part is made as it is
+-- such a part is stored when the object is made
 part_given : (n : ℕ) (v : Value) → is_known n v ≡ true → known_part n v ≡ v
 part_given n v e = rw e refl
 

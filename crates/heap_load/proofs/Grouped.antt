@@ -1,4 +1,4 @@
--- Groups of conses are looked for from their first on.
+-- Groups of conses are searched for from their first on.
 use Rattle.std.proofs.Common.{◌≡◌, ℕ, zero, suc, ◌+◌, ◌<◌, ◌≤◌, refl, ap, ◌∙◌, arith, List, [], ◌∷◌, length, drop, Bool, true, false, Option, Some, None}
 use Rattle.std.specs.Prelude.{nat_le, if◌then◌else◌}
 use Rattle.std.proofs.Math.Seq.{drop-cons}
@@ -8,7 +8,7 @@ use Rattle.lisp_graph.specs.Graph.{is_ref, no_object, object_at}
 use Rattle.lisp_graph.specs.Groups.{group_size, is_cell, is_nil, to_tail}
 use Rattle.heap_load.proofs.Grouping.{group_is}
 
--- so many more
+-- `done` more
 abbrev pub further : ℕ → Option ℕ → Option ℕ
 further done None = None
 further done (Some count) = Some (count + done)
@@ -19,7 +19,7 @@ drop_at objects i low =
     let e : suc i ≡ i + 1 = omega arith in
     drop-cons objects i no_object low ∙ ap (λ (n : ℕ). object_at objects i ∷ drop n objects) e
 
--- nothing is left
+-- no object remains
 pub none_left : (area i : ℕ) (objects : List Object) → length objects ≤ i → to_tail area i (drop i objects) ≡ None
 none_left area i [] past = nothing i
   where
@@ -61,7 +61,7 @@ pub further_none : (o : Option ℕ) → o ≡ further 0 o
 further_none None = refl
 further_none (Some count) = let e : count ≡ count + 0 = omega arith in ap (λ (n : ℕ). Some n) e
 
--- a group of more than 1,024 conses is none
+-- a group of more than 1,024 conses isn't one
 pub too_many : (area i : ℕ) (objects : List Object) → group_size (further 1024 (to_tail area i objects)) ≡ 0
 too_many area i objects = go (to_tail area i objects) refl
   where

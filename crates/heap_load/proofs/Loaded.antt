@@ -48,7 +48,7 @@ nil_always role other (HeaderForward a) e = absurd (cc (e))
 nil_always role other (GcForward a) e = absurd (cc (e))
 
 module _ (m m' : Store) (t t' : Table) (registers : List Parts) (world : World) (x : RepresentsWorld m t registers (emptied world)) where
-  -- where it is refused the registers are nil still
+  -- if it is refused the registers are still nil
   pub represents_left : HoldsSome m' t' world → RepresentsSome m' t' registers world
   represents_left y = record {
     objects = y.objects;
@@ -95,7 +95,7 @@ represents_loaded m t registers world places w x size roots =
 -- Groups
 
 module _ (m : Store) (t : Table) (world : World) (places : List Place) (x : Filled m t world places (length world.objects)) (laid : Laid m.words places world.objects (length world.objects)) where
-  -- a cons stands where its name does
+  -- the address of a cons is that of its name
   cons_at : (i : ℕ) (low : i < length world.objects) (car cdr : Value) (body : (object_at world.objects i).body ≡ Cons car cdr) → (laid.each i low car cdr body).at ≡ x.holds.map.at i
   cons_at i low car cdr body =
       let s = laid.each i low car cdr body in
@@ -105,7 +105,7 @@ module _ (m : Store) (t : Table) (world : World) (places : List Place) (x : Fill
   code_at : (i : ℕ) (low : i < length world.objects) (car cdr : Value) (body : (object_at world.objects i).body ≡ Cons car cdr) → (word_at m.words (x.holds.map.at i)).cdr ≡ code_for (group_from world.objects i)
   code_at i low car cdr body = ap (λ (a : ℕ). (word_at m.words a).cdr) (sym (cons_at i low car cdr body)) ∙ (laid.each i low car cdr body).code
 
-  -- the next cons of a group is behind
+  -- the next cons of a group is in the next word
   next_at : (i left : ℕ) → group_from world.objects i ≡ suc (suc left) → x.holds.map.at (suc i) ≡ suc (x.holds.map.at i)
   next_at i left group =
       let b = group_begins world.objects i (suc left) group in

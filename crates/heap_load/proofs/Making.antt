@@ -1,4 +1,4 @@
--- Objects made behind those of a world.
+-- Objects made after those of a world.
 use Rattle.std.proofs.Common.{◌≡◌, ℕ, ◌<◌, ◌≤◌, ◌⊎◌, inl, inr, refl, arith, List, ◌++◌, length, length-append, Option, Some, None}
 use Rattle.std.specs.Prelude.{if◌then◌else◌, nat_le, nat_lt, true, false}
 use Rattle.std.proofs.lemmas.Bool.{cases_lt, le-ltb, lt-ltb}

@@ -49,7 +49,7 @@ pub draft_cons : (body : Body) → None ≡ header_of body → (car : Value) × 
 draft_cons (Cons car cdr) e = (car, cdr, refl)
 draft_cons (Block code fields) e = absurd (cc (e))
 
--- a block of this code and so many fields
+-- a block of this code and number of fields
 pub draft_block : (body : Body) (code count : ℕ) → Some (code, count) ≡ header_of body → (fields : List Value) × (length fields ≡ count) × (body ≡ Block code fields)
 draft_block (Cons car cdr) code count e = absurd (cc (e))
 draft_block (Block other fields) code count e =

@@ -1,4 +1,4 @@
--- Conses stand in their places while more are made, and while parts are stored.
+-- Conses stay in their places while more are made, and while parts are stored.
 use Rattle.std.proofs.Common.{◌≡◌, ℕ, suc, ◌+◌, ◌-◌, ◌*◌, ◌<◌, ◌≤◌, ◌⊎◌, inl, inr, refl, sym, ap, ◌∙◌, subst, arith, List, length, zero, false, Option, Some, None, length-set}
 use Rattle.std.specs.Prelude.{slice_set}
 use Rattle.std.proofs.lemmas.Bool.{cases_eq, cases_lt}
@@ -40,7 +40,7 @@ use Rattle.heap_load.proofs.Tails.{code_left, group_along, group_cons}
 
 -- Words
 
--- a word that is no forward and not NULL is in the memory
+-- a word that is neither a forward nor NULL is in the memory
 word_final : (words : List Parts) (at : ℕ) (w : Parts) → word_at words at ≡ w → forward_of w.content ≡ None → (w.content ≡ Null → ⊥) → IsFinal words at
 word_final words at w is no_forward some = record { inside = go (cases_lt at (length words)); no_forward = ap (λ (p : Parts). forward_of p.content) is ∙ no_forward }
   where
@@ -58,7 +58,7 @@ nil_final words at w is nil = word_final words at w is (ap forward_of nil) (λ n
 header_final : (words : List Parts) (at code count : ℕ) → word_at words at ≡ block_word code count 0 → IsFinal words at
 header_final words at code count is = word_final words at (block_word code count 0) is refl (λ null. absurd (cc (null)))
 
--- a content with a value is no forward
+-- a content with a value isn't a forward
 pub value_stays : (role : ℕ → Role) (c : Content) (v : Value) → value_of role c ≡ Some v → forward_of c ≡ None
 value_stays role Null v e = refl
 value_stays role NilWord v e = refl
@@ -218,7 +218,7 @@ module _ (m m' : Store) (t t' : Table) (world : World) (places places' : List Pl
 
 -- Parts are stored
 
--- a word was stored, with the cdr code that was there, and no forward
+-- a word was stored, with the cdr code that was there, and it isn't a forward
 pub laid_stored : (m m' : Store) (places : List Place) (objects : List Object) (n x : ℕ) (w : Parts) → x < length m.words → Stores m m' x w → w.cdr ≡ (word_at m.words x).cdr → forward_of w.content ≡ None → Laid m.words places objects n → Laid m'.words places objects n
 laid_stored m m' places objects n x w x_inside stores code no_forward laid = record { each = again; blocks = block_again }
   where

@@ -16,7 +16,7 @@ use Rattle.heap_load.specs.Places.{cell_code_of}
 use Rattle.heap_load.proofs.Grouped.{at_end, drop_at, further, goes_on, group_of, none_left, stops}
 use Rattle.heap_load.proofs.Grouping.{group_is}
 
--- The first cons of some
+-- The first cons of a group
 
 has_cons : (test : Value → Bool) (body : Body) → has_cdr test body ≡ true → (car : Value) × (cdr : Value) × (body ≡ Cons car cdr)
 has_cons test (Cons car cdr) e = (car, cdr, refl)
@@ -40,7 +40,7 @@ tail_first area number count object rest e = go (cases_Bool (is_cell area is_nil
     go (inr f) (inl t) = cell_is area (is_ref (number + 1)) object t
     go (inr f) (inr h) = let none = rw (f, h) at e in absurd (cc (none))
 
--- what is left of two or more
+-- the rest of two or more
 tail_rest : (area number count : ℕ) (object : Object) (rest : List Object) → to_tail area number (object ∷ rest) ≡ Some (suc (suc count)) → to_tail area (number + 1) rest ≡ Some (suc count)
 tail_rest area number count object rest e = go (cases_Bool (is_cell area is_nil object)) (cases_Bool (is_cell area (is_ref (number + 1)) object))
   where
@@ -84,7 +84,7 @@ group_cons objects number count e =
     let area = (object_at objects number).area in
     (tail_first area number (suc count) (object_at objects number) (drop (number + 1) objects) (ap (to_tail area number) (sym (drop_at objects number b.inside)) ∙ b.is)).cons
 
--- a group of at most 1,024 is as large as its tail says
+-- a group of at most 1,024 has the size of its tail
 pub size_whole : (count : ℕ) → count ≤ 1024 → group_size (Some count) ≡ count
 size_whole count few = let small : nat_le count 1024 ≡ true = grind (arith, nat_tests) in rw small refl
 
@@ -111,7 +111,7 @@ group_step objects number zero e two = absurd (omega arith)
 group_step objects number (suc zero) e two = absurd (omega arith)
 group_step objects number (suc (suc count)) e two = let next = group_after objects number count e in ap (λ (k : ℕ). k + 1) next ∙ (omega arith)
 
--- so many less behind so many conses
+-- the rest of a group, after `i` of its conses
 pub group_along : (objects : List Object) (number count i : ℕ) → group_from objects number ≡ count → i < count → group_from objects (number + i) + i ≡ count
 group_along objects number count zero e low =
     let here : number + 0 ≡ number = omega arith in
@@ -127,7 +127,7 @@ group_along objects number count (suc i) e low = go (group_from objects (number 
         let there : number + suc i ≡ suc (number + i) = omega arith in
         ap (λ (n : ℕ). group_from objects n + suc i) there ∙ last (group_from objects (suc (number + i))) k step sum
 
--- the code of a cell is that of the group that is left
+-- the code of a cell is that of the rest of its group
 pub code_left : (count i left : ℕ) → left + i ≡ count → i < count → cell_code count i ≡ code_for left
 code_left count i zero e low = absurd (omega arith)
 code_left count i (suc zero) e low = let last : (suc i == count) ≡ true = grind (arith, nat_tests) in rw last refl
@@ -153,7 +153,7 @@ code_of_more zero two = absurd (omega arith)
 code_of_more (suc zero) two = absurd (omega arith)
 code_of_more (suc (suc count)) two = refl
 
--- a group of one more has two at least
+-- a group of one more has at least two
 two_or_more : (area number : ℕ) (rest : List Object) (found : Option ℕ) → to_tail area number rest ≡ found → 1 ≤ group_size (further 1 found) → 2 ≤ group_size (further 1 found)
 two_or_more area number rest None is some = absurd (omega arith)
 two_or_more area number rest (Some count) is some = go (cases_Bool (nat_le (count + 1) 1024))

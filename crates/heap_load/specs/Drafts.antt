@@ -22,13 +22,13 @@ abbrev pub header_of : Body → Option (ℕ × ℕ)
 header_of (Cons car cdr) = None
 header_of (Block code fields) = Some (code, length fields)
 
--- whether a part of the object with this number is known when the object is made: it is no reference, or one to an object before it
+-- whether a part of the object with this number is known when the object is made: it isn't a reference, or refers to an object before it
 abbrev pub is_known : ℕ → Value → Bool
 is_known number (Ref name) = nat_lt name number
 is_known number Nil = true
 is_known number (Fix i) = true
 
--- the part as it is made: nil where it isn't known
+-- the part as it is made: nil if it isn't known
 abbrev pub known_part : ℕ → Value → Value
 known_part number value = if is_known number value then value else Nil
 
@@ -45,7 +45,7 @@ pub record IsDraft (number : ℕ) (whole draft : Object) (cell : Bool) : Type 0 
 abbrev pub with_objects : World → List Object → World
 with_objects world objects = record world { objects = objects }
 
--- of the first objects, so many, each has its parts, and the others are drafts
+-- the first `count` objects have their parts, and the others are drafts
 abbrev pub filled : ℕ → List Object → List Object → List Object
 filled count whole drafts = take count whole ++ drop count drafts
 

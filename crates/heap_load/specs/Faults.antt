@@ -1,4 +1,4 @@
--- Which answers are faults.
+-- Which results are swap errors.
 use Rattle.std.specs.Prelude.{Bool, true, false, Result, Ok, Err}
 use Rattle.heap_load.specs.declared.fault.LoadFault.{LoadFault}
 use Rattle.heap_load.specs.declared.fault.LoadFault.TheVariants.{NoMemory, Swap}

@@ -1,4 +1,4 @@
--- What a ground and registers stand for while a world is loaded.
+-- What a ground and registers represent while a world is loaded.
 use Rattle.std.specs.Prelude.{◌≡◌, ℕ, zero, suc, ◌+◌, ◌<◌, ◌≤◌, true, false, List, [], length, drop, replicate, Some}
 use Rattle.store_word.specs.Words.{Parts}
 use Rattle.store_word.specs.declared.word.CdrCode.{CdrCode}
@@ -46,13 +46,13 @@ pub record IsLoadable (world : World) : Type 0 where
 abbrev pub emptied : World → World
 emptied world = record world { objects = []; roots = replicate world.space.registers V.Nil }
 
--- how many conses stand together from the object with this number on: at most 1,024, or none
+-- how many conses form a group from the object with this number on: at most 1,024, or 0 if there is none
 abbrev pub group_from : List Object → ℕ → ℕ
 group_from objects number = group_size (to_tail (object_at objects number).area number (drop number objects))
 
 -- What is represented
 
--- the ground and the registers stand for the world before its first command, by a map
+-- the ground and the registers represent the world before its first command, by a map
 pub record RepresentsWorld (m : Store) (t : Table) (registers : List Parts) (world : World) : Type 0 where
   pub map : RoleMap
   pub represents : Represents m t registers map (opening world)
@@ -65,7 +65,7 @@ pub record RepresentsSome (m : Store) (t : Table) (registers : List Parts) (worl
 
 -- The ground
 
--- the ground stands for these objects in a world's areas, and no collection runs
+-- the ground represents these objects in a world's areas, and no collection runs
 pub record Holds (m : Store) (t : Table) (world : World) (objects : List Object) : Type 0 where
   pub map : RoleMap
   pub kept : GroundInvariant m t map world.space.levels world.areas (opening (with_objects world objects)).store no_aim
@@ -86,7 +86,7 @@ pub record IsPlace (k : RoleMap) (place : Place) (number : ℕ) (body : Body) : 
   pub names : value_of k.role place.word.content ≡ Some (V.Ref number)
   pub tag : tag_of place.word.content ≡ tag_for body
 
--- the first objects of a world, so many, are made as drafts, and have their places
+-- the first `count` objects of a world are made as drafts, and have their places
 pub record Drafted (m : Store) (t : Table) (world : World) (places : List Place) (count : ℕ) : Type 0 where
   pub objects : List Object
   pub holds : Holds m t world objects
@@ -94,7 +94,7 @@ pub record Drafted (m : Store) (t : Table) (world : World) (places : List Place)
   pub places_are : (i : ℕ) → i < count → IsPlace holds.map (place_at places i) i (object_at world.objects i).body
   pub drafts : (i : ℕ) → i < count → IsDraft i (object_at world.objects i) (object_at objects i) (place_at places i).cell
 
--- all objects are made and have their places; the first, so many, have their parts, and the others are drafts
+-- all objects are made and have their places; the first `count` have their parts, and the others are drafts
 pub record Filled (m : Store) (t : Table) (world : World) (places : List Place) (count : ℕ) : Type 0 where
   pub objects : List Object
   pub holds : Holds m t world objects
@@ -119,15 +119,15 @@ pub record CarFilled (m : Store) (t : Table) (world : World) (places : List Plac
   pub filling : Filling m t world places count (Cons car rest)
   pub known : is_known count cdr ≡ true → rest ≡ cdr
 
--- Where conses stand
+-- Where conses are stored
 
--- the cdr code in the first word of a cons with which a group of so many begins: NORMAL where none does, NIL at its last cons, else NEXT
+-- the cdr code in the first word of a cons with which a group of this many conses begins: NORMAL if there is none, NIL at its last cons, otherwise NEXT
 abbrev pub code_for : ℕ → CdrCode
 code_for zero = Normal
 code_for (suc zero) = CdrNil
 code_for (suc (suc count)) = CdrNext
 
--- the cons with this number, one of so many that are made, stands in its place, where no forward is, with the cdr code of its group; the next cons of the group is made too, and stands behind it
+-- the cons with this number, one of `count` that are made, is in its place, which holds no forward, with the cdr code of its group; the next cons of the group is made too, and lies in the next word
 pub record StandsIn (words : List Parts) (places : List Place) (objects : List Object) (count number : ℕ) : Type 0 where
   pub at : ℕ
   pub place_is : (place_at places number).word.content ≡ ListAt at
@@ -137,19 +137,19 @@ pub record StandsIn (words : List Parts) (places : List Place) (objects : List O
   pub alone : (place_at places number).cell ≡ false → group_from objects number ≡ 0
   pub together : (place_at places number).cell ≡ true → 1 ≤ group_from objects number
 
--- the block with this number, of so many fields, stands in its place, where no forward is; its fields have the cdr code of a register's word
+-- the block with this number and number of fields is in its place, which holds no forward; its fields have the cdr code of a register's word
 pub record BlockStandsIn (words : List Parts) (places : List Place) (fields number : ℕ) : Type 0 where
   pub at : ℕ
   pub place_is : (place_at places number).word.content ≡ StructAt at
   pub final : IsFinal words at
   pub codes : (i : ℕ) → i < fields → (word_at words (suc at + i)).cdr ≡ CdrNext
 
--- each cons and each block does of the first objects of a world, so many
+-- each cons and each block among the first `count` objects of a world is in its place
 pub record Laid (words : List Parts) (places : List Place) (objects : List Object) (count : ℕ) : Type 0 where
   pub each : (i : ℕ) → i < count → (car cdr : Value) → (object_at objects i).body ≡ Cons car cdr → StandsIn words places objects count i
   pub blocks : (i : ℕ) → i < count → (code : ℕ) (fields : List Value) → (object_at objects i).body ≡ Block code fields → BlockStandsIn words places (length fields) i
 
--- the objects with so many numbers from this one on stand in consecutive words, each with the cdr code of a cell
+-- the `count` objects from this number on are in consecutive words, each with the cdr code of a cell
 pub record AreCells (words : List Parts) (at : ℕ → ℕ) (number count : ℕ) : Type 0 where
   pub behind : (i : ℕ) → i < count → at (number + i) ≡ at number + i
   pub codes : (i : ℕ) → i < count → (word_at words (at (number + i))).cdr ≡ cell_code count i
@@ -159,7 +159,7 @@ pub record AreGrouped (words : List Parts) (at : ℕ → ℕ) (objects : List Ob
   pub cells : (number : ℕ) → AreCells words at number (group_from objects number)
   pub pairs : (number : ℕ) (car cdr : Value) → number < length objects → (object_at objects number).body ≡ Cons car cdr → group_from objects number ≡ 0 → (word_at words (at number)).cdr ≡ Normal
 
--- the ground and the registers stand for the world, whose conses stand so where their names do
+-- the ground and the registers represent the world, whose conses have this layout at the addresses of their names
 pub record RepresentsGroups (m : Store) (t : Table) (registers : List Parts) (world : World) : Type 0 where
   pub represents : RepresentsWorld m t registers world
   pub grouped : AreGrouped m.words represents.map.at world.objects

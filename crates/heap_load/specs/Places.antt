@@ -8,7 +8,7 @@ use Rattle.lisp_graph.specs.declared.object.Value.{Value}
 use Rattle.lisp_graph.specs.declared.object.Value.TheVariants as V
 use Rattle.heap_load.specs.declared.places.Place.{Place}
 
--- what stands in place of one past the last
+-- the place for a number past the last
 abbrev pub no_place : Place
 no_place = record { word = null_word; cell = false }
 

@@ -1,4 +1,4 @@
-//! The objects of a world are made with the parts that are known by then.
+//! Makes the objects of a world, each with the parts that are known by then.
 ghost use Rattle.std.specs.Prelude.{◌≡◌, ◌+◌, ◌<◌, ◌≤◌, Some, length, drop, replicate, IfOk, OnOk, OnErr, [], IsOk};
 ghost use Rattle.mem_port.specs.View.{Tells};
 ghost use Rattle.area_space.specs.View.{view};
@@ -17,7 +17,7 @@ use mem_port::{Memory, known};
 use std::sync::ledger::Ledger;
 use store_word::{Steps, SwapFault, Word};
 
-/// Makes all objects of a world with the parts that are known by then, and puts down their places.
+/// Makes all objects of a world, each with the parts that are known by then, and records their places.
 pub(crate) fn make_drafts<M: Memory, L: Ledger>(
     ground: &mut Ground<M>,
     world: &World,
@@ -42,8 +42,8 @@ pub(crate) fn make_drafts<M: Memory, L: Ledger>(
     Ok(())
 }
 
-// Makes the group of conses that begins with this number, as one run of cells, or that object alone,
-// and answers how many objects it made.
+// Makes the group of conses that begins with this number, as one compact run, or that object alone,
+// and returns how many objects it made.
 fn make_next<M: Memory, L: Ledger>(
     ground: &mut Ground<M>,
     world: &World,
@@ -63,11 +63,11 @@ fn make_next<M: Memory, L: Ledger>(
     ensures inside { IfOk result (λ count. number + count ≤ length world.now.objects) }
     ensures laid { IfOk result (λ count. Laid (view ground.new).mem.store.words places.new world.now.objects (number + count)) }
 
-    // what a failure leaves, and what stays
+    // after a failure, and what is unchanged
     ensures left { OnErr result (HoldsSome (view ground.new) world.now) }
     ensures regions { ground.new.table.regions ≡ ground.old.table.regions }
 
-    // faults
+    // swap errors
     ensures tells { Tells (view ground.old).mem (view ground.new).mem steps.old steps.new result }
 {
     let count = group_from(world.objects.as_slice(), number);
@@ -79,7 +79,7 @@ fn make_next<M: Memory, L: Ledger>(
     Ok(count)
 }
 
-// Makes a cons as a pair of its charge, with nil where a part refers to a later object, or a block with
+// Makes a cons as a pair of its charge, with nil if a part refers to a later object, or a block with
 // nil in each field.
 fn make_alone<M: Memory, L: Ledger>(
     ground: &mut Ground<M>,
@@ -98,11 +98,11 @@ fn make_alone<M: Memory, L: Ledger>(
     ensures drafted { OnOk result (Drafted (view ground.new) world.now places.new (number + 1)) }
     ensures laid { OnOk result (group_from world.now.objects number ≡ 0 → Laid (view ground.new).mem.store.words places.new world.now.objects (number + 1)) }
 
-    // what a failure leaves, and what stays
+    // after a failure, and what is unchanged
     ensures left { OnErr result (HoldsSome (view ground.new) world.now) }
     ensures regions { ground.new.table.regions ≡ ground.old.table.regions }
 
-    // faults
+    // swap errors
     ensures tells { Tells (view ground.old).mem (view ground.new).mem steps.old steps.new result }
 {
     let object = &world.objects.as_slice()[number];
@@ -150,11 +150,11 @@ fn make_group<M: Memory, L: Ledger>(
     ensures drafted { OnOk result (Drafted (view ground.new) world.now places.new (number + count)) }
     ensures laid { OnOk result (Laid (view ground.new).mem.store.words places.new world.now.objects (number + count)) }
 
-    // what a failure leaves, and what stays
+    // after a failure, and what is unchanged
     ensures left { OnErr result (HoldsSome (view ground.new) world.now) }
     ensures regions { ground.new.table.regions ≡ ground.old.table.regions }
 
-    // faults
+    // swap errors
     ensures tells { Tells (view ground.old).mem (view ground.new).mem steps.old steps.new result }
 {
     let area = world.objects.as_slice()[number].area;
@@ -166,7 +166,7 @@ fn make_group<M: Memory, L: Ledger>(
     Ok(())
 }
 
-// The first register, so many times.
+// A list that has the first register `count` times.
 fn first_items(count: usize) -> Items
     requires { count ≤ 1024 }
     ensures { result ≡ replicate count 0 }

@@ -1,4 +1,4 @@
-//! Objects that are made get the parts that weren't known by then.
+//! Stores the parts of objects that weren't known when the objects were made.
 ghost use Rattle.std.specs.Prelude.{◌≡◌, ◌+◌, ◌<◌, ℕ, true, false, length, OnOk, OnErr, [], IsOk};
 ghost use Rattle.mem_port.specs.View.{Tells};
 ghost use Rattle.area_space.specs.View.{view};
@@ -16,7 +16,7 @@ use mem_port::Memory;
 use std::sync::ledger::Ledger;
 use store_word::{CdrCode, Steps, SwapFault, Word};
 
-/// Stores those parts of all objects of a world, which are made, that weren't known by then.
+/// Stores, in all objects of a world, the parts that weren't known when the objects were made.
 pub(crate) fn fill_drafts<M: Memory, L: Ledger>(
     ground: &mut Ground<M>,
     world: &World,
@@ -32,11 +32,11 @@ pub(crate) fn fill_drafts<M: Memory, L: Ledger>(
     ensures filled { OnOk result (Filled (view ground.new) world.now places.now (length world.now.objects)) }
     ensures laid { OnOk result (Laid (view ground.new).mem.store.words places.now world.now.objects (length world.now.objects)) }
 
-    // what a failure leaves, and what stays
+    // after a failure, and what is unchanged
     ensures left { OnErr result (HoldsSome (view ground.new) world.now) }
     ensures table { ground.new.table ≡ ground.old.table }
 
-    // faults
+    // swap errors
     ensures bare { world.now.objects ≡ [] → IsOk result }
     ensures tells { Tells (view ground.old).mem (view ground.new).mem steps.old steps.new result }
 {
@@ -65,11 +65,11 @@ fn fill_object<M: Memory, L: Ledger>(
     ensures filled { OnOk result (Filled (view ground.new) world.now places.now (number + 1)) }
     ensures laid { OnOk result (Laid (view ground.new).mem.store.words places.now world.now.objects (length world.now.objects)) }
 
-    // what a failure leaves, and what stays
+    // after a failure, and what is unchanged
     ensures left { OnErr result (HoldsSome (view ground.new) world.now) }
     ensures table { ground.new.table ≡ ground.old.table }
 
-    // faults
+    // swap errors
     ensures tells { Tells (view ground.old).mem (view ground.new).mem steps.old steps.new result }
 {
     match &world.objects.as_slice()[number].body {
@@ -81,7 +81,7 @@ fn fill_object<M: Memory, L: Ledger>(
 }
 
 // Stores the car of a cell, or the parts of a pair that weren't known when it was made: the cdr of a
-// cell stands by its layout.
+// cell is determined by its layout.
 fn fill_cons<M: Memory, L: Ledger>(
     ground: &mut Ground<M>,
     world: &World,
@@ -102,11 +102,11 @@ fn fill_cons<M: Memory, L: Ledger>(
     ensures filled { OnOk result (Filled (view ground.new) world.now places.now (number + 1)) }
     ensures laid { OnOk result (Laid (view ground.new).mem.store.words places.now world.now.objects (length world.now.objects)) }
 
-    // what a failure leaves, and what stays
+    // after a failure, and what is unchanged
     ensures left { OnErr result (HoldsSome (view ground.new) world.now) }
     ensures table { ground.new.table ≡ ground.old.table }
 
-    // faults
+    // swap errors
     ensures tells { Tells (view ground.old).mem (view ground.new).mem steps.old steps.new result }
 {
     if places[number].cell {
@@ -138,11 +138,11 @@ fn fill_cell<M: Memory, L: Ledger>(
     ensures filled { OnOk result (Filled (view ground.new) world.now places.now (number + 1)) }
     ensures laid { OnOk result (Laid (view ground.new).mem.store.words places.now world.now.objects (length world.now.objects)) }
 
-    // what a failure leaves, and what stays
+    // after a failure, and what is unchanged
     ensures left { OnErr result (HoldsSome (view ground.new) world.now) }
     ensures table { ground.new.table ≡ ground.old.table }
 
-    // faults
+    // swap errors
     ensures tells { Tells (view ground.old).mem (view ground.new).mem steps.old steps.new result }
 {
     let at = cons_at(places[number].word);
@@ -172,11 +172,11 @@ fn fill_car<M: Memory, L: Ledger>(
     ensures filled { OnOk result (CarFilled (view ground.new) world.now places.now number car cdr) }
     ensures laid { OnOk result (Laid (view ground.new).mem.store.words places.now world.now.objects (length world.now.objects)) }
 
-    // what a failure leaves, and what stays
+    // after a failure, and what is unchanged
     ensures left { OnErr result (HoldsSome (view ground.new) world.now) }
     ensures table { ground.new.table ≡ ground.old.table }
 
-    // faults
+    // swap errors
     ensures tells { Tells (view ground.old).mem (view ground.new).mem steps.old steps.new result }
 {
     if is_known(car, number) {
@@ -187,7 +187,7 @@ fn fill_car<M: Memory, L: Ledger>(
     store(ground, at, first, steps)
 }
 
-// Stores its cdr, if that wasn't known.
+// Stores the cdr of a pair, if it wasn't known when the pair was made.
 fn fill_cdr<M: Memory, L: Ledger>(
     ground: &mut Ground<M>,
     world: &World,
@@ -209,11 +209,11 @@ fn fill_cdr<M: Memory, L: Ledger>(
     ensures filled { OnOk result (Filled (view ground.new) world.now places.now (number + 1)) }
     ensures laid { OnOk result (Laid (view ground.new).mem.store.words places.now world.now.objects (length world.now.objects)) }
 
-    // what a failure leaves, and what stays
+    // after a failure, and what is unchanged
     ensures left { OnErr result (HoldsSome (view ground.new) world.now) }
     ensures table { ground.new.table ≡ ground.old.table }
 
-    // faults
+    // swap errors
     ensures tells { Tells (view ground.old).mem (view ground.new).mem steps.old steps.new result }
 {
     if is_known(cdr, number) {
@@ -245,11 +245,11 @@ fn fill_block<M: Memory, L: Ledger>(
     ensures filled { OnOk result (Filled (view ground.new) world.now places.now (number + 1)) }
     ensures laid { OnOk result (Laid (view ground.new).mem.store.words places.now world.now.objects (length world.now.objects)) }
 
-    // what a failure leaves, and what stays
+    // after a failure, and what is unchanged
     ensures left { OnErr result (HoldsSome (view ground.new) world.now) }
     ensures table { ground.new.table ≡ ground.old.table }
 
-    // faults
+    // swap errors
     ensures tells { Tells (view ground.old).mem (view ground.new).mem steps.old steps.new result }
 {
     let at = block_at(places[number].word);

@@ -1,4 +1,4 @@
-//! Groups of conses that stand together.
+//! Groups of consecutive conses that form a list.
 ghost use Rattle.std.specs.Prelude.{◌≡◌, ◌+◌, ◌<◌, length};
 ghost use Rattle.lisp_graph.specs.Graph.{is_ref};
 ghost use Rattle.lisp_graph.specs.Groups.{is_cell, is_nil};
@@ -38,8 +38,8 @@ fn is_link(object: &Object, area: u8, next: u64) -> bool
     }
 }
 
-/// How many conses stand together from this number on: of one area, of charge 3, each but the last
-/// referring to the next in its cdr, and the last to nil; at most 1,024, or 0.
+/// How many conses form a group from this number on: of one area, of charge 3, the cdr of each but the
+/// last referring to the next, and that of the last nil; at most 1,024, or 0 if there is no group.
 pub(crate) fn group_from(objects: &[Object], number: usize) -> usize
     requires { number < length objects.now }
     ensures { result ≡ group_from objects.now number }

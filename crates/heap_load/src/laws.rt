@@ -1,4 +1,4 @@
-//! Laws on the lists of objects.
+//! Laws of the lists of objects.
 ghost use Rattle.std.specs.Prelude.{◌≡◌, ◌+◌, ◌<◌, ◌≤◌, ℕ, suc, List, ◌++◌, length, map, take, slice_set, Some};
 ghost use Rattle.lisp_graph.specs.declared.object.Object.{Object};
 ghost use Rattle.lisp_graph.specs.declared.world.World.{World};
@@ -10,13 +10,13 @@ ghost use Rattle.block_store.specs.lisp_meaning.Charges.{account_now};
 ghost use Rattle.block_store.specs.lisp_meaning.Opening.{opening};
 ghost use Rattle.heap_load.specs.Drafts.{car_of, charge_in, filled, with_objects};
 
-/// Where objects are made behind those of a world, the memory stands for the world with these behind.
+/// If objects are made after those of a world, the memory represents the world with these objects appended.
 pub fn more_objects_are_made()
     ensures { (world : World) (made : List Object) → (opening (with_objects world (world.objects ++ made))).store ≡ with_made (opening world).store made 0 }
 {}
 
-/// An area is charged for the objects of it that are made, and for drafts of the first objects of a world no more than for its
-/// objects.
+/// An area is charged for those of its objects that are made, and for drafts of the first objects of a world no more than
+/// for the objects.
 pub fn drafts_are_charged()
     ensures more { (world : World) (made : List Object) (area : ℕ)
         → account_now (opening (with_objects world (world.objects ++ made))) area ≡ account_now (opening world) area + charge_in area made }
@@ -25,7 +25,7 @@ pub fn drafts_are_charged()
         → account_now (opening (with_objects world drafts)) area ≤ account_now (opening world) area }
 {}
 
-/// Where a draft gets the parts of its object, one object more is as the world has it.
+/// If a draft gets the parts of its object, one more object is complete.
 pub fn drafts_are_filled()
     ensures { (whole drafts : List Object) (i : ℕ) → i < length whole → length drafts ≡ length whole
         → (object_at drafts i).area ≡ (object_at whole i).area → (object_at drafts i).charge ≡ (object_at whole i).charge

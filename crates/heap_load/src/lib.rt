@@ -1,7 +1,7 @@
-//! A world's objects and roots are loaded into a new machine.
+//! Loads a world's objects and roots into a new machine.
 //!
-//! Each object is made with the parts that are known by then, and then the others are stored, so at each moment the
-//! machine stands for a state (`specs/Loading.antt`). Begin with `load`. `laws` has what holds of the objects of a
+//! Each object is made with the parts that are known by then, and then the other parts are stored, so at each moment the
+//! machine represents a state (`specs/Loading.antt`). Begin with `load`. `laws` has what holds of the objects of a
 //! world meanwhile (`specs/Drafts.antt`): there is no code in it, each law is the contract of a function.
 #![tactic(auto)]
 

@@ -1,4 +1,4 @@
-//! A world is loaded.
+//! Loads a world.
 ghost use Rattle.std.specs.Prelude.{◌≡◌, [], false, OnOk};
 ghost use Rattle.mem_port.specs.View.{TellsIf};
 ghost use Rattle.area_space.specs.View.{view};
@@ -18,14 +18,14 @@ use std::alloc::Global;
 use std::sync::ledger::Ledger;
 use store_word::{Steps, Word};
 
-/// Loads a world's objects and roots into a new machine: a ground without objects, and as many
-/// registers as roots. The objects have to fit the quotas of their areas. It takes memory for a
-/// place for each object, and gives it back.
+/// Loads a world's objects and roots into a new machine: a ground without objects, and a register
+/// for each root. The objects have to fit the quotas of their areas. It takes memory for a
+/// place for each object, and frees it again.
 ///
-/// Conses that stand together by themselves, of charge 3, each referring to the next and the last to
-/// nil, up to 1,024 of them, are laid as cells in consecutive words; any other cons is a pair of its
-/// charge. Where it is refused, the ground and the registers stand for some world of the same space
-/// and areas. `Swap` comes only if the count of faults rose, and not of a world without objects.
+/// Consecutive conses of charge 3 that form a list (the cdr of each refers to the next, the last cdr is
+/// nil), up to 1,024 of them, are laid out as cells in consecutive words; any other cons is a pair of its
+/// charge. If it is refused, the ground and the registers represent some world of the same space
+/// and areas. `Swap` is returned only if the count of swap errors rose, and not for a world without objects.
 pub fn load<M: Memory, L: Ledger>(
     alloc: Global,
     ground: &mut Ground<M>,
@@ -41,7 +41,7 @@ pub fn load<M: Memory, L: Ledger>(
     ensures some { RepresentsSome (view ground.new) registers.new world.now }
     ensures regions { ground.new.table.regions ≡ ground.old.table.regions }
 
-    // Faults: none comes of a world without objects.
+    // Swap errors: none occurs for a world without objects.
     ensures tells { TellsIf (view ground.old).mem (view ground.new).mem steps.old steps.new (is_fault result) }
     ensures bare { world.now.objects ≡ [] → is_fault result ≡ false }
 {

@@ -1,4 +1,4 @@
-//! The places of objects, and words of values by them.
+//! The places of objects, and the words of values, given these places.
 ghost use Rattle.std.specs.Prelude.{◌≡◌, ◌+◌, ◌^◌, ◌<◌, ◌≤◌, ℕ, All, length, get_or};
 ghost use Rattle.cdr_lists.specs.Pairs.{second_code};
 ghost use Rattle.store_word.specs.Words.{null_word, tag_of};
@@ -13,7 +13,7 @@ use cdr_lists::CELL;
 use lisp_graph::Value;
 use store_word::{CdrCode, Content, Word};
 
-/// The place of an object: the reference to it, and whether it is a cell, whose cdr stands by its
+/// The place of an object: the reference to it, and whether it is a cell, whose cdr is determined by its
 /// layout.
 #[derive(Clone, Copy)]
 pub(crate) struct Place {
@@ -21,7 +21,7 @@ pub(crate) struct Place {
     pub cell: bool,
 }
 
-/// The word of a value: of a reference the one in its place.
+/// The word of a value; for a reference, the word in the object's place.
 pub(crate) fn word_of(value: Value, places: &[Place]) -> Word
     requires { RefersBelow (length places.now) value }
     ensures { result ≡ word_of places.now value }
@@ -33,7 +33,7 @@ pub(crate) fn word_of(value: Value, places: &[Place]) -> Word
     }
 }
 
-/// Whether a part of the object with this number is known when the object is made: it is no reference,
+/// Whether a part of the object with this number is known when the object is made: it isn't a reference,
 /// or one to an object before it.
 pub(crate) fn is_known(value: Value, number: usize) -> bool
     ensures { result ≡ is_known number value }
@@ -44,7 +44,7 @@ pub(crate) fn is_known(value: Value, number: usize) -> bool
     }
 }
 
-/// The word of a part of the object with this number, as it is made: NIL where the part isn't known.
+/// The word of a part of the object with this number, as it is made: NIL if the part isn't known.
 pub(crate) fn word_so_far(value: Value, number: usize, places: &[Place]) -> Word
     requires { number ≤ length places.now }
     ensures { result ≡ word_of places.now (known_part number value) }
@@ -99,7 +99,7 @@ pub(crate) fn second_code(charge: u32) -> CdrCode
     }
 }
 
-/// The places of cells in consecutive words, so many from this number on.
+/// Sets the places of `count` cells in consecutive words, from this number on.
 pub(crate) fn put_cells(places: &mut [Place], number: usize, count: usize, from: u32)
     requires inside { number + count ≤ length places.old }
     requires below { from + count ≤ 2 ^ 28 }

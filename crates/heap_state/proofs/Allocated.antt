@@ -1,4 +1,4 @@
--- An allocation is a step, where the units that it pays for were scanned, or all that were left.
+-- An allocation is a transition if the units that it pays for were scanned, or all that remained.
 use Rattle.std.proofs.Common.{◌≡◌, ℕ, ◌+◌, ◌*◌, ◌≤◌, inl, inr, Bool, true, false, not, Option, refl, sym, ◌∙◌, ap, subst, List, IsTrue, arith}
 use Rattle.std.specs.Prelude.{is_some, if◌then◌else◌}
 use Rattle.std.proofs.lemmas.Bool.{and_from, or_right}
@@ -34,7 +34,7 @@ use Rattle.heap_state.proofs.Over.{told_over}
 use Rattle.heap_state.proofs.Played.{steps_to}
 use Rattle.heap_state.proofs.Swept.{clean_on, work_on, preserves_work}
 
--- whether a collection is over says nothing of what is represented
+-- whether a collection has finished doesn't affect what is represented
 
 over_aims : (t : Table) (over : Bool) (p : Phase) → Aims t p → Aims t (with_over_phase over p)
 over_aims t over Idle a = a
@@ -52,13 +52,13 @@ over_represents m t registers k s over b = record {
   aims = over_aims t over s.phase b.aims;
 }
 
--- A fault in a scan
+-- A swap error in a scan
 
 module _ (m : Store) (t : Table) (scan : Scan) (registers : List Parts) (k : RoleMap) (s : State) (c : Command) (b : Represents m t registers k s) (may : IsTrue (may_fault c)) (scanned : scans s c R.Fault ≡ true) where
   fault_over : (x : Collection) (ahead : ℕ) → s.phase ≡ Running x → SweepsAhead m t scan registers k s.store x ahead → IsOverAfter s (scans s c R.Fault) s scan.over
   fault_over x ahead was w = told_over m t scan registers s s x x (scans s c R.Fault) was was scanned w.over w.clean (λ going. (let left = w.work going in omega arith))
 
-  -- a fault, where a collection runs
+  -- a swap error, if a collection runs
   running_fault : (x : Collection) (ahead : ℕ) → s.phase ≡ Running x → SweepsAhead m t scan registers k s.store x ahead → StepsTo m t scan registers s c R.Fault
   running_fault x ahead was w = record {
     next = with_over scan.over s;
@@ -114,7 +114,7 @@ module _ (clean : CleanStays) (units : UnitsStay) (m m' : Store) (t t' : Table) 
   scanned : (q : Reply) → is_exhausted q ≡ false → scans s c q ≡ true
   scanned q plain = or_right (is_scavenge c) _ (and_from _ (not (is_exhausted q)) wants (ap not plain))
 
-  -- the state after it, before it is told whether the collection is over
+  -- the state after it, before it is known whether the collection has finished
   abbrev after : State
   after = counted w.charge (s.space.rate * w.charge) (allocated s c w.area e.graph)
 
@@ -129,7 +129,7 @@ module _ (clean : CleanStays) (units : UnitsStay) (m m' : Store) (t t' : Table) 
       let same : other ≡ e = (let z = sym is ∙ pays.is in cc) in
       pays.ahead_is ∙ sym (ap (λ (x : Effect). paid_wanting s x.wanted) same ∙ ap (paid_wanting s) pays.wants ∙ ap (λ (b : Bool). if b then 0 else s.space.rate * w.charge) pays.fits)
 
-  -- where a collection runs
+  -- if a collection runs
 
   module _ (x : Collection) (was : s.phase ≡ Running x) (v : SweepsAhead m t scan registers k s.store x ahead) where
     abbrev counts : Collection

@@ -39,7 +39,7 @@ use Rattle.heap_state.proofs.Playing.{Leaves, counted_represented, no_more}
 
 -- The quota
 
--- what the table's quota leaves is left
+-- what the table's quota allows, the state's quota allows
 pub quota_left : (m : Store) (t : Table) (registers : List Parts) (k : RoleMap) (s : State) (area level charge : ℕ) → Represents m t registers k s → area < areas_of t → level < levels_of t → account_of t area + charge ≤ quota_of t area
     → HasQuota s.space.levels s.areas s.store (aim_of s.phase) area level charge
 quota_left m t registers k s area level charge b area_in level_in fits =
@@ -56,7 +56,7 @@ over_false a b low = le-ltb a b low
 pub fits_quota : (s : State) (area level charge : ℕ) → HasQuota s.space.levels s.areas s.store (aim_of s.phase) area level charge → exceeds s (record { area = area; charge = charge }) ≡ false
 fits_quota s area level charge q = over_false (rule_of s.areas area).quota (account_now s area + charge) q.fits
 
--- it leaves as much after registers were settled
+-- it allows as much after registers were settled
 pub account_same : (m m' : Store) (t t' : Table) (registers registers' : List Parts) (area : ℕ) → IsConsistent m t registers → RepresentsSame m t registers m' t' registers' → account_of t' area ≡ account_of t area
 account_same m m' t t' registers registers' area x represented =
     let y = represented x.map x.state x.represents x.reach in
@@ -100,7 +100,7 @@ made_represented m m' t t' registers k map s store to word v words charge grows 
 abbrev after_allocation : State → Command → Effect → Wanted → State
 after_allocation s c e w = counted w.charge (s.space.rate * w.charge) (allocated s c w.area e.graph)
 
--- an allocation that fits its quota answers so
+-- the reply to an allocation that fits its quota
 pub allocation_answers : (m m' : Store) (t t' : Table) (registers' : List Parts) (k : RoleMap) (s : State) (c : Command) (e : Effect) (w : Wanted) → effect (graph_of s) c ≡ Some e → e.wanted ≡ Some w → e.reply ≡ R.Fine → exceeds s w ≡ false
     → RepresentsLater m t m' t' registers' k s (allocated s c w.area e.graph) w.charge → AnswersOn m t m' t' registers' c R.Fine k s
 allocation_answers m m' t t' registers' k s c e w is wants fine fits represented = record {
@@ -118,7 +118,7 @@ allocation_answers m m' t t' registers' k s c e w is wants fine fits represented
     owed_is : owed_wanting s c e e.wanted ≡ w.charge
     owed_is = ap (owed_wanting s c e) wants ∙ ap (λ (b : Bool). if b then 0 else w.charge) fits
 
--- Of each state whose new objects are of a level
+-- For each state whose new objects are of a level
 
 pub performs_at : (m m' : Store) (t t' : Table) (registers registers' : List Parts) (c : Command) (r : Reply) (area level : ℕ) → Performs m t registers m' t' registers' c r → PerformsAt m t registers m' t' registers' c r area level
 performs_at m m' t t' registers registers' c r area level p k s b reach is = record { performed = p.performed k s b reach; preserves = p.preserves; others = p.others; stays_fresh = p.stays_fresh; marks = p.marks; settled = p.settled }

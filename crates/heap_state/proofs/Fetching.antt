@@ -1,4 +1,4 @@
--- The value of a word goes to a register, and is shown.
+-- The value of a word is stored in a register, and shown.
 use Rattle.std.proofs.Common.{◌≡◌, ◌≢◌, ℕ, ◌<◌, ◌≤◌, ◌⊎◌, inl, inr, refl, sym, subst, List, length, slice_set, Some, IsTrue, arith}
 use Rattle.std.specs.Prelude.{IfOk, OnOk, OnErr, Result, Ok, Err}
 use Rattle.store_word.specs.Words.{Parts}
@@ -35,12 +35,12 @@ use Rattle.heap_state.proofs.OneSettled.{registers_same, settled_on}
 use Rattle.heap_state.proofs.Showing.{can_show, shows_value}
 use Rattle.heap_state.proofs.Playing.{Leaves, counted_represented, later_represents, later_represented, leaves_read, performs_fault, read_represents, set_others, wider_represented}
 
--- a reply is that of a fault or another
+-- a reply is `fault` or another
 pub fault_cases : (r : Reply) → (r ≡ R.Fault) ⊎ (r ≢ R.Fault)
 fault_cases R.Fault = inl refl
 fault_cases r = inr (λ e. cc)
 
--- a command that is no `rplacd` owes nothing; at most it owes more
+-- a command other than `rplacd` owes 0, which is at most any number
 none_owed : (n : ℕ) → 0 ≤ n
 none_owed n = omega arith
 
@@ -65,7 +65,7 @@ module _ (m m1 m2 : Store) (t t1 : Table) (registers : List Parts) (c : Command)
       let f = means_here in
       can_show m1 t1 f.later.map consistent.state.space.levels consistent.state.areas consistent.state.store (aim_of consistent.state.phase) f.later.kept word.content (fetches consistent.map consistent.state consistent.represents consistent.reach).value f.value_is
 
-  -- it didn't go to a register
+  -- it wasn't stored in a register
   pub fetched_leaves : Leaves m t registers m1 t1 registers
   fetched_leaves = record {
     represented = λ k s b reach. later_represented m m1 t t1 registers k s preserves.grows b (fetches k s b reach).means.later;
@@ -117,7 +117,7 @@ module _ (m m1 m2 : Store) (t t1 : Table) (registers : List Parts) (c : Command)
     | inr sure ↦ subst (λ (rs : List Parts). Performs m t registers m2 t1 rs c reply) (sym (set sure)) (fetched_performs stays (shows sure) sure)
   ]
 
--- the same of what the call answered
+-- the same for what the call returned
 pub answer_performs : (m m1 m2 : Store) (t t1 : Table) (registers : List Parts) (c : Command) (to from : ℕ) (word : Parts) (r : Result Reply SwapFault) → IsConsistent m t registers → to < length registers → from < length registers → IsSettled t registers from
     → ((i : ℕ) → IsTrue (reads c i) → i ≡ from) → FetchesAll m t registers m1 t1 c to word → (HasOld t1 word → ⊥) → PreservesScanned m t m1 t1 → (AllFresh m t → AllFresh m1 t1) → MarksFollow m t m1 t1
     → (registers' : List Parts) → IsTrue (may_fault c) → StoresNothing m1 m2 → IfOk r (Shows m1.words word.content) → IfOk r (λ reply. reply ≢ R.Fault) → OnOk r (registers' ≡ slice_set registers to word) → OnErr r (registers' ≡ registers)

@@ -48,7 +48,7 @@ module _ (m : Store) (t : Table) (scan : Scan) (registers : List Parts) (k : Rol
     work = work_of s.phase x;
   }
 
--- and the other way
+-- and conversely
 
 module _ (m : Store) (t : Table) (scan : Scan) (registers : List Parts) (k : RoleMap) (s : State) (x : StandsOn m t (rest_of scan t registers) k s) where
   aims_of : (p : Phase) → PhaseOf (image_of m t (rest_of scan t registers)) p → Aims t p

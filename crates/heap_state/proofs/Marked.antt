@@ -9,7 +9,7 @@ use Rattle.transporter.specs.Marking.{MarksFollow}
 use Rattle.transporter.proofs.Marked.{marks-but, marks-then, marks-then_but}
 use Rattle.heap_state.specs.Marks.{MarksByStoring, MarksOf, stores}
 
--- whatever the command, where marks follow
+-- for any command, if marks follow
 pub marks_of : {m m' : Store} {t t' : Table} (c : Command) (r : Reply) → MarksFollow m t m' t' → MarksOf c r m t m' t'
 marks_of {m} {m'} {t} {t'} c r x = by (stores c)
   where

@@ -28,7 +28,7 @@ use Rattle.heap_state.specs.RepresentsLater.{RepresentsSame}
 use Rattle.heap_state.specs.Settled.{IsSettled, RegistersFresh}
 use Rattle.heap_state.proofs.Changing.{kept_register, later_means, represented_twice}
 
--- what the table says of the collection stays where it only grows
+-- what the table records of the collection is unchanged if it only grows
 pub aims_grown : (t t' : Table) (p : Phase) → OnlyGrows t t' → Aims t p → Aims t' p
 aims_grown t t' Idle g a = (g.aim ∙ a.0, λ region old. a.1 region (old-before g old))
 aims_grown t t' (Running c) g a = g.aim ∙ a
@@ -49,7 +49,7 @@ reference_address NilWord at e = absurd (let x : None ≡ Some at = e in cc)
 pub fresh_settled : (t : Table) (w : Parts) → FreshOn t w.content → HasOld t w → ⊥
 fresh_settled t w fresh old = fresh old.0 (reference_address w.content old.0 old.1) old.2
 
--- a settled register stays settled where the table grows and registers are preserved
+-- a settled register stays settled if the table grows and registers are preserved
 pub settled_on : (t t' : Table) (registers registers' : List Parts) (r : ℕ) → OnlyGrows t t' → RegistersPreserved t' registers registers' → r < length registers → IsSettled t registers r → IsSettled t' registers' r
 settled_on t t' registers registers' r g x low settled = elim (x.each r low) [
   | inl same ↦ λ old. settled (let was = subst (λ (w : Parts). HasOld t' w) same old in (was.0, was.1, old-before g was.2))
@@ -82,7 +82,7 @@ registers_fresh t t' registers registers' g x fresh r low =
       | inr new ↦ new
     ]
 
--- What a caller owes
+-- What a caller must ensure
 
 pub consistent_on : (m m' : Store) (t t' : Table) (registers registers' : List Parts) → IsConsistent m t registers → RepresentsSame m t registers m' t' registers' → IsConsistent m' t' registers'
 consistent_on m m' t t' registers registers' x represented =

@@ -1,4 +1,4 @@
--- While a collection isn't over something is left, and less is paid than is owed.
+-- While a collection hasn't finished a unit remains, and less is paid than is owed.
 use Rattle.std.proofs.Common.{◌≡◌, ℕ, zero, suc, ◌+◌, ◌<◌, ◌≤◌, ◌⊎◌, Bool, true, false, refl, sym, ◌∙◌, ap, List, length, nat_le, inl, inr, arith}
 use Rattle.std.proofs.lemmas.Bool.{cases_Bool, cases_lt, cases_eq, leb-true}
 use Rattle.store_word.specs.Words.{Parts}
@@ -48,7 +48,7 @@ at_last m t scan registers k s c x going =
     let work = x.work going in
     omega arith
 
--- whether a scan is over is told truly by a step that scanned, if while a unit is left that many are owed and not paid
+-- a transition that scanned records correctly whether a scan has finished, if while units remain at least that number are owed and not paid
 pub told_over : (m : Store) (t : Table) (scan : Scan) (registers : List Parts) (s after : State) (before counts : Collection) (scanned : Bool) → s.phase ≡ Running before → after.phase ≡ Running counts → scanned ≡ true → (before.over ≡ true → scan.over ≡ true) → Clean m t scan registers
     → (scan.over ≡ false → counts.paid + units_of m scan t registers ≤ counts.owed) → IsOverAfter s scanned after scan.over
 told_over m t scan registers s after before counts scanned was runs scans stays clean work = record {

@@ -1,4 +1,4 @@
--- Phases after answers.
+-- Phases after replies.
 use Rattle.std.proofs.Common.{◌≡◌, ℕ, ◌+◌, ◌*◌, Bool, true, false, refl, sym, ◌∙◌, ap, Option, Some, None, if◌then◌else◌, arith}
 use Rattle.lisp_graph.specs.declared.command.Command.{Command}
 use Rattle.lisp_graph.specs.declared.reply.Reply.{Reply}
@@ -16,7 +16,7 @@ none_more Idle = refl
 none_more (Running c) = let a : c.owed + 0 ≡ c.owed = omega arith in let b : c.paid + 0 ≡ c.paid = omega arith in
     ap (λ (x : ℕ). Running (record c { owed = x; paid = c.paid + 0 })) a ∙ ap (λ (x : ℕ). Running (record c { paid = x })) b
 
--- the phase after an answer
+-- the phase after a reply
 pub wanted_phase : (s : State) (c : Command) (e : Effect) (w : Option Wanted) → (answer_wanting s c e w).1.phase ≡ counted_phase (owed_wanting s c e w) (paid_wanting s w) s.phase
 wanted_phase s c e None = refl
 wanted_phase s c e (Some w) = by (exceeds s w) (exhausted s w, s) (e.reply, counted w.charge (s.space.rate * w.charge) (allocated s c w.area e.graph)) w.charge (s.space.rate * w.charge) refl refl

@@ -1,4 +1,4 @@
--- What is performed is a step.
+-- What is performed is a transition.
 use Rattle.std.proofs.Common.{◌≡◌, ℕ, ◌+◌, inl, inr, true, false, refl, sym, ◌∙◌, ap, subst, List, Option, nat_le, arith}
 use Rattle.std.proofs.lemmas.Bool.{cases_Bool, leb-true}
 use Rattle.store_word.specs.Words.{Parts}
@@ -41,7 +41,7 @@ module _ (clean : CleanStays) (units : UnitsStay) (m m' : Store) (t t' : Table) 
   scans_on owed paid ahead s' y Idle was is same x = scanless_on clean units m m' t t' scan registers registers' k s b (preserves_work p) x
   scans_on owed paid ahead s' y (Running z) was is same x = swept_on owed paid ahead s' y z was is (same refl) x
 
-  -- a collection ends with no step that is performed
+  -- no transition that is performed ends a collection
   over_after : (owed paid : ℕ) (q : Phase) (after : State) (n : RoleMap) → after.phase ≡ counted_phase owed paid q → Scans m' t' scan registers' n after.store (counted_phase owed paid q) 0 → s.phase ≡ q → IsOverAfter s (may_end s c r) after (is_over q)
   over_after owed paid Idle after n is x was = record {
     stays = λ e. (let z = ap is_over was in cc);

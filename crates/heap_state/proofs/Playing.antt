@@ -1,4 +1,4 @@
--- What a command leaves, from what its calls leave.
+-- What a command does to what is represented, from what its calls do.
 use Rattle.std.proofs.Common.{◌≡◌, ℕ, ◌+◌, ◌<◌, ◌≤◌, ◌⊎◌, inl, inr, refl, sym, ◌∙◌, ap, subst, List, length, length-set, get_or, slice_set, Some, IsTrue, arith}
 use Rattle.std.proofs.lemmas.Bool.{cases_eq}
 use Rattle.std.proofs.lemmas.List.{get_or-set_same, get_or-set_other}
@@ -65,7 +65,7 @@ wider_represented m m' t t' registers' k s s' more wide low x = record { map = x
 pub no_more : (m m' : Store) (t t' : Table) (registers' : List Parts) (k : RoleMap) (s s' : State) (n : ℕ) → RepresentsLater m t m' t' registers' k s s' (0 + n) → RepresentsLater m t m' t' registers' k s s' n
 no_more m m' t t' registers' k s s' n x = record { map = x.map; represents = x.represents; refines = x.refines; work = (let w = x.work in omega arith) }
 
--- What is represented stays
+-- What is represented is unchanged
 
 -- the same objects by a later map
 pub later_represents : (m m' : Store) (t t' : Table) (registers : List Parts) (k : RoleMap) (s : State) → OnlyGrows t t' → Represents m t registers k s → (x : LaterOn m t m' t' k s.space.levels s.areas s.store (aim_of s.phase)) → Represents m' t' registers x.map s
@@ -79,7 +79,7 @@ later_represented m m' t t' registers k s g b x = record { map = x.map; represen
 pub read_represents : (m m' : Store) (t : Table) (registers : List Parts) (k : RoleMap) (s : State) → Represents m t registers k s → StoresNothing m m' → Represents m' t registers k s
 read_represents m m' t registers k s b stays = record { kept = kept_on_same m m' t k s.space.levels s.areas s.store (aim_of s.phase) b.kept stays; count = b.count; means = b.means; aims = b.aims }
 
--- a call left what was represented, and scanned words and registers that stay or are fresh
+-- after a call the same states are represented, and scanned words and registers are unchanged or fresh
 pub record Leaves (m : Store) (t : Table) (registers : List Parts) (m' : Store) (t' : Table) (registers' : List Parts) : Type 0 where
   pub represented : RepresentsSame m t registers m' t' registers'
   pub preserves : PreservesScanned m t m' t'

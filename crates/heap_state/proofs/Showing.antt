@@ -1,4 +1,4 @@
--- Words and their values: how they are shown, and when they are one.
+-- Words and their values: how they are shown, and when they are equal.
 use Rattle.std.proofs.Common.{◌≡◌, ℕ, ◌⊎◌, inl, inr, Bool, false, ◌==◌, sym, ◌∙◌, ap, List, Some, None}
 use Rattle.std.proofs.lemmas.Bool.{cases_eq, eq-eqb, ne_eqb}
 use Rattle.store_word.specs.declared.word.Content.{Content}
@@ -97,7 +97,7 @@ module _ (m : Memory.Store) (t : Table) (k : RoleMap) (top : ℕ) (areas : List 
   can_compare (StructAt a) (HeaderForward b) v w is it = tt
   can_compare (StructAt a) (GcForward b) v w is it = tt
 
-  -- two objects are one where their places are
+  -- two objects are the same if their places are
   same_names : (kind : Kind) (a b : ℕ) (v w : Value) (same : Bool) → Refers m.words k s kind a v → Refers m.words k s kind b w → SamePlace m.words a b same → same ≡ same_value v w
   same_names kind a b v w same r q is =
       is (k.at r.name) (k.at q.name) r.leads.final q.leads.final ∙ go (cases_eq r.name q.name) ∙ sym (ap (λ (x : Value). same_value x w) r.value ∙ ap (same_value (V.Ref r.name)) q.value)
@@ -106,7 +106,7 @@ module _ (m : Memory.Store) (t : Table) (k : RoleMap) (top : ℕ) (areas : List 
       go (inl e) = eq-eqb (k.at r.name) (k.at q.name) (ap k.at e) ∙ sym (eq-eqb r.name q.name e)
       go (inr n) = ne_eqb (k.at r.name) (k.at q.name) (λ e. n (distinct (ground_image m t) k s on.kept.roled r.name q.name r.leads.used q.leads.used e)) ∙ sym (ne_eqb r.name q.name n)
 
-  -- a cons is no block
+  -- a cons isn't a block
   other_names : (a b : ℕ) (v w : Value) → Refers m.words k s AsCons a v → Refers m.words k s AsBlock b w → same_value v w ≡ false
   other_names a b v w r q =
       ap (λ (x : Value). same_value x w) r.value ∙ ap (same_value (V.Ref r.name)) q.value
@@ -120,7 +120,7 @@ module _ (m : Memory.Store) (t : Table) (k : RoleMap) (top : ℕ) (areas : List 
   both : (v w x y : Value) → v ≡ x → w ≡ y → same_value v w ≡ same_value x y
   both v w x y e f = ap (λ (z : Value). same_value z w) e ∙ ap (same_value x) f
 
-  -- words are one where their values are
+  -- words are the same if their values are
   pub same_words : (c d : Content) (v w : Value) (same : Bool) → value_of k.role c ≡ Some v → value_of k.role d ≡ Some w → SameWord m.words c d same → same ≡ same_value v w
   same_words (Fixnum i) (Fixnum j) v w same is it e = e ∙ sym (both v w (V.Fix i) (V.Fix j) (value_is (V.Fix i) v is) (value_is (V.Fix j) w it))
   same_words (Fixnum i) NilWord v w same is it e = e ∙ sym (both v w (V.Fix i) V.Nil (value_is (V.Fix i) v is) (value_is V.Nil w it))

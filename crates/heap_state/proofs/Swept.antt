@@ -30,7 +30,7 @@ use Rattle.heap_state.specs.Settled.{RegistersFresh}
 image_fresh : (m : Store) (t : Table) (rest : Rest) (content : Content) → IsTable t → Fresh (image_of m t rest) content → FreshOn t content
 image_fresh m t rest content v fresh b e old = not_old_region m t rest v b (fresh b e) old
 
--- where a scan is over, registers and words are fresh
+-- if a scan has finished, registers and words are fresh
 module _ (m : Store) (t : Table) (scan : Scan) (registers : List Parts) (v : IsTable t) (g : IsGround m t) (x : Clean m t scan registers) (over : scan.over ≡ true) where
   pub over_registers : RegistersFresh t registers
   over_registers r low = image_fresh m t (rest_of scan t registers) (get_or registers r null_word).content v (x.scanned.registers r low (done r))

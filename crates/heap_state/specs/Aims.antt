@@ -1,9 +1,9 @@
--- What the table says of the collection that runs.
+-- What the table records of the collection that runs.
 use Rattle.std.specs.Prelude.{◌≡◌, ℕ, Some, None}
 use Rattle.area_space.specs.Table.{Table, IsOld}
 use Rattle.transporter.specs.lisp_meaning.State.{Phase, Idle, Running}
 
--- no collection runs and no region is old, or the table runs what the state does
+-- no collection runs and no region is old, or the table's collection is the state's
 abbrev pub Aims : Table → Phase → Type 0
 Aims t Idle = (t.aim ≡ None) × ((region : ℕ) → IsOld t region → ⊥)
 Aims t (Running c) = t.aim ≡ Some c.aim.what

@@ -1,4 +1,4 @@
--- What a caller owes of a ground and its registers.
+-- What a caller must ensure of a ground and its registers.
 use Rattle.std.specs.Prelude.{◌<◌, List, length}
 use Rattle.store_word.specs.Words.{Parts}
 use Rattle.mem_port.specs.Store.{Store}
@@ -8,7 +8,7 @@ use Rattle.transporter.specs.lisp_meaning.Roles.{RoleMap}
 use Rattle.transporter.specs.lisp_meaning.Sound.{Reach}
 use Rattle.heap_state.specs.Represents.{Represents}
 
--- they stand for some state, in which a collection keeps what the registers lead to, and which has an area
+-- they represent some state, in which a collection keeps what the registers lead to, and which has an area
 pub record IsConsistent (m : Store) (t : Table) (registers : List Parts) : Type 0 where
   pub map : RoleMap
   pub state : State

@@ -28,35 +28,35 @@ use Rattle.heap_state.specs.Performs.{Performs, PerformsOn}
 use Rattle.heap_state.specs.Scans.{IsScanless, Scans, Sweeps}
 use Rattle.heap_state.specs.StepsTo.{PaysAhead, PaysFor, StepsTo}
 
--- Steps
+-- Transitions
 
--- what is performed is a step
+-- what is performed is a transition
 abbrev pub PerformsIsStep : Type 0
 PerformsIsStep = (m m' : Store) (t t' : Table) (scan : Scan) (registers registers' : List Parts) (k : RoleMap) (s : State) (c : Command) (r : Reply) (ahead : ℕ)
     → Represents m t registers k s → Scans m t scan registers k s.store s.phase ahead → Reach s s.phase → PaysAhead s c ahead
     → Performs m t registers m' t' registers' c r → StepsTo m' t' scan registers' s c r
 
--- an allocation that the quota allows is one, where the units that it pays for were scanned, or all that were left
+-- an allocation that the quota allows is one, if the units that it pays for were scanned, or all that remained
 abbrev pub AllocationIsStep : Type 0
 AllocationIsStep = (m m' : Store) (t t' : Table) (scan : Scan) (registers registers' : List Parts) (k : RoleMap) (s : State) (c : Command) (r : Reply) (ahead : ℕ)
     → Represents m t registers k s → ScansAhead m t scan registers k s.store s.phase ahead → Reach s s.phase → PaysFor s c ahead
     → PerformsOn m t registers m' t' registers' c r k s → StepsTo m' t' scan registers' s c r
 
--- and so is a fault in a scan
+-- and so is a swap error in a scan
 abbrev pub FaultIsStep : Type 0
 FaultIsStep = (m : Store) (t : Table) (scan : Scan) (registers : List Parts) (k : RoleMap) (s : State) (c : Command) (ahead : ℕ)
     → Represents m t registers k s → ScansAhead m t scan registers k s.store s.phase ahead → IsTrue (may_fault c) → scans s c R.Fault ≡ true → StepsTo m t scan registers s c R.Fault
 
--- while something is left less is paid than is owed
+-- while a unit remains less is paid than is owed
 abbrev pub AtLast : Type 0
 AtLast = (m : Store) (t : Table) (scan : Scan) (registers : List Parts) (k : RoleMap) (s : M.Store) (c : Collection) → Sweeps m t scan registers k s c 0 → c.over ≡ false → c.paid < c.owed
 
--- after a step a collection keeps what the registers lead to
+-- after a transition a collection keeps what the registers lead to
 abbrev pub ReachStays : Type 0
 ReachStays = (m : Store) (t : Table) (scan : Scan) (registers : List Parts) (k : RoleMap) (s : State) (c : Command) (a : Answer) (next : State)
     → RepresentsAll m t scan registers k s → 0 < s.space.registers → IsAllowed c → Step s c a next → Reach next next.phase
 
--- and the machine stands for the state after it
+-- and the machine represents the state after it
 abbrev pub StepsRepresent : Type 0
 StepsRepresent = (m m' : Store) (t t' : Table) (scan scan' : Scan) (registers registers' : List Parts) (k : RoleMap) (s : State) (c : Command) (r : Reply)
     → RepresentsAll m t scan registers k s → 0 < s.space.registers → IsAllowed c → (x : StepsTo m' t' scan' registers' s c r) → MarksHold m' → RepresentsAll m' t' scan' registers' x.map x.next
@@ -68,12 +68,12 @@ abbrev pub IsMachineInvariant : Type 0
 IsMachineInvariant = (m : Store) (t : Table) (scan : Scan) (registers : List Parts) (k : RoleMap) (s : State)
     → Represents m t registers k s → Scans m t scan registers k s.store s.phase 0 → Reach s s.phase → MarksHold m → MachineInvariant (image_of m t (rest_of scan t registers)) k s
 
--- the scan set has the machine's sizes, and while no collection runs nothing is left; while one runs it is clean
+-- the scan set has the machine's sizes, and while no collection runs no unit remains; while one runs it is clean
 abbrev pub IsSwept : Store → Table → Scan → List Parts → Phase → Type 0
 IsSwept m t scan registers Idle = IsScanless t scan registers
 IsSwept m t scan registers (Running c) = Clean m t scan registers × (scan.over ≡ c.over)
 
--- what is represented is what a machine stands for, and the other way
+-- what is represented is what a machine represents, and conversely
 pub record RepresentsIsStands : Type 0 where
   pub stands : (m : Store) (t : Table) (scan : Scan) (registers : List Parts) (k : RoleMap) (s : State) → RepresentsAll m t scan registers k s → StandsOn m t (rest_of scan t registers) k s
   pub represents : (m : Store) (t : Table) (scan : Scan) (registers : List Parts) (k : RoleMap) (s : State)

@@ -1,4 +1,4 @@
--- What a command leaves.
+-- What a command does to what is represented.
 use Rattle.std.specs.Prelude.{◌≡◌, ◌≢◌, ℕ, ◌⊎◌, List, Some, IsTrue}
 use Rattle.store_word.specs.Words.{Parts}
 use Rattle.lisp_graph.specs.declared.command.Command.{Command}
@@ -20,7 +20,7 @@ use Rattle.heap_state.specs.Reads.{reads, IsDone}
 use Rattle.heap_state.specs.Settled.{RegistersFresh, IsSettled}
 use Rattle.heap_state.specs.Wanting.{owed_wanting}
 
--- a fault was met, and what was represented is represented
+-- a swap error occurred, and what was represented is represented
 abbrev pub FaultsOn : Store → Table → Store → Table → List Parts → Command → Reply → RoleMap → State → Type 0
 FaultsOn m t m' t' registers' c r k s = (r ≡ R.Fault) × IsTrue (may_fault c) × RepresentsLater m t m' t' registers' k s s 0
 
@@ -32,17 +32,17 @@ pub record AnswersOn (m : Store) (t : Table) (m' : Store) (t' : Table) (register
   pub sure : r ≢ R.Fault
   pub represented : RepresentsLater m t m' t' registers' k s (answer_of s c effect_of).1 (owed_wanting s c effect_of effect_of.wanted)
 
--- what is represented after a command with this reply: its effect, or after a fault what was represented before
+-- what is represented after a command with this reply: its effect, or after a swap error what was represented before
 pub record Performs (m : Store) (t : Table) (registers : List Parts) (m' : Store) (t' : Table) (registers' : List Parts) (c : Command) (r : Reply) : Type 0 where
   pub performed : (k : RoleMap) (s : State) → Represents m t registers k s → Reach s s.phase → FaultsOn m t m' t' registers' c r k s ⊎ AnswersOn m t m' t' registers' c r k s
   pub preserves : PreservesScanned m t m' t'
   pub others : RegistersPreserved t' registers registers'
   pub stays_fresh : RegistersFresh t registers → AllFresh m t → AllFresh m' t'
   pub marks : MarksOf c r m t m' t'
-  -- each register that was read is settled, where the command was done
+  -- each register that was read is settled, if the command was done
   pub settled : IsDone r → (i : ℕ) → IsTrue (reads c i) → IsSettled t' registers' i
 
--- the same of one state, represented by one map
+-- the same for one state, represented by one map
 pub record PerformsOn (m : Store) (t : Table) (registers : List Parts) (m' : Store) (t' : Table) (registers' : List Parts) (c : Command) (r : Reply) (k : RoleMap) (s : State) : Type 0 where
   pub performed : FaultsOn m t m' t' registers' c r k s ⊎ AnswersOn m t m' t' registers' c r k s
   pub preserves : PreservesScanned m t m' t'
@@ -51,7 +51,7 @@ pub record PerformsOn (m : Store) (t : Table) (registers : List Parts) (m' : Sto
   pub marks : MarksOf c r m t m' t'
   pub settled : IsDone r → (i : ℕ) → IsTrue (reads c i) → IsSettled t' registers' i
 
--- and of each state in which the objects that a command makes in an area are of this level
+-- and for each state in which the objects that a command makes in an area are of this level
 abbrev pub PerformsAt : Store → Table → List Parts → Store → Table → List Parts → Command → Reply → ℕ → ℕ → Type 0
 PerformsAt m t registers m' t' registers' c r area level =
     (k : RoleMap) (s : State) → Represents m t registers k s → Reach s s.phase → level ≡ new_level (rule_of s.areas area).kind → PerformsOn m t registers m' t' registers' c r k s

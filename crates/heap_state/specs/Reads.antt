@@ -23,7 +23,7 @@ reads (C.Size of) i = i == of
 reads (C.Eq left right) i = i == left || i == right
 reads _ i = false
 
--- a command with this reply was done: it wasn't refused, and met no fault
+-- a command with this reply was done: it wasn't refused, and no swap error occurred
 abbrev pub IsDone : Reply → Type 0
 IsDone R.WrongType = ⊥
 IsDone (R.NoField length) = ⊥
@@ -31,17 +31,17 @@ IsDone (R.Exhausted area charged wanted quota) = ⊥
 IsDone R.Fault = ⊥
 IsDone _ = Unit {0}
 
--- the reply to a command: what it answered, or that a page call failed
+-- the reply to a command: what it returned, or that a page call failed
 abbrev pub reply_of : Result Reply SwapFault → Reply
 reply_of (Ok reply) = reply
 reply_of (Err fault) = R.Fault
 
--- a reply is that of a page call that failed
+-- it is the reply to a command in which a page call failed
 abbrev pub is_fault : Reply → Bool
 is_fault R.Fault = true
 is_fault _ = false
 
--- what refused a command is that a page call failed
+-- the command was refused because a page call failed
 abbrev pub met_fault : {T : Type 0} → Result T Reply → Bool
 met_fault (Ok it) = false
 met_fault (Err reply) = is_fault reply

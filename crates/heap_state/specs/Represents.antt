@@ -1,4 +1,4 @@
--- What a ground and registers stand for.
+-- What a ground and registers represent.
 use Rattle.std.specs.Prelude.{◌≡◌, ℕ, ◌<◌, List, length, get_or, Some}
 use Rattle.store_word.specs.Words.{Parts, null_word}
 use Rattle.lisp_graph.specs.declared.object.Value.TheVariants as V
@@ -9,7 +9,7 @@ use Rattle.transporter.specs.lisp_meaning.Roles.{RoleMap, value_of}
 use Rattle.transporter.specs.lisp_ground.GroundInvariant.{GroundInvariant}
 use Rattle.heap_state.specs.Aims.{Aims}
 
--- the ground stands for the state's objects and the words of the registers have the state's values, by a map
+-- the ground represents the state's objects and the words of the registers have the state's values, by a map
 pub record Represents (m : Store) (t : Table) (registers : List Parts) (k : RoleMap) (s : State) : Type 0 where
   pub kept : GroundInvariant m t k s.space.levels s.areas s.store (aim_of s.phase)
   pub count : length registers ≡ length s.registers

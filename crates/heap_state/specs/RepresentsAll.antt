@@ -1,4 +1,4 @@
--- What a machine stands for between two commands.
+-- What a machine represents between two commands.
 use Rattle.std.specs.Prelude.{List}
 use Rattle.store_word.specs.Words.{Parts}
 use Rattle.mem_port.specs.Store.{Store, MarksHold}
@@ -10,7 +10,7 @@ use Rattle.scavenger.specs.Scan.{Scan}
 use Rattle.heap_state.specs.Represents.{Represents}
 use Rattle.heap_state.specs.Scans.{Scans}
 
--- the ground and the registers stand for the state, by a map, and the scan does; a collection keeps what the registers lead to, and the pages have their marks
+-- the ground and the registers represent the state, by a map, and so does the scan; a collection keeps what the registers lead to, and the pages have their marks
 pub record RepresentsAll (m : Store) (t : Table) (scan : Scan) (registers : List Parts) (k : RoleMap) (s : State) : Type 0 where
   pub represents : Represents m t registers k s
   pub scans : Scans m t scan registers k s.store s.phase 0

@@ -1,4 +1,4 @@
--- What a scan has to do with the state.
+-- How a scan set agrees with the state.
 use Rattle.std.specs.Prelude.{◌≡◌, ℕ, ◌+◌, ◌*◌, ◌≤◌, true, false, List, length}
 use Rattle.store_word.specs.Words.{Parts}
 use Rattle.mem_port.specs.Store.{Store}
@@ -11,7 +11,7 @@ use Rattle.scavenger.specs.Scan.{Scan}
 use Rattle.scavenger.specs.Left.{units_of}
 use Rattle.scavenger.specs.Collecting.{Clean}
 
--- nothing is left to scan, and the scan set has the machine's sizes
+-- no unit remains to be scanned, and the scan set has the machine's sizes
 pub record IsScanless (t : Table) (scan : Scan) (registers : List Parts) : Type 0 where
   pub over : scan.over ≡ true
   pub count : length registers ≡ scan.registers
@@ -23,7 +23,7 @@ pub record Sweeps (m : Store) (t : Table) (scan : Scan) (registers : List Parts)
   pub over : scan.over ≡ c.over
   pub work : c.over ≡ false → c.paid + ahead + (units_of m scan t registers + old_on m t s c.aim k.at) ≤ c.owed
 
--- no collection runs and nothing is left, or one runs and is swept
+-- no collection runs and no unit remains, or one runs and is swept
 abbrev pub Scans : Store → Table → Scan → List Parts → RoleMap → M.Store → Phase → ℕ → Type 0
 Scans m t scan registers k s Idle ahead = IsScanless t scan registers
 Scans m t scan registers k s (Running c) ahead = Sweeps m t scan registers k s c ahead

@@ -1,4 +1,4 @@
--- A step of the definition.
+-- A transition of the definition.
 use Rattle.std.specs.Prelude.{◌≡◌, ℕ, ◌*◌, false, List, Some}
 use Rattle.store_word.specs.Words.{Parts}
 use Rattle.lisp_graph.specs.declared.command.Command.{Command}
@@ -15,7 +15,7 @@ use Rattle.heap_state.specs.Represents.{Represents}
 use Rattle.heap_state.specs.Scans.{Scans}
 use Rattle.heap_state.specs.Wanting.{paid_wanting}
 
--- a state after a step with this reply is represented, and the scan is its scan
+-- a state after a transition with this reply is represented, and the scan is its scan
 pub record StepsTo (m : Store) (t : Table) (scan : Scan) (registers : List Parts) (s : State) (c : Command) (r : Reply) : Type 0 where
   pub next : State
   pub step : Step s c (Replied r) next
@@ -23,11 +23,11 @@ pub record StepsTo (m : Store) (t : Table) (scan : Scan) (registers : List Parts
   pub represents : Represents m t registers map next
   pub scans : Scans m t scan registers map next.store next.phase 0
 
--- so many units were scanned ahead as the command pays
+-- the units scanned ahead are those that the command pays for
 abbrev pub PaysAhead : State → Command → ℕ → Type 0
 PaysAhead s c ahead = (e : Effect) → effect (graph_of s) c ≡ Some e → ahead ≡ paid_wanting s e.wanted
 
--- the command is an allocation that the quota allows, and so many units were scanned ahead as it pays
+-- the command is an allocation that the quota allows, and the units scanned ahead are those that it pays for
 pub record PaysFor (s : State) (c : Command) (ahead : ℕ) : Type 0 where
   pub effect_of : Effect
   pub is : effect (graph_of s) c ≡ Some effect_of

@@ -1,4 +1,4 @@
--- What an answer owes and pays.
+-- What a command with a given reply owes and pays.
 use Rattle.std.specs.Prelude.{ℕ, ◌*◌, if◌then◌else◌, Option, Some, None}
 use Rattle.lisp_graph.specs.declared.command.Command.{Command}
 use Rattle.lisp_graph.specs.Effect.{Effect, Wanted}

@@ -1,4 +1,4 @@
--- What words say of values.
+-- The values of words.
 use Rattle.std.specs.Prelude.{◌≡◌, ℕ, Bool, true, false, ◌==◌, List}
 use Rattle.std.specs.Ordering.{int_eq}
 use Rattle.store_word.specs.Words.{Parts}
@@ -29,7 +29,7 @@ Shows words _ reply = reply ≡ R.Nil
 
 -- Identity
 
--- both final addresses can be found, where two words are references of one kind
+-- both final addresses can be found, if two words are references of one kind
 abbrev pub CanCompare : List Parts → Content → Content → Type 0
 CanCompare words (ListAt a) (ListAt b) = HasFinal words a × HasFinal words b
 CanCompare words (StructAt a) (StructAt b) = HasFinal words a × HasFinal words b

@@ -1,4 +1,4 @@
-//! Whether two words have one value.
+//! Compares the values of two words.
 ghost use Rattle.std.specs.Prelude.{◌≡◌, ◌+◌, ◌<◌, ◌≤◌, IfOk};
 ghost use Rattle.mem_port.specs.View.{Tells, shown};
 ghost use Rattle.std.specs.Ordering.{int_eq};
@@ -11,14 +11,14 @@ use obj_layout::resolve;
 use std::sync::ledger::Ledger;
 use store_word::{Content, Steps, SwapFault, Word};
 
-// Whether two numbers are one.
+// Whether two numbers are equal.
 fn is_same_number(left: i32, right: i32) -> bool
     ensures { result ≡ int_eq left right }
 {
     left == right
 }
 
-// Whether two addresses have one final address. It takes at most 24 steps.
+// Whether two addresses have the same final address. It takes at most 24 memory accesses.
 fn is_same_place<M: Memory, L: Ledger>(
     mem: &mut M,
     left: u32,
@@ -37,8 +37,8 @@ fn is_same_place<M: Memory, L: Ledger>(
     Ok(a == b)
 }
 
-/// Whether two words have one value: of references, whether they lead to one object. It takes at
-/// most 24 steps. A fault stores nothing, and the count of faults rises.
+/// Whether two words have the same value: references do if they lead to the same object. It takes at
+/// most 24 memory accesses. On a swap error nothing is stored, and the count of swap errors rises.
 pub fn is_same<M: Memory, L: Ledger>(
     mem: &mut M,
     left: Word,

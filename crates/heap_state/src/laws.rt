@@ -3,7 +3,7 @@ ghost use Rattle.heap_state.specs.Laws.{AllocationIsStep, AtLast, RepresentsIsSt
 
 use scavenger::scans_go_on;
 
-/// What a command performs is a step of the definition, whether a collection runs or not.
+/// What a command performs is a transition of the definition, whether or not a collection runs.
 pub fn commands_are_steps()
     ensures performs { PerformsIsStep }
     ensures allocates { AllocationIsStep }
@@ -15,13 +15,13 @@ pub fn commands_are_steps()
     scans_go_on();
 }
 
-/// What is represented between two commands is the invariant of a machine.
+/// What is represented between two commands satisfies the invariant of a machine.
 pub fn what_is_represented_stands()
     ensures strong { IsMachineInvariant }
     ensures stands { RepresentsIsStands }
 {}
 
-/// How what is represented changes with registers and memory.
+/// How what is represented changes when registers and memory change.
 pub fn what_is_represented_changes()
     ensures kept { KeptRegister }
     ensures twice { RepresentsTwice }

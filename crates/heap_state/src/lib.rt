@@ -1,8 +1,8 @@
-//! What a ground and registers stand for between two commands, and what each command leaves.
+//! What a ground and registers represent between two commands, and what each command does to it.
 //!
 //! The commands of the program are proved over a memory, a table and the words of the registers:
-//! `specs/Represents.antt` says what these stand for, and `specs/Performs.antt` what a command leaves. The
-//! laws here make a step of the definition of it, whether a collection runs or not.
+//! `specs/Represents.antt` says what these represent, and `specs/Performs.antt` what a command does. By the
+//! laws here that is a transition of the definition, whether or not a collection runs.
 #![tactic(auto)]
 
 mod compare;

@@ -22,8 +22,8 @@ fn header_reply(header: Word) -> Reply
     }
 }
 
-// The reply that shows a word's value. Of a reference to a block it reads the header, at its final
-// address, once. It takes at most 13 steps. A fault stores nothing, and the count of faults rises.
+// The reply that shows a word's value. For a reference to a block it reads the header, at its final
+// address, once. It takes at most 13 memory accesses. On a swap error nothing is stored, and the count of swap errors rises.
 fn show<M: Memory, L: Ledger>(
     mem: &mut M,
     word: Word,
@@ -48,8 +48,8 @@ fn show<M: Memory, L: Ledger>(
     }
 }
 
-/// A word goes to a register, and is shown. A fault leaves the registers as they were, and the count
-/// of faults rises. It takes at most 13 steps, and stores nothing.
+/// Writes a word to a register, and returns the reply that shows it. On a swap error the registers are unchanged,
+/// and the count of swap errors rises. It takes at most 13 memory accesses, and stores nothing.
 pub fn show_into<M: Memory, L: Ledger>(
     mem: &mut M,
     registers: &mut [Word],

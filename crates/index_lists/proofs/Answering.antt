@@ -1,4 +1,4 @@
--- What a read of the links says of a list.
+-- What a read of the links returns, in terms of the lists.
 use Rattle.std.proofs.Common.{◌≡◌, ◌≢◌, ℕ, ◌+◌, ◌<◌, ◌^◌, ◌↔◌, eqb, Some, Option, List, [], ◌∷◌, length, get_or, refl, sym, ap, subst, ◌∙◌, arith, inl, inr}
 use Rattle.std.specs.Prelude.{Contains, IfSome, IsNone}
 use Rattle.std.specs.List.{IsDistinct}
@@ -96,7 +96,7 @@ sound links nodes lists all h = record {
   ];
 }
 
--- the value that callers see, and the links behind it
+-- the value that callers see, and the links that it is read from
 pub record IsSeen (links : List Link) (nodes lists : ℕ) (value : Chains) : Type 0 where
   pub holds : Holds links nodes lists value.lists
   pub nodes_is : value.nodes ≡ nodes
@@ -121,7 +121,7 @@ last_seen links nodes lists l value s b =
     let r = s.holds.rings l (rw (← s.holds.count) b) in
     last_is links (nodes + l) _ (nodes + l) (lacks_by_bound links nodes l (nodes + l) _ (omega arith) r.owned) r.path
 
--- what there is to say of the node after a node
+-- what the clauses state of the node after a node
 pub record IsNext (value : Chains) (l node : ℕ) (next : Option ℕ) : Type 0 where
   pub is : next ≡ next_in (list_at value l) node
   pub none : IsNone next ↔ (last_of (list_at value l) ≡ Some node)

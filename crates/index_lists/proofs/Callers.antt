@@ -1,4 +1,4 @@
--- What callers need: the other lists once one has changed, and what a list has once a node has entered or left it.
+-- What callers need: the other lists after one has changed, and what a list has after a node was added or removed.
 use Rattle.std.proofs.Common.{◌≡◌, ◌≢◌, ℕ, ◌+◌, ◌<◌, eqb, Some, List, [], ◌∷◌, ◌++◌, length, refl, sym, ap, subst, ◌∙◌, arith, inl, inr, get_or-set_same, get_or-set_other, length-set}
 use Rattle.std.specs.Prelude.{Contains}
 use Rattle.std.specs.List.{IsDistinct}
@@ -48,7 +48,7 @@ without-last n xs d e = again xs (apart_from_distinct xs d) e
         let ne : y ≢ n = λ s. has_not_lacks n (z ∷ zs) (has_last (z ∷ zs) n h) (subst (λ (q : ℕ). Lacks q (z ∷ zs)) s a.0) in
         rw (without_there n y (z ∷ zs) ne) (ap (λ (ys : List ℕ). y ∷ ys) (again (z ∷ zs) a.1 h))
 
--- a node has entered a list
+-- a node was added to a list
 
 pub Contains-push_old : (q n : ℕ) (xs : List ℕ) → Contains xs q → Contains (xs ++ n ∷ []) q
 Contains-push_old q n xs m = contains_from_has q _ (has_push_old q n xs (has_from_contains q xs m.0 m.1 m.2))
@@ -63,7 +63,7 @@ Contains-push_back q n xs m ne = contains_from_has q xs (back xs (has_from_conta
     back [] h = absurd (h (λ e. ne (sym e)))
     back (y ∷ ys) h = λ t. back ys (h t)
 
--- a node has left a list
+-- a node was removed from a list
 
 pub Contains-without : (n q : ℕ) (xs : List ℕ) → q ≢ n → Contains xs q → Contains (without n xs) q
 Contains-without n q xs ne m = contains_from_has q _ (has_without q n xs ne (has_from_contains q xs m.0 m.1 m.2))
@@ -85,7 +85,7 @@ length-without n xs m d = shorter xs (has_from_contains n xs m.0 m.1 m.2) (apart
           | inr ne ↦ (let rest = shorter ys (h ne) a.1 in let same : length (without n (y ∷ ys)) ≡ length (without n ys) + 1 = (rw without_there (omega arith)) in omega arith)
         ]
 
--- a node that has left its list is in none
+-- a node that was removed from its list is in none
 pub free_from_without : (c : Chains) (n l : ℕ) → IsSound c → Contains (list_at c l) n → IsFree (with_list c l (without n (list_at c l))) n
 free_from_without c n l s m k there =
     elim (cases_eq k l) [

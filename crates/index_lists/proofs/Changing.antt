@@ -1,4 +1,4 @@
--- What callers see once a node has entered a list or left it.
+-- What callers see after a node was added to a list or removed from it.
 use Rattle.std.proofs.Common.{◌≡◌, ℕ, ◌<◌, List, [], ◌∷◌, ◌++◌, length, sym, ap, subst, ◌∙◌}
 use Rattle.std.specs.Prelude.{Contains}
 use Rattle.index_lists.specs.declared.links.Link.{Link}
@@ -48,7 +48,7 @@ after_relink links new nodes lists l n old s m d =
     let at = at_from_contains links nodes lists l n old.lists s.holds m in
     shows new nodes lists (with_list old l (without n (list_at old l) ++ n ∷ [])) s.nodes_is (d lists old.lists at.list_in at.node_in at.owner s.holds)
 
--- the rest of what the clauses say of a list that has changed
+-- the other clauses on a list that has changed
 
 pub same_nodes : (old new : Chains) (l : ℕ) (xs : List ℕ) → new ≡ with_list old l xs → new.nodes ≡ old.nodes
 same_nodes old new l xs e = ap (λ (v : Chains). v.nodes) e

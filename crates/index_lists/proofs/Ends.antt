@@ -6,7 +6,7 @@ use Rattle.index_lists.specs.Members.{Lacks, Has, IsApart}
 use Rattle.index_lists.specs.Chains.{first_of, last_of, next_in}
 use Rattle.index_lists.proofs.Members.{has_not_lacks, contains_from_has}
 
--- there is no first exactly in the empty list
+-- there is no first if and only if the list is empty
 pub none_first : (xs : List ℕ) (o : Option ℕ) → o ≡ first_of xs → IsNone o ↔ (xs ≡ [])
 none_first [] None e = (λ _. refl, λ _. refl)
 none_first [] (Some n) e = absurd (cc)
@@ -25,7 +25,7 @@ has_last [] n e = absurd (cc)
 has_last (x ∷ []) n e = λ ne. absurd (ne (cc))
 has_last (x ∷ y ∷ ys) n e = λ _. has_last (y ∷ ys) n e
 
--- there is no last exactly in the empty list
+-- there is no last if and only if the list is empty
 pub none_last : (xs : List ℕ) (o : Option ℕ) → o ≡ last_of xs → IsNone o ↔ (xs ≡ [])
 none_last [] None e = (λ _. refl, λ _. refl)
 none_last [] (Some n) e = absurd (cc)
@@ -79,7 +79,7 @@ none_from_last (x ∷ y ∷ ys) n m a l e =
       | inr ne ↦ none_from_last (y ∷ ys) n m a.1 l (rw (ne_eqb x n ne) at e)
     ]
 
--- so there is none after a node exactly where it is the last
+-- so there is none after a node if and only if it is the last
 pub none_next : (xs : List ℕ) (n : ℕ) (o : Option ℕ) → Has n xs → IsApart xs → o ≡ next_in xs n → IsNone o ↔ (last_of xs ≡ Some n)
 none_next xs n None h a e = (λ _. last_from_none xs n h e, λ _. refl)
 none_next xs n (Some m) h a e = (λ k. absurd (cc), λ l. absurd (none_from_last xs n m a l e))

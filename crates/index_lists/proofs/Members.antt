@@ -1,4 +1,4 @@
--- Lists of numbers: what they have and lack, and what is left once a number is taken out.
+-- Lists of numbers: what they have and lack, and what they have after a number is taken out.
 use Rattle.std.proofs.Common.{◌≡◌, ◌≢◌, ℕ, zero, suc, ◌<◌, false, eqb, List, [], ◌∷◌, ◌++◌, length, get_or, refl, sym, ap, subst, ◌∙◌, arith, inl, inr}
 use Rattle.std.specs.Prelude.{Contains}
 use Rattle.std.specs.List.{IsDistinct, AllByRecursion}
@@ -66,7 +66,7 @@ pub lacks_push : (q n : ℕ) (xs : List ℕ) → n ≢ q → Lacks q xs → Lack
 lacks_push q n [] ne l = (ne, tt)
 lacks_push q n (x ∷ xs) ne l = (l.0, lacks_push q n xs ne l.1)
 
--- no number comes again, where the new one was lacking
+-- no number occurs twice, if the list lacked the new one
 pub apart_push : (n : ℕ) (xs : List ℕ) → Lacks n xs → IsApart xs → IsApart (xs ++ n ∷ [])
 apart_push n [] l a = (tt, tt)
 apart_push n (x ∷ xs) l a = (lacks_push x n xs (λ e. l.0 (sym e)) a.0, apart_push n xs l.1 a.1)
@@ -122,7 +122,7 @@ lacks_itself n (x ∷ xs) =
       | inr ne ↦ subst (Lacks n) (sym (without_there n x xs ne)) (ne, lacks_itself n xs)
     ]
 
--- no number comes again
+-- no number occurs twice
 pub apart_without : (n : ℕ) (xs : List ℕ) → IsApart xs → IsApart (without n xs)
 apart_without n [] a = tt
 apart_without n (x ∷ xs) a =

@@ -28,7 +28,7 @@ first_nil : (xs : List ℕ) → first_of xs ≡ None → xs ≡ []
 first_nil [] e = refl
 first_nil (x ∷ xs) e = absurd (cc)
 
--- what a step leaves of the list that the nodes come from
+-- what one round of the loop leaves in the list that is emptied
 pub from_after : (now : Chains) (to from n : ℕ) → to ≢ from → from < length now.lists → IsSound now → (rest : List ℕ) → list_at now from ≡ n ∷ rest → list_at (moved now to from n) from ≡ rest
 from_after now to from n ne b s rest e =
     list_at-with_list_other (with_list now from (without n (list_at now from))) to _ from (λ t. ne (sym t)) ∙ (list_at-with_list_same now from _ b
@@ -51,7 +51,7 @@ moving_more old now to from n ne bt bf s e m =
       others = λ k kt kf. list_at-with_list_other rest to _ k kt ∙ (list_at-with_list_other now from _ k kf ∙ m.others k kt kf);
     }
 
--- the list that they come from has fewer
+-- the list that is emptied has fewer nodes
 pub moving_falls : (now : Chains) (to from n : ℕ) → to ≢ from → from < length now.lists → IsSound now → first_of (list_at now from) ≡ Some n
     → length (list_at (moved now to from n) from) < length (list_at now from)
 moving_falls now to from n ne b s e =

@@ -56,7 +56,7 @@ after_ne links q node from [] to t l h p = absurd h
 after_ne links q node from (x ∷ xs) to t l h p =
     elim (cases_eq x node) [ inl e ↦ subst (λ (n : ℕ). after_of links n ≢ q) e (after_start_ne links q x xs to t l.1 p.2) | inr ne ↦ after_ne links q node x xs to t l.1 (h ne) p.2 ]
 
--- the same where the node is the first
+-- the same if the node is the first
 at_node : (old new : List Link) (node : ℕ) → Joins old new (before_of old node) (after_of old node) → (from x : ℕ) (xs : List ℕ) (to : ℕ)
     → x ≡ node → Lacks from (x ∷ xs) → IsApart (x ∷ xs) → Lacks to (x ∷ xs) → IsPath old from (x ∷ xs) to → IsPath new from xs to
 at_node old new node j from x [] to e lf d lt p =

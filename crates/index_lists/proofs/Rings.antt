@@ -21,7 +21,7 @@ pub lacks_by_bound : (links : List Link) (nodes l q : ℕ) (xs : List ℕ) → n
 lacks_by_bound links nodes l q [] b o = tt
 lacks_by_bound links nodes l q (x ∷ xs) b o = (omega arith, lacks_by_bound links nodes l q xs b o.2)
 
--- what is left of owned nodes is owned
+-- the remaining owned nodes are owned
 pub owned_without : (links : List Link) (nodes l n : ℕ) (xs : List ℕ) → AreOwned links nodes l xs → AreOwned links nodes l (without n xs)
 owned_without links nodes l n [] o = tt
 owned_without links nodes l n (x ∷ xs) o =
@@ -99,7 +99,7 @@ ring_owned old new a b nodes l xs j ne la r = record {
   apart = r.apart;
 }
 
--- a node goes to the end of a ring
+-- a node is linked in at the end of a ring
 pub ring_push : (one two three four : List Link) (nodes l n : ℕ) (xs : List ℕ) → Joins one two (before_of one (nodes + l)) n → Joins two three n (nodes + l) → Owns three four n l
     → n < nodes → Lacks n xs → IsRing one nodes l xs → IsRing four nodes l (xs ++ n ∷ [])
 ring_push one two three four nodes l n xs j k o bn ln r =
@@ -117,7 +117,7 @@ ring_push one two three four nodes l n xs j k o bn ln r =
       apart = apart_push n xs ln r.apart;
     }
 
--- a node leaves its ring
+-- a node is taken out of its ring
 pub ring_unlink : (one two three : List Link) (nodes l n none : ℕ) (xs : List ℕ) → Joins one two (before_of one n) (after_of one n) → Owns two three n none
     → Has n xs → IsRing one nodes l xs → IsRing three nodes l (without n xs)
 ring_unlink one two three nodes l n none xs j o h r =

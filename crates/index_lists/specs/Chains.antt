@@ -7,15 +7,15 @@ pub record Chains : Type 0 where
   pub nodes : ℕ
   pub lists : List (List ℕ)
 
--- the nodes of a list, in order; no nodes past the last list
+-- the nodes of a list, in order; none for a number that is no list's
 abbrev pub list_at : Chains → ℕ → List ℕ
 list_at c l = slice_index_or c.lists l []
 
--- the list with the node left out
+-- the list without the node
 abbrev pub without : ℕ → List ℕ → List ℕ
 without node xs = filter (λ x. not (x == node)) xs
 
--- the same lists but for one, which is now xs
+-- the same lists except that list l is now xs
 abbrev pub with_list : Chains → ℕ → List ℕ → Chains
 with_list c l xs = record c { lists = slice_set c.lists l xs }
 
@@ -38,7 +38,7 @@ last_of [] = None
 last_of (x ∷ []) = Some x
 last_of (x ∷ y ∷ ys) = last_of (y ∷ ys)
 
--- the node that comes after a node in a list
+-- the node that follows a node in a list
 abbrev pub next_in : List ℕ → ℕ → Option ℕ
 next_in [] node = None
 next_in (x ∷ xs) node = if x == node then first_of xs else next_in xs node

@@ -2,7 +2,7 @@
 use Rattle.std.specs.Prelude.{◌≡◌, ◌≢◌, ◌==◌, ℕ, if◌then◌else◌, List, length, slice_index_or, Option, Some, None}
 use Rattle.index_lists.specs.declared.links.Link.{Link}
 
--- what stands past the end of the array
+-- the link that is read past the end of the array
 abbrev pub no_link : Link
 no_link = record { before = 0; after = 0; owner = 0 }
 
@@ -22,7 +22,7 @@ owner_of links k = (slice_index_or links k no_link).owner
 abbrev pub unless_end : ℕ → ℕ → Option ℕ
 unless_end place end = if place == end then None else Some place
 
--- `to` now comes right after `from`, and nothing else has changed
+-- `to` now follows `from`, and nothing else has changed
 pub record Joins (old new : List Link) (from to : ℕ) : Type 0 where
   pub same_length : length new ≡ length old
   pub after_here : after_of new from ≡ to
@@ -31,7 +31,7 @@ pub record Joins (old new : List Link) (from to : ℕ) : Type 0 where
   pub before_else : (k : ℕ) → k ≢ to → before_of new k ≡ before_of old k
   pub same_owner : (k : ℕ) → owner_of new k ≡ owner_of old k
 
--- the owner of one place has changed, and nothing else
+-- the owner of one place has changed, and nothing else has
 pub record Owns (old new : List Link) (at owner : ℕ) : Type 0 where
   pub same_length : length new ≡ length old
   pub same_after : (k : ℕ) → after_of new k ≡ after_of old k

@@ -11,7 +11,7 @@ abbrev pub Lacks : ℕ → List ℕ → Type 0
 Lacks q [] = Unit {0}
 Lacks q (x ∷ xs) = (x ≢ q) × Lacks q xs
 
--- no element comes again
+-- no element occurs twice
 abbrev pub IsApart : List ℕ → Type 0
 IsApart [] = Unit {0}
 IsApart (x ∷ xs) = Lacks x xs × IsApart xs

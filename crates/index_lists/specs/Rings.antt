@@ -1,4 +1,4 @@
--- The lists that an array of links holds. The place nodes + l is the end of the list l: it stands
+-- The lists that an array of links holds. The place nodes + l is the end of the list l: it lies
 -- before the first of its nodes and after the last, so that the list is a ring.
 use Rattle.std.specs.Prelude.{◌≡◌, ◌≢◌, ℕ, zero, suc, ◌+◌, ◌-◌, ◌<◌, ◌^◌, ◌==◌, if◌then◌else◌, List, [], ◌∷◌, ◌++◌, length, map, slice_index_or, slice_set}
 use Rattle.std.specs.List.{range_with_len}
@@ -7,7 +7,7 @@ use Rattle.index_lists.specs.Link.{after_of, before_of, owner_of, Joins}
 use Rattle.index_lists.specs.Members.{Has, IsApart}
 use Rattle.index_lists.specs.Chains.{Chains, without}
 
--- the places after `place`, up to `stop`, and no more than so many
+-- the places after `place`, up to `stop`, but at most the number given third
 unfoldable pub walk : List Link → ℕ → ℕ → ℕ → List ℕ
 walk links stop zero place = []
 walk links stop (suc more) place =
@@ -31,7 +31,7 @@ abbrev pub AreOwned : List Link → ℕ → ℕ → List ℕ → Type 0
 AreOwned links nodes l [] = Unit {0}
 AreOwned links nodes l (x ∷ xs) = (owner_of links x ≡ l) × (x < nodes) × AreOwned links nodes l xs
 
--- xs are the nodes of the list l, from its end round to its end
+-- xs are the nodes of the list l, from its end place round to its end place
 pub record IsRing (links : List Link) (nodes l : ℕ) (xs : List ℕ) : Type 0 where
   pub path : IsPath links (nodes + l) xs (nodes + l)
   pub head : owner_of links (nodes + l) ≡ l
@@ -59,7 +59,7 @@ Attaches old new nodes list node =
     (lists : ℕ) (all : List (List ℕ)) → list < lists → node < nodes → owner_of old node ≡ 2 ^ 32 - 1
     → Holds old nodes lists all → Holds new nodes lists (slice_set all list (slice_index_or all list [] ++ node ∷ []))
 
--- whatever lists the links held, a node has left the one that it was in
+-- whatever lists the links held, a node is no longer in the list that it was in
 abbrev pub Detaches : List Link → List Link → ℕ → Type 0
 Detaches old new node =
     (nodes lists l : ℕ) (all : List (List ℕ)) → node < nodes → l < lists → owner_of old node ≡ l

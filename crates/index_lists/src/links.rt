@@ -1,5 +1,5 @@
-//! The array of links: a place for each node, and behind them an end place for each list. An end
-//! place stands before the first node and after the last one, so that a list is a ring and no change
+//! The array of links: a place for each node, and after them an end place for each list. An end
+//! place lies before the first node and after the last one, so a list is a ring and no change
 //! of it is a special case.
 ghost use Rattle.std.specs.Prelude.{◌≡◌, ℕ, ◌+◌, ◌<◌, ◌^◌, [], length, replicate};
 ghost use Rattle.index_lists.specs.Link.{after_of, before_of, owner_of, unless_end as unless_end_of, Joins, Owns};
@@ -62,7 +62,7 @@ fn join(links: &mut [Link], from: u32, to: u32)
     links[to as usize].before = from;
 }
 
-// Says which list a place belongs to.
+// Writes which list a place belongs to.
 fn set_owner(links: &mut [Link], place: u32, owner: u32)
     requires { place < length links.old }
     ensures { Owns links.old links.new place owner }
@@ -94,7 +94,7 @@ fn unlink(links: &mut [Link], node: u32)
     join(links, left, right);
 }
 
-/// A node that is in no list goes to the end of one.
+/// Puts a node that is in no list at the end of one.
 pub(crate) fn attach(links: &mut [Link], nodes: u32, list: u32, node: u32)
     requires room { nodes + list < 2 ^ 32 }
     requires end_in { nodes + list < length links.old }
@@ -106,7 +106,7 @@ pub(crate) fn attach(links: &mut [Link], nodes: u32, list: u32, node: u32)
     set_owner(links, node, list);
 }
 
-/// A node leaves its list.
+/// Takes a node out of its list.
 pub(crate) fn detach(links: &mut [Link], node: u32)
     requires node_in { node < length links.old }
     requires before_in { before_of links.old node < length links.old }
@@ -117,7 +117,7 @@ pub(crate) fn detach(links: &mut [Link], node: u32)
     set_owner(links, node, NO_LIST);
 }
 
-/// A node goes to the end of its list, which stays its owner.
+/// Moves a node to the end of its list, which stays its owner.
 pub(crate) fn relink(links: &mut [Link], nodes: u32, list: u32, node: u32)
     requires room { nodes + list < 2 ^ 32 }
     requires end_in { nodes + list < length links.old }
@@ -131,7 +131,7 @@ pub(crate) fn relink(links: &mut [Link], nodes: u32, list: u32, node: u32)
     link_last(links, nodes + list, node);
 }
 
-/// Over nodes that are in no list, makes the lists, each of them empty.
+/// Makes the lists, each of them empty, over nodes that are in no list.
 pub(crate) fn clear(links: &mut [Link], nodes: u32, lists: u32)
     requires room { nodes + lists < 2 ^ 32 }
     requires total { length links.old ≡ nodes + lists }

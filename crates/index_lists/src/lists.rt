@@ -9,7 +9,7 @@ use std::alloc::Global;
 use std::marker::Model;
 use store_word::NoMemory;
 
-/// Doubly linked lists of nodes. Nodes and lists go by number, from 0. A node is in one list at
+/// Doubly linked lists of nodes. Nodes and lists are numbered from 0. A node is in one list at
 /// most.
 #[derive(Drop)]
 pub struct Lists {
@@ -30,7 +30,7 @@ impl Model for Lists {
 }
 
 impl Lists {
-    /// Lists that are empty, and nodes that are in none of them: fewer than 2^32 lists and nodes
+    /// Empty lists, and nodes that are in none of them: fewer than 2^32 lists and nodes
     /// together. It takes 12 bytes for each node and each list, and no later call takes memory.
     pub fn new(alloc: Global, nodes: u32, lists: u32) -> Result<Lists, NoMemory>
         requires { nodes + lists < 2 ^ 32 }
@@ -95,7 +95,7 @@ impl Lists {
         relink(&mut self.links, self.nodes, list, node);
     }
 
-    /// The first node of a list; None where the list is empty.
+    /// The first node of a list; None if and only if the list is empty.
     pub fn front(&self, list: u32) -> Option<u32>
         requires { list < length self.now.lists }
         ensures first { result ≡ first_of (list_at self.now list) }
@@ -108,7 +108,7 @@ impl Lists {
         unless_end(first, end)
     }
 
-    /// The last node of a list; None where the list is empty.
+    /// The last node of a list; None if and only if the list is empty.
     pub fn back(&self, list: u32) -> Option<u32>
         requires { list < length self.now.lists }
         ensures last { result ≡ last_of (list_at self.now list) }
@@ -121,7 +121,7 @@ impl Lists {
         unless_end(last, end)
     }
 
-    /// The node after this one in its list; None where it is the last.
+    /// The node after this one in its list; None if and only if this one is the last.
     pub fn next(&self, node: u32) -> Option<u32>
         requires { IsListed self.now node }
         ensures next { (l : ℕ) → Contains (list_at self.now l) node
@@ -137,7 +137,7 @@ impl Lists {
         unless_end(next, end)
     }
 
-    /// The list that a node is in; None where it is in none.
+    /// The list that a node is in; None if and only if it is in no list.
     pub fn owner(&self, node: u32) -> Option<u32>
         requires { node < self.now.nodes }
         ensures owner { MatchOption result (IsFree self.now node)
@@ -150,8 +150,8 @@ impl Lists {
         if list == NO_LIST { None } else { Some(list) }
     }
 
-    /// Moves the nodes of the list `from` to the end of the list `to`, in their order, and leaves
-    /// `from` empty. Its time grows with the nodes that move.
+    /// Moves the nodes of the list `from` to the end of the list `to`, in their order, and empties
+    /// `from`. It takes time for each node that moves.
     pub fn append_all(&mut self, to: u32, from: u32)
         requires to_in { to < length self.old.lists }
         requires from_in { from < length self.old.lists }

@@ -1,4 +1,4 @@
--- What is known of an accepted line.
+-- What holds of an accepted line.
 use Rattle.std.proofs.Common.{◌≡◌, ◌∙◌, ℕ, ◌+◌, ◌≤◌, ◌^◌, min, List, length, Bool, true, false, cond, nat_lt, refl, sym, subst, ap, Some, None, Result, Ok, Err}
 use Rattle.lisp_graph.specs.Commands.{InLimits}
 use Rattle.world_text.specs.declared.reading.reason.Reason.{Reason}
@@ -16,11 +16,11 @@ use Rattle.input_verdict.proofs.Named.{trace_named}
 
 -- Limits
 
--- why a line is refused that has bytes enough, whatever they are
+-- the reason for refusing a line that has enough bytes, whatever these are
 abbrev pub front_reason : JudgedInput → Reason
 front_reason place = long_reason place.judge.ended (nat_lt (2 ^ 40) (place.bytes + 32769))
 
--- a line of which enough bytes stand is refused for that, whatever stands behind them
+-- a line with enough bytes is refused because of them, whatever follows them
 pub judged_front : (place : JudgedInput) (text : List ℕ) (size : ℕ) → place.bytes ≤ 2 ^ 40 → enough place ≤ length text → enough place ≤ size → judged_as place text size ≡ Err (T.Line (place.lines + 1) (front_reason place))
 judged_front place text size within long wide =
     ap (λ broken. unless_broken (place.lines + 1) broken (counted size (line_in place text))) (front_broken (2 ^ 40) place.judge.ended (nat_lt (2 ^ 40) (place.bytes + 32769)) place.bytes (length text) size refl within long wide)
@@ -56,7 +56,7 @@ passed place text size next h =
 
 -- What an event leads to
 
--- The world of a trace stays, and only one line opens it. A command brings no name of its own.
+-- The world of a trace remains the same, and only one line opens it. A command brings no name of its own.
 abbrev pub Goes : JudgedInput → Event → JudgedInput → Type 0
 Goes old Nothing new = world_of new ≡ world_of old
 Goes old Opens new = (world_of old ≡ None) × (world_of new ≡ Some new.judge.builder.world)
@@ -106,7 +106,7 @@ goes_on place text size next h =
     subst (λ (n : Next). Goes place n.event n.place) (sym p.is)
     (goes_counted place p.said.event p.said.place (p.said.place.lines + 1) (p.said.place.bytes + size) (line_goes place text p.said p.line))
 
--- how many bytes there are behind it
+-- how many bytes there are after it
 
 trace_bytes : (place : JudgedInput) (said : Next) (read : Result TraceLine Reason) → trace_next place read ≡ Ok said → said.place.bytes ≡ place.bytes
 trace_bytes place said (Ok End) h = sym (ap (λ (n : Next). n.place.bytes) (said_next _ said h))

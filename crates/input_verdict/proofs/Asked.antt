@@ -1,4 +1,4 @@
--- The lines of a dump are judged, one after another, and then those of the trace.
+-- The lines of a dump are judged, one after another, and then the lines of the trace.
 use Rattle.std.proofs.Common.{◌≡◌, ℕ, suc, ◌+◌, ◌^◌, ◌≤◌, List, [], ◌∷◌, ◌++◌, length, length-append, true, false, Some, Result, Ok, Err, codes, refl, sym, ap, ◌∙◌, append_assoc, arith}
 use Rattle.std.specs.Prelude.{◌==◌}
 use Rattle.std.specs.List.{All}
@@ -47,7 +47,7 @@ clean (x ∷ xs) all =
 
 -- Lines of the world
 
--- no line is accepted behind the one that closes the world
+-- no line is accepted after the one that closes the world
 accepts_going : (place : WorldReader) (text : List ℕ) (said : WorldStep × WorldReader) → line_at place text ≡ Ok said → is_closed place.part ≡ false
 unfolding world_line_in
 accepts_going place text said is = go place.part refl
@@ -84,7 +84,7 @@ record Behind (read : Read) (text rest : List ℕ) (last : WorldReader) : Type 0
   pub bytes : next.place.bytes ≡ read.place.bytes + length text
   pub commands : next.commands ≡ read.commands
 
--- one line, and those behind it
+-- one line, and those after it
 line_more : (line : List ℕ) (lines : List (List ℕ)) (read : Read) (last : WorldReader) (rest : List ℕ)
     → ((more : Read) → read_from more.place.judge.builder lines ≡ Ok last → more.place.judge.ended ≡ false → more.place.bytes + length (with_feeds lines) ≤ 2 ^ 40 → Behind more (with_feeds lines) rest last)
     → read_from read.place.judge.builder (line ∷ lines) ≡ Ok last → is_closed last.part ≡ false → IsLine line → read.place.judge.ended ≡ false → read.place.bytes + length (with_feeds (line ∷ lines)) ≤ 2 ^ 40 → Behind read (with_feeds (line ∷ lines)) rest last

@@ -1,4 +1,4 @@
--- What a refused line of the world says.
+-- The trouble with a refused line of the world.
 use Rattle.std.proofs.Common.{ap, ◌+◌, Err}
 use Rattle.world_text.specs.Reader.{IsRefusal, Said as WorldSaid}
 use Rattle.world_text.specs.declared.fault.WorldFault.{WorldFault}

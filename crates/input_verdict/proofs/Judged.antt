@@ -1,4 +1,4 @@
--- What the verdict keeps of what was read before.
+-- What the verdict preserves of what was read before.
 use Rattle.std.proofs.Common.{◌≡◌, ℕ, ◌≤◌, List, [], ◌∷◌, ◌++◌, refl, sym, subst, ap, ◌∙◌, arith, Some, Result, Ok, Err}
 use Rattle.std.proofs.lemmas.List.{append-nil, append_assoc}
 use Rattle.lisp_graph.specs.declared.command.Command.{Command}
@@ -10,9 +10,9 @@ use Rattle.input_verdict.specs.Events.{Event, Nothing, Opens, Does}
 use Rattle.input_verdict.specs.Verdict.{Next, Said, judged_as, Read, Verdict, Stopped, ended, judged, noted, decided, world_of}
 use Rattle.input_verdict.proofs.Accepted.{Goes, goes_on, next_bytes}
 
--- What was read stays read
+-- What was read remains read
 
--- the first of the starts, if there is one, is no less than this
+-- the first of the starts, if there is one, is at least this
 abbrev pub IsFrom : ℕ → List ℕ → Type 0
 IsFrom n [] = Unit {0}
 IsFrom n (x ∷ xs) = n ≤ x
@@ -79,7 +79,7 @@ pub judged_keeps : (read : Read) (lines : List Line) → Keeps read (ended (judg
 judged_keeps read [] = keeps_nothing read _ refl
 judged_keeps read (line ∷ lines) = keeps_decided read (judged_as read.place line.text (size_of line)) (λ next. judged next lines) (keeps_line read.place line.text (size_of line)) (λ next. judged_keeps next lines)
 
--- Once a world is open it stays.
+-- Once a world is open it remains open.
 
 goes_stays : (world : World) (old : JudgedInput) (event : Event) (new : JudgedInput) → world_of old ≡ Some world → Goes old event new → world_of new ≡ Some world
 goes_stays world old Nothing new opened g = g ∙ opened

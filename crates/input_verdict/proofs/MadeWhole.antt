@@ -1,4 +1,4 @@
--- The made input is whole, where its world and its commands are taken.
+-- The generated input is whole, given that its world and its commands are accepted.
 use Rattle.std.proofs.Common.{◌≡◌, ℕ, zero, suc, ◌+◌, ◌-◌, ◌*◌, ◌^◌, ◌<◌, ◌≤◌, ◌⊎◌, inl, inr, List, [], ◌∷◌, ◌++◌, length, true, false, Result, Ok, codes, refl, sym, ap, ◌∙◌, subst, arith}
 use Rattle.std.specs.Prelude.{◌==◌, nat_lt, replicate}
 use Rattle.std.proofs.lemmas.Bool.{cases_lt, eq-eqb, le-ltb, lt-ltb, ne_eqb}
@@ -40,7 +40,7 @@ made_zero : (count state i : ℕ) → made_from count state i 0 ≡ []
 unfolding made_from
 made_zero count state i = refl
 
--- each line behind `trace` but the last says a command
+-- each line after `trace` except the last is a command
 command_at : (count state i : ℕ) → 6 ≤ i → i < count + 7 → IsMadeLine (line_of count state i)
 command_at count state i low high = go (cases_lt (i - 6) count)
   where
@@ -157,7 +157,7 @@ says_5 : line_at w5 (codes "trace") ≡ Ok (TraceBegins, w6)
 unfolding world_line_in area_lines object_lines last_lines closing_line is_well_formed words_of
 says_5 = refl
 
--- a line of the world, behind which its lines go on
+-- a line of the world, after which the world's lines go on
 head_goes : (read : Read) (text rest : List ℕ) (old new : WorldReader) → read.place.judge.builder ≡ old → is_closed old.part ≡ false → is_closed new.part ≡ false → line_at old text ≡ Ok (on, new) → read.place.judge.ended ≡ false → no_feed text ≡ true → length text ≤ 53
     → read.place.bytes + 54 ≤ 2 ^ 40 → judged read (lines_of ((text ++ 10 ∷ []) ++ rest)) ≡ judged (record read { place = further (record read.place { judge = record read.place.judge { builder = new } }) (length text + 1) }) (lines_of rest)
 head_goes read text rest old new at before behind said unended feed short low =

@@ -23,13 +23,13 @@ use Rattle.world_text.proofs.reading_laws.NumberLaws.{found_is, number_only}
 use Rattle.world_text.proofs.reading_laws.ReadLaws.{guard_ok, guard_not, step_parts}
 use Rattle.trace_text.specs.Commands.{Run, End, a_plain_value, alone, command_in, cons_in, flip_in, get_in, grow_in, is_reference, line_in, list_in, make_in, page_out_in, pair_command, pair_in, put_in, scavenge_in, set_in, size_in, store_command, trace_line}
 
--- the command names registers and areas that are there, and keeps the limits
+-- the command names existing registers and areas, and keeps the limits
 pub record IsNamed (registers areas : ℕ) (command : Command) : Type 0 where
   pub in_registers : InRegisters registers command
   pub in_areas : InAreas areas command
   pub in_limits : InLimits command
 
--- What one word says
+-- The meaning of one word
 
 below : (registers m n : ℕ) → (if nat_lt m registers then Some m else None) ≡ Some n → n < registers
 below registers m n is = at (nat_lt m registers) refl is
@@ -66,9 +66,9 @@ value_fits word v is = let p = step_parts (a_value word) (λ value. if is_refere
 anything : {A : Type 0} (read : List ℕ → Result A Reason) (word : List ℕ) (x : A) → read word ≡ Ok x → ⊤
 anything read word x is = tt
 
--- What several words say
+-- The meaning of several words
 
--- one word that a step took
+-- one word that was read
 pub record Took {A B : Type 0} (Fits : A → Type 0) (words : List (List ℕ)) (goal : A × List (List ℕ) → Result B Reason) (y : B) : Type 0 where
   pub what : A
   pub fits : Fits what
@@ -297,7 +297,7 @@ module _ (space : Space) (areas : List AreaRule) where
           let f : p.0 ≡ c = let last = p.2 in cc (last) in
           subst (IsNamed space.registers (length areas)) f (command_named head count words p.0 counted p.1)
 
-  -- A command that a line of the trace says.
+  -- A command that is a line of the trace.
   pub trace_named : (text : List ℕ) (c : Command) → trace_line space areas text ≡ Ok (Run c) → IsNamed space.registers (length areas) c
   trace_named text c is =
       line_named (first_word (words_of text)) (length (words_of text)) (drop 1 (words_of text)) c (length-drop 1 (words_of text)) (guard_ok (is_well_formed text) _ _ (Run c) is).1

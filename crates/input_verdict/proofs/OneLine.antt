@@ -1,4 +1,4 @@
--- A line that keeps the limits is judged by what it says.
+-- A line that keeps the limits is judged by its text.
 use Rattle.std.proofs.Common.{◌≡◌, ℕ, ◌+◌, ◌^◌, ◌≤◌, List, [], ◌∷◌, ◌++◌, length, Bool, true, false, Option, None, Ok, ap, ◌∙◌, append_assoc, arith}
 use Rattle.line_input.specs.Limits.{broken_limit}
 use Rattle.line_input.specs.Lines.{Line, lines_of, size_of}

@@ -1,4 +1,4 @@
--- The place behind an accepted line.
+-- The place after an accepted line.
 use Rattle.std.proofs.Common.{◌≡◌, ℕ, List}
 use Rattle.lisp_graph.specs.declared.command.Command.{Command}
 use Rattle.lisp_graph.specs.declared.world.World.{World}

@@ -1,4 +1,4 @@
--- A dump as the world of an input that asks for a dump.
+-- A dump as the world of an input that requests a dump.
 use Rattle.std.specs.Prelude.{◌≡◌, ℕ, List, [], ◌∷◌, ◌++◌, codes, Some}
 use Rattle.lisp_graph.specs.store_word.declared.space.Space.{Space}
 use Rattle.lisp_graph.specs.KeyedGraph.{KeyedGraph}
@@ -9,11 +9,11 @@ use Rattle.dump_laws.specs.Back.{read_world, with_feeds}
 use Rattle.dump_laws.specs.Written.{dumped}
 use Rattle.input_verdict.specs.Verdict.{Whole, verdict, world_of}
 
--- an input whose world has these lines, and which asks for a dump
+-- an input whose world has these lines, and whose only command is `dump`
 abbrev pub asking : List (List ℕ) → List ℕ
 asking lines = with_feeds (lines ++ codes "trace" ∷ codes "dump" ∷ codes "end" ∷ [])
 
--- The text is a world file of lines whose input is whole: of the world that they say, in which the objects have these numbers, and the one command `dump`. The dump of that world is the same text.
+-- The text is a world file whose lines form a whole input: it has the world that they describe, in which the objects have these numbers, and the one command `dump`. The dump of that world is the same text.
 pub record IsWholeInput (graph : KeyedGraph) (keys : List ℕ) (space : Space) (areas : List AreaRule) (text : List ℕ) : Type 0 where
   pub lines : List (List ℕ)
   pub is : text ≡ with_feeds (lines ++ codes "end-world" ∷ [])

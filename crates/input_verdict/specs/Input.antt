@@ -1,11 +1,11 @@
--- What judges the lines of an input, and a place between two of them.
+-- The judge of the lines of an input, and a place between two of them.
 use Rattle.std.specs.Prelude.{false}
 use Rattle.world_text.specs.Reader.{opening_place}
 use Rattle.line_input.specs.declared.judging.input.InputReader.{InputReader}
 use Rattle.line_input.specs.Verdict.{start}
 use Rattle.input_verdict.specs.declared.input.InputJudge.{InputJudge}
 
--- what the lines so far say, how many they are, and how many bytes they have
+-- what the lines so far mean, their number, and how many bytes they have
 abbrev pub JudgedInput : Type 0
 JudgedInput = InputReader InputJudge
 

@@ -1,4 +1,4 @@
--- What an input says, line by line, up to the first line that breaks a rule.
+-- What an input means, line by line, up to the first line that breaks a rule.
 use Rattle.std.specs.Prelude.{ℕ, ◌+◌, ◌^◌, List, [], ◌∷◌, ◌++◌, length, Bool, true, if◌then◌else◌, Option, Some, None, Result, Ok, Err}
 use Rattle.lisp_graph.specs.declared.command.Command.{Command}
 use Rattle.lisp_graph.specs.declared.world.World.{World}
@@ -18,22 +18,22 @@ use Rattle.input_verdict.specs.Events.{Event, Nothing, Opens, Does}
 
 -- Places
 
--- the world is whole: the trace is read, or was
+-- the world is whole: the trace is being read, or was read
 abbrev pub in_trace : JudgedInput → Bool
 in_trace place = is_closed place.judge.builder.part
 
 -- One line
 
--- an accepted line: what it brings about, and the place behind it
+-- an accepted line: what it requests, and the place after it
 pub record Next : Type 0 where
   pub event : Event
   pub place : JudgedInput
 
--- what a line says, or the trouble with it
+-- what a line leads to, or the trouble with it
 abbrev pub Said : Type 0
 Said = Result Next RunError
 
--- Behind a line of the world. The line that closes the world opens a machine for it.
+-- After a line of the world. The line that closes the world opens a machine for it.
 abbrev pub world_next : JudgedInput → WorldSaid → Said
 world_next place (Ok (step, builder)) =
     if is_closed builder.part
@@ -41,13 +41,13 @@ world_next place (Ok (step, builder)) =
     else Ok (record { event = Nothing; place = record place { judge = record place.judge { builder = builder } } })
 world_next place (Err fault) = Err (world_trouble (place.lines + 1) place.judge.builder.world.areas fault)
 
--- behind a line of the trace
+-- after a line of the trace
 abbrev pub trace_next : JudgedInput → Result TraceLine Reason → Said
 trace_next place (Ok (Run command)) = Ok (record { event = Does command; place = place })
 trace_next place (Ok End) = Ok (record { event = Nothing; place = record place { judge = record place.judge { ended = true } } })
 trace_next place (Err reason) = Err (T.Line (place.lines + 1) reason)
 
--- what a text says as a line in its place
+-- what a text leads to as a line in its place
 abbrev pub line_in : JudgedInput → List ℕ → Said
 line_in place text =
     if in_trace place then trace_next place (trace_line place.judge.builder.world.space place.judge.builder.world.areas text)
@@ -58,18 +58,18 @@ abbrev pub counted : ℕ → Said → Said
 counted size (Ok next) = Ok (record next { place = further next.place size })
 counted size (Err trouble) = Err trouble
 
--- What a line of this text and size says in its place, in an input of at most 2^40 bytes: a line that breaks a limit is refused for that.
+-- What a line of this text and size leads to in its place, in an input of at most 2^40 bytes: a line that breaks a limit is refused for that.
 abbrev pub judged_as : JudgedInput → List ℕ → ℕ → Said
 judged_as place text size =
     unless_broken (place.lines + 1) (broken_limit (2 ^ 40) place.judge.ended place.bytes (length text) size) (counted size (line_in place text))
 
--- how many bytes of the next line decide it, where no line feed is among them
+-- how many bytes of the next line decide it if they contain no line feed
 abbrev pub enough : JudgedInput → ℕ
 enough place = enough_bytes (2 ^ 40) place.judge.ended place.bytes
 
 -- All lines
 
--- what has been read: the place behind it, the commands, and the number of bytes before each of their lines
+-- what has been read: the place after it, the commands, and the number of bytes before each command's line
 pub record Read : Type 0 where
   pub place : JudgedInput
   pub commands : List Command
@@ -78,11 +78,11 @@ pub record Read : Type 0 where
 abbrev pub start : Read
 start = record { place = start_place; commands = []; starts = [] }
 
--- the world, where the trace was reached
+-- the world, if the trace was reached
 abbrev pub world_of : JudgedInput → Option World
 world_of place = if in_trace place then Some place.judge.builder.world else None
 
--- what has been read with one more line, which brings this about
+-- what has been read, after one more line, which requests this event
 abbrev pub noted : Read → Event → JudgedInput → Read
 noted read (Does command) place = record { place = place; commands = read.commands ++ command ∷ []; starts = read.starts ++ read.place.bytes ∷ [] }
 noted read _ place = record read { place = place }
@@ -96,23 +96,23 @@ abbrev pub decided : Read → Said → (Read → Result Read Stopped) → Result
 decided read (Ok next) rest = rest (noted read next.event next.place)
 decided read (Err trouble) rest = Err (record { read = read; trouble = trouble })
 
--- what is read of these lines where each keeps the rules, or the first that doesn't
+-- what is read of these lines if each keeps the rules; otherwise what was read before the first that doesn't, and its trouble
 abbrev pub judged : Read → List Line → Result Read Stopped
 judged read [] = Ok read
 judged read (line ∷ lines) = decided read (judged_as read.place line.text (size_of line)) (λ next. judged next lines)
 
--- an input is whole, or there is this trouble with it
+-- an input is whole, or has this trouble
 pub data Ending : Type 0 where
   Whole : Ending
   Broken : RunError → Ending
 
--- where the lines end: behind `end`, or too early; an empty input is judged as an empty line
+-- the end of the lines: after `end`, or too early; an empty input is judged as an empty line
 abbrev pub ending_at : JudgedInput → Ending
 ending_at place =
     if place.judge.ended then Whole
     else Broken (T.Line (place.lines + 1) (early_reason place.lines NotAWorld))
 
--- what an input says, and how it ends
+-- what an input means, and how it ends
 pub record Verdict : Type 0 where
   pub read : Read
   pub ending : Ending

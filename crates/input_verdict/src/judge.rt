@@ -1,4 +1,4 @@
-//! One line in its place.
+//! Judging one line.
 ghost use Rattle.std.specs.Prelude.{◌≡◌, ◌≢◌, ◌<◌, ◌≤◌, ◌+◌, ◌^◌, length, true, false, IfErr, IfOk, OnErr, OnOk};
 ghost use Rattle.lisp_graph.specs.declared.command.Command.{Command as OneCommand};
 ghost use Rattle.world_text.specs.Reader.{NamesArea, is_closed};
@@ -16,7 +16,7 @@ use lisp_graph::Request;
 use trace_text::{LineKind, read_request};
 use world_text::WorldFault;
 
-/// A line of the world.
+/// Judges a line of the world.
 #[inline(never)]
 fn world_line(place: &mut JudgedInput, text: &[u8]) -> Result<Step, WorldFault>
     ensures judged { (command : OneCommand) → Judged place.old place.new (events place.old result command) (world_next place.old (line_at place.old.judge.builder text.now)) }
@@ -33,12 +33,12 @@ fn world_line(place: &mut JudgedInput, text: &[u8]) -> Result<Step, WorldFault>
     if !place.judge.builder.is_closed() {
         return Ok(Step::Nothing);
     }
-    // That a closed world is accepted is known where it is asked.
+    // This call gives the prover the invariant that a closed world is accepted.
     let _world = place.judge.builder.world();
     Ok(Step::Opens)
 }
 
-/// A line of the trace.
+/// Judges a line of the trace.
 #[inline(always)]
 fn trace_line(
     place: &mut JudgedInput,
@@ -65,7 +65,7 @@ fn trace_line(
     }
 }
 
-/// What a text says as a line in its place.
+/// Judges a text as the next line.
 #[inline(always)]
 fn line_in(place: &mut JudgedInput, text: &[u8], command: &mut Request) -> Result<Step, WorldFault>
     requires { IsPlace place.old }
@@ -84,7 +84,7 @@ fn line_in(place: &mut JudgedInput, text: &[u8], command: &mut Request) -> Resul
     }
 }
 
-/// The trouble where the line behind this place is refused so.
+/// The trouble if the line after this place is refused for this reason (`fault`).
 pub fn trouble(place: &JudgedInput, fault: WorldFault) -> RunError
     requires lines { place.now.lines < 2 ^ 50 }
     requires area { NamesArea place.now.judge.builder.world.areas fault }
@@ -95,9 +95,9 @@ pub fn trouble(place: &JudgedInput, fault: WorldFault) -> RunError
     world_trouble(place.lines + 1, place.judge.world().areas.as_slice(), fault)
 }
 
-/// Goes past the next line, which has this text and, if a line feed ends it, with that this many bytes. A command is written to the
-/// place given for it, so that it need not be moved. If the line is refused, or memory runs out, the place stays as it is, and
-/// `trouble` makes of the fault what is to be told. If the status of that isn't `Refused`, the trace isn't reached.
+/// Goes past the next line, which has this text and, including its line feed if it has one, this many bytes. A command is written to
+/// `command`, so that it need not be moved. If the line is refused, or memory runs out, the place is unchanged, and
+/// `trouble` makes the trouble to report from the error. If its status isn't `Refused`, the trace isn't reached.
 #[inline(always)]
 pub fn judge_line(
     place: &mut JudgedInput,

@@ -7,8 +7,8 @@ ghost use Rattle.world_text.specs.Dump.{IsDump};
 ghost use Rattle.dump_laws.specs.Back.{KeepsLimits};
 ghost use Rattle.input_verdict.specs.Asking.{IsWholeInput};
 
-/// A dump is the world of a whole input: the verdict on its lines before `end-world`, with `trace`, `dump` and `end` behind them,
-/// is that they are whole, of a world whose dump is the same text, and the one command `dump`. Required: the space and the areas
+/// A dump is the world of a whole input: the verdict on its lines before `end-world`, followed by `trace`, `dump` and `end`,
+/// is that they are whole, with a world whose dump is the same text, and with one command, `dump`. Required: the space and the areas
 /// are those of an accepted world, the objects keep the limits of a machine, and their charges as read fit the quotas.
 pub fn dumps_are_whole_inputs()
     ensures { (graph : KeyedGraph) (space : Space) (areas : List AreaRule) (text : List ℕ) → (dump : IsDump graph space areas text)

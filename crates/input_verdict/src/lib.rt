@@ -1,7 +1,7 @@
-//! The verdict on an input: what its lines say, one after the other, up to the first that breaks a rule.
+//! The verdict on an input: the meaning of its lines, one after another, up to the first that breaks a rule.
 //!
-//! Contracts see an input by `verdict` (`specs/Verdict`), which folds `judged_as` over its lines; `judge_line` is one step of it.
-//! Begin with `specs/Verdict`, `input` and `judge`. `laws` has what the verdict on an input is whose world is a dump (`specs/Asking`).
+//! Contracts see an input by `verdict` (`specs/Verdict`), which folds `judged_as` over its lines; `judge_line` does this for one line.
+//! Begin with `specs/Verdict`, `input` and `judge`. `laws` states the verdict on an input whose world is a dump (`specs/Asking`).
 #![tactic(auto)]
 
 mod input;

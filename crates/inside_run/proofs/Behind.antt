@@ -1,4 +1,4 @@
--- A text behind what is pending, and the end of a run behind it.
+-- A text after what is pending, and the end of a run after that text.
 use Rattle.std.proofs.Common.{◌≡◌, inl, inr, ℕ, List, ◌++◌, Result, Ok, Err, sym, ap, ◌∙◌, subst, arith}
 use Rattle.std.specs.Prelude.{IfErr}
 use Rattle.std.proofs.lemmas.List.{append-nil, append_assoc, length-append}
@@ -11,7 +11,7 @@ use Rattle.line_input.specs.declared.statuses.status.Stop.{Stop}
 use Rattle.line_input.specs.declared.statuses.status.Stop.TheVariants.{Tell, Write}
 use Rattle.line_input.specs.Statuses.{Closed, Finished}
 
--- the front of a front is one, too
+-- a prefix of a prefix is a prefix, too
 cut_front : (text given pending : List ℕ) → IsCut text (given ++ pending) → IsCut text given
 cut_front text given pending cut = (pending ++ cut.0, let some = cut.1 in omega (arith, length-append pending cut.0), cut.2 ∙ append_assoc given pending cut.0)
 

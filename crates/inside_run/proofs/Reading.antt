@@ -1,6 +1,6 @@
--- What follows of a run that shows its machine, by its status.
-use Rattle.std.proofs.Common.{◌≡◌, ◌⊎◌, inl, inr, ℕ, ◌<◌, ◌≤◌, List, ◌++◌, Option, Some, refl, sym, ap, ◌∙◌, subst}
-use Rattle.std.specs.Prelude.{◌==◌, if◌then◌else◌}
+-- What follows from a run that shows its machine, by its status.
+use Rattle.std.proofs.Common.{◌≡◌, ◌⊎◌, inl, inr, ℕ, ◌-◌, ◌<◌, ◌≤◌, List, ◌++◌, Option, Some, refl, sym, ap, ◌∙◌, subst}
+use Rattle.std.specs.Prelude.{◌==◌, if◌then◌else◌, Bool, is_some}
 use Rattle.std.specs.List.{All}
 use Rattle.std.proofs.lemmas.List.{append-nil}
 use Rattle.outer_ports.proofs.Gains.{gained_as}
@@ -11,25 +11,31 @@ use Rattle.line_input.specs.declared.statuses.status.RunError.{RunError}
 use Rattle.line_input.specs.Statuses.{code, status_of}
 use Rattle.input_verdict.specs.Verdict.{Broken, Whole, verdict}
 use Rattle.paged_machine.specs.Holding.{MeansFor}
-use Rattle.replay_run.specs.Outcome.{IsEarly, Ran, Wrote}
+use Rattle.replay_run.specs.Outcome.{IsEarly, Observed, Wrote}
 use Rattle.replay_run.proofs.NoDumps.{IsOther}
+use Rattle.replay_run.proofs.Observations.{HasRun, observes}
 use Rattle.replay_run.proofs.Complete.{breaks_off, completes, runs_out_early}
 use Rattle.inside_run.specs.Outcome.{Shows, shown}
 
--- a sink that stands for nothing
+-- a sink that represents nothing
 abbrev Nothing : List ℕ → Type 0
 Nothing bytes = ⊥
 
 -- the run whose replies are shown
 replied : {left left' : Option (List ℕ)} {held held' : List ℕ → Type 0} {heap : Option Contents} {source_rose : Type 0} {rose : ℕ} {status : Status}
-    → (s : Shows left left' held held' heap source_rose rose status) → Ran left left' Nothing Nothing (MeansFor heap) source_rose rose s.ended
-replied s = record { i = s.i; b = s.b; w = s.replies; input = s.input; gave = s.gave; rest = s.rest; gained = record { each = λ had is. absurd is }; wrote = s.wrote }
+    → (s : Shows left left' held held' heap source_rose rose status) → HasRun left left' Nothing Nothing (MeansFor heap) (is_some heap) source_rose rose s.ended
+replied s = (s.i, s.b, s.replies, record { input = s.input; gave = s.gave; rest = s.rest; gained = record { each = λ had is. absurd is }; wrote = s.wrote })
 
--- no run has the status of refused words
-not_usage : (status : Status) (stands : _) (source_rose : Type 0) (rose : ℕ) (i b w : List ℕ) → status ≡ Usage → Wrote status stands source_rose rose i b w → ⊥
-not_usage status stands source_rose rose i b w is wrote = (subst (λ x. Wrote x stands source_rose rose i b w) is wrote).3
+-- no run has the status of refused arguments
+not_usage : (status : Status) (o : Observed) → status ≡ Usage → Wrote status o → ⊥
+not_usage status o is wrote = (subst (λ x. Wrote x o) is wrote).demands
 
--- the status with a code
+-- the swap device had failed this often before the run
+pub shows_from : {left left' : Option (List ℕ)} {held held' : List ℕ → Type 0} {heap : Option Contents} {source_rose : Type 0} {status : Status} (before before' now : ℕ)
+    → before ≡ before' → Shows left left' held held' heap source_rose (now - before) status → Shows left left' held held' heap source_rose (now - before') status
+shows_from {left} {left'} {held} {held'} {heap} {source_rose} {status} before before' now is s = subst (λ n. Shows left left' held held' heap source_rose (now - n) status) is s
+
+-- the status with this code
 status_at : ℕ → Status
 status_at n =
     if n == 0 then Done else if n == 1 then WriteFailed else if n == 2 then Refused else if n == 3 then ReadFailed else if n == 4 then NoSpace
@@ -47,14 +53,14 @@ at_code SwapFailed = refl
 at_code Usage = refl
 at_code NoObject = refl
 
--- no two statuses have one code
+-- no two statuses have the same code
 pub same_status : (a b : Status) → code a ≡ code b → a ≡ b
 same_status a b is = sym (at_code a) ∙ ap status_at is ∙ at_code b
 
 pub never_usage : {left left' : Option (List ℕ)} {held held' : List ℕ → Type 0} {heap : Option Contents} {source_rose : Type 0} {rose : ℕ} (result : ℕ) (status : Status)
     → result ≡ code status → Shows left left' held held' heap source_rose rose status → result ≡ 7 → ⊥
 never_usage {heap = heap} {source_rose = source_rose} {rose = rose} result status is s seven = elim s.told [
-  | inl f ↦ not_usage s.ended (MeansFor heap) source_rose rose s.i s.b s.replies (sym f.0 ∙ same_status status Usage (sym is ∙ seven)) s.wrote
+  | inl f ↦ not_usage s.ended (observes s.i s.b s.replies (MeansFor heap) (is_some heap) source_rose rose) (sym f.0 ∙ same_status status Usage (sym is ∙ seven)) s.wrote
   | inr f ↦ let e = f.0 in let u = same_status status Usage (sym is ∙ seven) in cc (e, u)
 ]
 
@@ -74,26 +80,27 @@ module _ {read_rose write_rose : Type 0} {before now : ℕ} (result : ℕ) (none
     | inr f ↦ absurd (none_write (write (is ∙ ap code f.0)))
   ]
 
--- where memory ran out, the replies and the error line are all that was written
+-- if memory ran out, the replies and the error line are all that was written
 without_memory : {left left' : Option (List ℕ)} {held held' : List ℕ → Type 0} {heap : Option Contents} {source_rose : Type 0} {rose : ℕ} (status : Status)
-    → status ≡ NoMemory → Shows left left' held held' heap source_rose rose status → Ran left left' held held' (MeansFor heap) source_rose rose NoMemory
+    → status ≡ NoMemory → Shows left left' held held' heap source_rose rose status → HasRun left left' held held' (MeansFor heap) (is_some heap) source_rose rose NoMemory
 without_memory {left} {left'} {held} {held'} {heap} {source_rose} {rose} status is s = elim s.told [
   | inl f ↦
-      let ended : s.ended ≡ NoMemory = sym f.0 ∙ is in
-      record {
-        i = s.i;
-        b = s.b;
-        w = s.replies;
-        input = s.input;
-        gave = s.gave;
-        rest = s.rest;
-        gained = gained_as (ap (λ text. s.replies ++ text) (ap (λ x. shown x heap) ended) ∙ append-nil s.replies) f.1;
-        wrote = subst (λ x. Wrote x (MeansFor heap) source_rose rose s.i s.b s.replies) ended s.wrote;
-      }
+      let ended : s.ended ≡ NoMemory = sym f.0 ∙ is in (
+        s.i,
+        s.b,
+        s.replies,
+        record {
+          input = s.input;
+          gave = s.gave;
+          rest = s.rest;
+          gained = gained_as (ap (λ text. s.replies ++ text) (ap (λ x. shown x heap) ended) ∙ append-nil s.replies) f.1;
+          wrote = subst (λ x. Wrote x (observes s.i s.b s.replies (MeansFor heap) (is_some heap) source_rose rose)) ended s.wrote;
+        },
+      )
   | inr f ↦ absurd (let e = f.0 in cc (e, is))
 ]
 
 pub early_shown : {source_rose : Type 0} (left left' : Option (List ℕ)) {held held' : List ℕ → Type 0} (heap : Option Contents) (rose result : ℕ) (status : Status) (i : List ℕ)
-    → result ≡ code status → Shows left left' held held' heap source_rose rose status → left ≡ Some i → All IsOther (verdict i).read.commands → result ≡ 5 → IsEarly i left' held held'
+    → result ≡ code status → Shows left left' held held' heap source_rose rose status → left ≡ Some i → All IsOther (verdict i).read.commands → result ≡ 5 → IsEarly i left' held held' (is_some heap)
 early_shown left left' heap rose result status i is s tells others five =
     runs_out_early left left' (MeansFor heap) rose result NoMemory i five (without_memory status (same_status status NoMemory (sym is ∙ five)) s) tells others five

@@ -1,5 +1,6 @@
--- A run that shows its machine, from a run up to its last line.
-use Rattle.std.proofs.Common.{◌≡◌, inl, inr, ℕ, ◌-◌, List, [], ◌++◌, Option, Ok, Err, refl, sym, ap, ◌∙◌, subst, arith}
+-- A run that shows its machine, built from a run up to its last line.
+use Rattle.std.proofs.Common.{◌≡◌, inl, inr, ℕ, ◌-◌, List, [], ◌++◌, Option, Ok, Err, refl, sym, ap, ◌∙◌, subst, arith, false}
+use Rattle.std.specs.Prelude.{is_some}
 use Rattle.std.proofs.lemmas.List.{append-nil, append_assoc}
 use Rattle.outer_ports.specs.Ports.{Gained}
 use Rattle.outer_ports.proofs.Gains.{gained_as, gained_more}
@@ -12,9 +13,8 @@ use Rattle.line_input.specs.declared.statuses.status.RunError.{RunError}
 use Rattle.line_input.specs.declared.statuses.status.RunError.TheVariants as trouble
 use Rattle.line_input.specs.Statuses.{Closed, Finished, status_of, trouble_line}
 use Rattle.paged_machine.specs.Holding.{MeansFor, StandsFor}
-use Rattle.replay_run.specs.Outcome.{Ran}
-use Rattle.replay_run.specs.Steps.{RanTo}
 use Rattle.replay_run.proofs.Finishing.{ran_finish, ran_nothing, split_cut}
+use Rattle.replay_run.proofs.Observations.{HasRun, HasStopped}
 use Rattle.replay_run.proofs.Reading.{means_for, ran_as, wrote_as}
 use Rattle.inside_run.specs.Outcome.{Shows, machine_text, shown}
 
@@ -34,7 +34,7 @@ not_done held held' pending Write status f is = let e = f.0 in cc (e, is)
 not_done held held' pending (Tell t) status (inl f) is = told_not_done t (sym f.0 ∙ is)
 not_done held held' pending (Tell t) status (inr f) is = let e = f.0 in cc (e, is)
 
--- where the status isn't that of the end, nothing is shown
+-- if the status isn't that of the end, nothing is shown
 none_shown : (status : Status) (heap : Option Contents) → (status ≡ Done → ⊥) → shown status heap ≡ []
 none_shown Done heap other = absurd (other refl)
 none_shown WriteFailed heap other = refl
@@ -48,67 +48,67 @@ none_shown NoObject heap other = refl
 
 -- a run that stopped shows nothing
 pub shows_stopped : {left left' : Option (List ℕ)} {held : List ℕ → Type 0} (held' held'' : List ℕ → Type 0) (heap : Option Contents) {source_rose : Type 0} (rose : ℕ) (pending : List ℕ) (stop : Stop) (status : Status)
-    → Finished held' held'' pending (Err stop) status → Ran left left' held held'' (StandsFor heap) source_rose rose status → Shows left left' held held'' heap source_rose rose status
+    → Finished held' held'' pending (Err stop) status → HasRun left left' held held'' (StandsFor heap) (is_some heap) source_rose rose status → Shows left left' held held'' heap source_rose rose status
 shows_stopped {left} {left'} {held} held' held'' heap {source_rose} rose pending stop status f ran =
-    let r = ran_as (StandsFor heap) (MeansFor heap) (means_for heap) rose left left' held held'' status ran in
+    let r = ran_as (StandsFor heap) (MeansFor heap) (means_for heap) (is_some heap) rose left left' held held'' status ran in
     let none : shown status heap ≡ [] = none_shown status heap (not_done held' held'' pending stop status f) in
     record {
-      i = r.i;
-      b = r.b;
-      replies = r.w;
+      i = r.0;
+      b = r.1;
+      replies = r.2;
       ended = status;
-      input = r.input;
-      gave = r.gave;
-      rest = r.rest;
-      wrote = r.wrote;
-      told = inl (refl, subst (λ text. Gained held held'' (r.w ++ text)) (sym none) (gained_as (sym (append-nil r.w)) r.gained));
+      input = r.3.input;
+      gave = r.3.gave;
+      rest = r.3.rest;
+      wrote = r.3.wrote;
+      told = inl (refl, subst (λ text. Gained held held'' (r.2 ++ text)) (sym none) (gained_as (sym (append-nil r.2)) r.3.gained));
     }
 
--- a run that came to its end shows its machine, where the sink took the replies
+-- a run that reached its end shows its machine, if the sink took the replies
 pub shows_whole : {left left' : Option (List ℕ)} {held held' held'' : List ℕ → Type 0} (heap : Option Contents) {source_rose : Type 0} (rose : ℕ) (pending : List ℕ) (x : Unit {0}) (status : Status)
-    → RanTo left left' held held' (StandsFor heap) rose pending (Ok x) → Closed held' held'' (pending ++ machine_text heap) Done status → Shows left left' held held'' heap source_rose rose status
+    → HasStopped left left' held held' (StandsFor heap) (is_some heap) source_rose rose pending (Ok x) → Closed held' held'' (pending ++ machine_text heap) Done status → Shows left left' held held'' heap source_rose rose status
 shows_whole {left} {left'} {held} {held'} {held''} heap {source_rose} rose pending x status r (inl f) =
-    let s = r.stopped in
+    let s = r.3.stopped in
     record {
-      i = r.i;
-      b = r.b;
-      replies = r.w ++ pending;
+      i = r.0;
+      b = r.1;
+      replies = r.2 ++ pending;
       ended = Done;
-      input = r.input;
-      gave = r.gave;
-      rest = r.rest;
-      wrote = wrote_as (StandsFor heap) (MeansFor heap) (means_for heap) rose source_rose Done r.i r.b (r.w ++ pending) (s.read, r.w ++ pending, [], s.demands, s.answered, sym (append-nil (r.w ++ pending)), s.far, s.untouched);
-      told = inl (f.0, gained_as (sym (append_assoc r.w pending (machine_text heap))) (gained_more r.gained f.1));
+      input = r.3.input;
+      gave = r.3.gave;
+      rest = r.3.rest;
+      wrote = wrote_as (StandsFor heap) (MeansFor heap) (means_for heap) (is_some heap) rose source_rose Done r.0 r.1 (r.2 ++ pending) (record { read = s.read; replies = r.2 ++ pending; line = []; demands = s.demands; answered = s.answered; written = sym (append-nil (r.2 ++ pending)); ahead = s.far; untouched = s.untouched });
+      told = inl (f.0, gained_as (sym (append_assoc r.2 pending (machine_text heap))) (gained_more r.3.gained f.1));
     }
 shows_whole {left} {left'} {held} {held'} {held''} heap {source_rose} rose pending x status r (inr f) =
-    let s = r.stopped in
+    let s = r.3.stopped in
     elim (split_cut pending (machine_text heap) f.1.0 f.1.1) [
-      | inl p ↦ let c = s.cut f.1.0 p.0 p.2 p.1 in record {
-        i = r.i;
-        b = r.b;
-        replies = r.w ++ f.1.0;
+      | inl p ↦ record {
+        i = r.0;
+        b = r.1;
+        replies = r.2 ++ f.1.0;
         ended = WriteFailed;
-        input = r.input;
-        gave = r.gave;
-        rest = r.rest;
-        wrote = wrote_as (StandsFor heap) (MeansFor heap) (means_for heap) rose source_rose WriteFailed r.i r.b (r.w ++ f.1.0) (c.0, c.1, inl c.2);
-        told = inl (f.0, gained_as (sym (append-nil (r.w ++ f.1.0))) (gained_more r.gained f.1.2));
+        input = r.3.input;
+        gave = r.3.gave;
+        rest = r.3.rest;
+        wrote = wrote_as (StandsFor heap) (MeansFor heap) (means_for heap) (is_some heap) rose source_rose WriteFailed r.0 r.1 (r.2 ++ f.1.0) (inl (s.cut f.1.0 p.0 p.2 p.1));
+        told = inl (f.0, gained_as (sym (append-nil (r.2 ++ f.1.0))) (gained_more r.3.gained f.1.2));
       }
       | inr p ↦ record {
-        i = r.i;
-        b = r.b;
-        replies = r.w ++ pending;
+        i = r.0;
+        b = r.1;
+        replies = r.2 ++ pending;
         ended = Done;
-        input = r.input;
-        gave = r.gave;
-        rest = r.rest;
-        wrote = wrote_as (StandsFor heap) (MeansFor heap) (means_for heap) rose source_rose Done r.i r.b (r.w ++ pending) (s.read, r.w ++ pending, [], s.demands, s.answered, sym (append-nil (r.w ++ pending)), s.far, s.untouched);
-        told = inr (f.0, (p.0, p.1, gained_as (ap (λ xs. r.w ++ xs) p.2 ∙ sym (append_assoc r.w pending p.0)) (gained_more r.gained f.1.2)));
+        input = r.3.input;
+        gave = r.3.gave;
+        rest = r.3.rest;
+        wrote = wrote_as (StandsFor heap) (MeansFor heap) (means_for heap) (is_some heap) rose source_rose Done r.0 r.1 (r.2 ++ pending) (record { read = s.read; replies = r.2 ++ pending; line = []; demands = s.demands; answered = s.answered; written = sym (append-nil (r.2 ++ pending)); ahead = s.far; untouched = s.untouched });
+        told = inr (f.0, (p.0, p.1, gained_as (ap (λ xs. r.2 ++ xs) p.2 ∙ sym (append_assoc r.2 pending p.0)) (gained_more r.3.gained f.1.2)));
       }
     ]
 
--- where no memory was there to begin with, nothing was read
-pub shows_nothing : (left : Option (List ℕ)) {held held' : List ℕ → Type 0} (heap : Option Contents) {source_rose : Type 0} (faults : ℕ) (status : Status) → Closed held held' (trouble_line trouble.Memory) NoMemory status → Shows left left held held' heap source_rose (faults - faults) status
-shows_nothing left {held} {held'} heap faults status f =
+-- if there was no memory at the beginning, nothing was read
+pub shows_nothing : (left : Option (List ℕ)) {held held' : List ℕ → Type 0} (heap : Option Contents) {source_rose : Type 0} (faults : ℕ) (status : Status) → is_some heap ≡ false → Closed held held' (trouble_line trouble.Memory) NoMemory status → Shows left left held held' heap source_rose (faults - faults) status
+shows_nothing left {held} {held'} heap faults status unloaded f =
     shows_stopped held held' heap (faults - faults) [] (Tell trouble.Memory) status f
-    (ran_finish faults faults (Err (Tell trouble.Memory)) status (λ e. absurd (cc (e))) (λ e. absurd (cc (e))) (ran_nothing left (StandsFor heap) (faults - faults) (omega arith)) f)
+    (ran_finish faults faults (Err (Tell trouble.Memory)) status (λ e. absurd (cc (e))) (λ e. absurd (cc (e))) (ran_nothing left (StandsFor heap) (faults - faults) (omega arith) unloaded) f)

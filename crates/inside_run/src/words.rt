@@ -1,10 +1,10 @@
-//! The words of the command line.
+//! The arguments of the program.
 ghost use Rattle.std.specs.Prelude.{◌≡◌, ◌∷◌, []};
 ghost use Rattle.inside_run.specs.Outcome.{fail_in, fail_of};
 
 use world_text::number_in;
 
-/// The number that a word with both, `--fail=N`, says.
+/// The number N in the argument `--fail=N`; none if it is another argument, or N isn't in range.
 fn number_behind(word: &[u8]) -> Option<u32>
     ensures { result ≡ fail_in (word.now ∷ []) }
 {
@@ -14,8 +14,8 @@ fn number_behind(word: &[u8]) -> Option<u32>
     number_in(0, u32::MAX, &word[7..])
 }
 
-/// The number of the page call that is to fail, counted from 1: 0, for none, where there is no word, and N behind `--fail N` or `--fail=N`, from
-/// 0 to 4,294,967,295. None where the words are refused.
+/// The number of the page call that has to fail, counted from 1: 0, so that none does, if there is no argument, and N, from 0 to 4,294,967,295, if
+/// the arguments are `--fail N` or `--fail=N`. None if the arguments are refused.
 pub fn fail_number(words: &[String]) -> Option<u32>
     ensures { result ≡ fail_of words.now }
 {

@@ -46,7 +46,7 @@ none_at t region free = class_free region 0 t.chains free
 pub some_at : (t : Table) (region class : ℕ) → IsTable t → Contains (chain t class) region → class_at t region ≡ Some class
 some_at t region class sound m = class_found region 0 class t.chains m (λ j n. sound.sound.one_list j class region n m) ∙ ap Some (let e : 0 + class ≡ class = omega arith in e)
 
--- what a class's number says
+-- what the number of a class determines
 
 half : (old : Bool) (slot : ℕ) → number_of old slot / 2 ≡ slot
 half true slot = omega arith
@@ -62,7 +62,7 @@ pub old_is : (old : Bool) (slot : ℕ) → (number_of old slot % 2 == 1) ≡ old
 old_is true slot = eq-eqb _ _ (let e : (2 * slot + 1) % 2 ≡ 1 = omega arith in e)
 old_is false slot = ne_eqb _ _ (λ e. absurd (let z : (2 * slot) % 2 ≡ 0 = omega arith in omega (arith, e, z)))
 
--- so the table says it of an address
+-- if the table says for an address that its region has no class, it has none
 pub none_here : (t t' : Table) (at region : ℕ) → t' ≡ t → at / 4096 ≡ region → IsUnclassed t' (at / 4096) → class_at t region ≡ None
 none_here t t' at region same here free = subst (λ (x : Table). class_at x region ≡ None) same (subst (λ (r : ℕ). class_at t' r ≡ None) here (none_at t' (at / 4096) free))
 

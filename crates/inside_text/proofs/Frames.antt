@@ -12,7 +12,7 @@ use Rattle.outer_ports.specs.Buffers.{Gathered, Gathers}
 use Rattle.inside_text.proofs.Gathering.{gathered_both, gathers_cut, gathers_then}
 use Rattle.inside_text.proofs.Rows.{has_at, next_behind}
 
--- So many pages were told, and this one is next.
+-- The lines of `turn` pages were gathered, and `next` is the next page.
 pub record Told (f : ℕ → List ℕ) (pages had : List ℕ) (turn : ℕ) (next : Option ℕ) (P Q : List ℕ → Type 0) (pending : List ℕ) : Type 0 where
   pub done : List ℕ
   pub rest : List ℕ

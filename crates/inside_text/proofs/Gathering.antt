@@ -1,4 +1,4 @@
--- Texts that are gathered one after the other.
+-- Texts that are gathered one after another.
 use Rattle.std.proofs.Common.{◌≡◌, ℕ, ◌+◌, ◌<◌, ◌≤◌, List, [], ◌∷◌, ◌++◌, length, take, drop, get_or, sym, subst, ap, ◌∙◌, arith, append_assoc, take-append-drop, Result, Ok, Err}
 use Rattle.std.proofs.lemmas.List.{append-nil, drop_more, take_all}
 use Rattle.std.proofs.lemmas.List.Concat.{flat_map-append}
@@ -16,7 +16,7 @@ use Rattle.inside_text.specs.Words.{line}
 pub none_yet : {P : List ℕ → Type 0} (pending : List ℕ) → Gathered P P pending (pending ++ [])
 none_yet {P} pending = subst (λ (w : List ℕ). Gathered P P pending w) (sym (append-nil pending)) (gathered_nothing pending)
 
--- a text, and another behind it
+-- a text, and another after it
 pub gathered_both : {P Q R : List ℕ → Type 0} {pending pending' : List ℕ} (had a b : List ℕ) → Gathered P Q pending (had ++ a) → Gathered Q R pending' (pending ++ b) → Gathered P R pending' (had ++ (a ++ b))
 gathered_both {P} {Q} {R} {pending} {pending'} had a b first then = subst (λ (w : List ℕ). Gathered P R pending' w) (append_assoc had a b) (gathered_more b first then)
 
@@ -33,7 +33,7 @@ pub gathers_cut : {T E : Type 0} {P Q : List ℕ → Type 0} {pending : List ℕ
 gathers_cut {P = P} {Q} {pending} had a b r e failed part =
     rw failed (record { whole = _; part = (part.0, cut_longer a part.0 b part.1, part.2) })
 
--- the texts of a list, cut before and behind one of them
+-- the texts of a list, split into those before one of them, that one, and those after it
 split_at : {X : Type 0} (f : X → List ℕ) (xs : List X) (i : ℕ) (d : X) → i < length xs → flat_map f xs ≡ flat_map f (take i xs) ++ (f (get_or xs i d) ++ flat_map f (drop (i + 1) xs))
 split_at f xs i d below =
     ap (flat_map f) (sym (take-append-drop i xs)) ∙ flat_map-append f (take i xs) (drop i xs)
@@ -53,7 +53,7 @@ module _ {X : Type 0} (f : X → List ℕ) (xs : List X) (i : ℕ) (d : X) (belo
       (gathers_then had (flat_map f (take i xs)) (f (get_or xs i d) ++ flat_map f (drop (i + 1) xs)) first
       (gathers_cut pending (f (get_or xs i d)) (flat_map f (drop (i + 1) xs)) r e failed part))
 
--- all texts of a list were
+-- all texts of a list were gathered
 pub gathered_all : {X : Type 0} (f : X → List ℕ) (xs : List X) (n : ℕ) {P Q : List ℕ → Type 0} {pending : List ℕ} (had : List ℕ) → length xs ≤ n → Gathered P Q pending (had ++ flat_map f (take n xs)) → Gathered P Q pending (had ++ flat_map f xs)
 gathered_all f xs n {P} {Q} {pending} had all h = subst (λ (w : List _). Gathered P Q pending (had ++ flat_map f w)) (take_all n xs all) h
 
@@ -77,7 +77,7 @@ module _ (f : ℕ → List ℕ) (a n i : ℕ) (below : i < n) {P Q R : List ℕ 
 pub line_is : {X : Type 0} (text : X → List ℕ) (first : List ℕ) (words : List X) → line (first ∷ map text words) ≡ first ++ (flat_map (λ word. 32 ∷ text word) words ++ 10 ∷ [])
 line_is text first words = ap (λ (w : List ℕ). (first ++ w) ++ 10 ∷ []) (flat_map-map (λ word. 32 ∷ word) text words) ∙ append_assoc first (flat_map (λ word. 32 ∷ text word) words) (10 ∷ [])
 
--- from 0 on
+-- numbers from 0 on
 
 module _ (f : ℕ → List ℕ) (n i : ℕ) (below : i < n) {P Q R : List ℕ → Type 0} {pending pending' : List ℕ} (had : List ℕ)
     (first : Gathered P Q pending (had ++ flat_map f (take i (range_with_len 0 n)))) where

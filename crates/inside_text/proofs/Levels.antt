@@ -1,4 +1,4 @@
--- Which levels a set has.
+-- The levels that a set contains.
 use Rattle.std.proofs.Common.{◌≡◌, ◌↔◌, ℕ, ◌+◌, ◌-◌, ◌<◌, ◌^◌, Bool, true, false, List, [], ◌∷◌, refl, sym, ap, ◌∙◌, arith, inl, inr}
 use Rattle.std.specs.Prelude.{not, ◌==◌}
 use Rattle.std.specs.Int.{bit_at}
@@ -22,7 +22,7 @@ meets_level set level = (
   (λ has e. (apart_at set (2 ^ (level - 1))).0 e level has (bit_at-pow_same (level - 1))),
 )
 
--- what is added for a level
+-- what is appended for a level of the set
 pub level_there : (set level : ℕ) → level < 10 → HasLevel set level → level_text set level ≡ 44 ∷ (48 + level) ∷ []
 level_there set level low has = rw (eq-eqb (bit_at set (level - 1)) 1 has) (ap (λ (w : List ℕ). 44 ∷ w) (decimal_digit level low))
 

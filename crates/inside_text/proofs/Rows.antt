@@ -1,4 +1,4 @@
--- Lines of pages, as a memory has them and as a heap does.
+-- Lines of pages, by a memory and by a heap.
 use Rattle.std.proofs.Common.{◌≡◌, ℕ, zero, suc, ◌+◌, ◌*◌, ◌<◌, ◌≤◌, ◌↔◌, Bool, true, false, eqb, List, [], ◌∷◌, ◌++◌, length, refl, sym, ap, ◌∙◌, arith, inl, inr}
 use Rattle.std.specs.Prelude.{Contains, filter, if◌then◌else◌, not, slice_index, IsTrue}
 use Rattle.std.specs.Int.RustNames.{bit_and}
@@ -26,7 +26,7 @@ flat_agree : (f g : ℕ → List ℕ) (xs : List ℕ) → ((x : ℕ) → Has x x
 flat_agree f g [] same = refl
 flat_agree f g (x ∷ xs) same = ap (λ (w : List ℕ). w ++ flat_map f xs) (same x (λ ne. absurd (ne refl))) ∙ ap (λ (w : List ℕ). g x ++ w) (flat_agree f g xs (λ y h. same y (λ _. h)))
 
--- texts of those that pass a test
+-- the texts of those that pass a test
 flat_filter : (f g : ℕ → List ℕ) (p : ℕ → Bool) (xs : List ℕ) → ((x : ℕ) → Has x xs → f x ≡ g x) → flat_map (λ x. if p x then f x else []) xs ≡ flat_map g (filter p xs)
 flat_filter f g p [] same = refl
 flat_filter f g p (x ∷ xs) same =
@@ -59,7 +59,7 @@ module _ (heap : Contents) (p : Paging) (stored : List Parts) (h : IsPaged p sto
       flat_filter _ (row_line heap) (λ page. is_swapped (place_at p.places page)) (range_with_len 0 (size_of p)) (λ page m. let e = marks_are page (let low = below_row 0 (size_of p) page m in omega (arith, low)) in rw (e) refl)
       ∙ ap (flat_map (row_line heap)) same
 
--- the page behind a page
+-- the page after a page
 
 lacks_at : (x y : ℕ) (done rest : List ℕ) → Lacks x (done ++ y ∷ rest) → (x ≡ y → ⊥)
 lacks_at x y [] rest l = λ e. l.0 (sym e)
@@ -79,7 +79,7 @@ lines_are heap p stored h memory resident out =
     ap (λ (w : List ℕ). w ++ (flat_map (row_line heap) heap.counts.swaps.out ++ calls_line heap.counts.swaps)) (sym (frames_are heap p stored h memory resident))
     ∙ ap (λ (w : List ℕ). flat_map (frame_of p) (resident_of p) ++ (w ++ calls_line heap.counts.swaps)) (sym (rows_are heap p stored h memory out))
 
--- a mark of every level, or none
+-- the marks are those of all levels, or none
 pub any_mark : (top : ℕ) (tag : Bool) → top ≤ 6 → (bit_and (marks_of_tag top tag) 63 ≡ 0) ↔ (marks_of_tag top tag ≡ 0)
 any_mark top false low = ((λ _. refl), (λ _. refl))
 any_mark zero true low = ((λ _. refl), (λ _. refl))

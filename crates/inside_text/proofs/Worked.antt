@@ -44,7 +44,7 @@ old_length = ap (λ (n : ℕ). suc (suc (suc (suc n)))) (length-replicate 4092 n
 word_at : (n : ℕ) → get_or barrier_words (4096 + n) null_word ≡ get_or two_words n null_word
 word_at n = ap (λ (k : ℕ). get_or barrier_words (k + n) null_word) (sym old_length) ∙ get_or-append-add old_words two_words n null_word
 
--- What is left
+-- What has yet to be scanned
 
 closed : (a : ℕ) → a < 4096 → is_open barrier_scan barrier_table a ≡ false
 closed zero low = refl

@@ -1,4 +1,4 @@
--- Two regions behind the first transport, and their text.
+-- Two regions after the first transport, and their text.
 use Rattle.std.specs.Prelude.{◌≡◌, ℕ, pos, List, [], ◌∷◌, ◌++◌, codes, false, Some, replicate}
 use Rattle.store_word.specs.Words.{Parts, null_word}
 use Rattle.store_word.specs.declared.word.CdrCode.{CdrCode}
@@ -20,7 +20,7 @@ word code content = record { cdr = code; content = content }
 abbrev pub two_words : List Parts
 two_words = word Normal (Fixnum (pos 1)) ∷ word Second (Fixnum (pos 1)) ∷ []
 
--- the words of region 0, with those that aren't used
+-- the words of region 0, including those that aren't used
 abbrev pub old_words : List Parts
 old_words = two_words ++ (word Next (GcForward 4096) ∷ word Second (Fixnum (pos 1)) ∷ replicate 4092 null_word)
 

@@ -1,4 +1,4 @@
--- The text of what is shown of a machine: a line for each fact, in the order of regions, words and pages.
+-- The text that shows a machine: a line for each fact, in the order of regions, words and pages.
 use Rattle.std.specs.Prelude.{ℕ, ◌*◌, ◌/◌, ◌%◌, ◌==◌, not, eqb, Bool, if◌then◌else◌, List, [], ◌∷◌, ◌++◌, map, flat_map, take, length, slice_index, codes, decimal, Option, Some, None, get_or}
 use Rattle.std.specs.List.{range_with_len}
 use Rattle.store_word.specs.Words.{null_word}
@@ -66,7 +66,7 @@ next_line heap = line (codes "next" ∷ unit_words (next_of heap.scan heap.table
 abbrev pub moved_line : Contents → List ℕ
 moved_line heap = line (codes "moved" ∷ page_words heap.table.last)
 
--- what a collection condemned, how many units are left, which is next, and the page of the latest transport
+-- what a collection condemned, how many units have yet to be scanned, which is next, and the page of the latest transport
 abbrev pub phase_lines : Contents → List ℕ
 phase_lines heap = phase_line heap ++ (left_line heap ++ (next_line heap ++ moved_line heap))
 
@@ -103,7 +103,7 @@ all_region_lines heap = flat_map (region_lines heap) (range_with_len 0 heap.tabl
 
 -- Pages
 
--- a page in a frame; its tag is set where it has marks
+-- a page in a frame; its tag is set if it has marks
 abbrev pub frame_line : Contents → ℕ → List ℕ
 frame_line heap page = resident_line page (not (eqb (slice_index heap.memory.marks page) 0))
 
@@ -114,13 +114,13 @@ row_line heap page = swapped_line page (slice_index heap.memory.marks page)
 abbrev pub calls_line : Swaps → List ℕ
 calls_line swaps = counts_line swaps.writes swaps.reads
 
--- the pages in frames, the least recently used first, then those on the device, ascending
+-- the pages in frames, the least recently used first, then those on the swap device in ascending order, and the page calls
 abbrev pub page_lines : Contents → List ℕ
 page_lines heap = flat_map (frame_line heap) heap.resident ++ (flat_map (row_line heap) heap.counts.swaps.out ++ calls_line heap.counts.swaps)
 
 -- All of it
 
--- what is left to scan, the registers and the regions
+-- the collection, the registers and the regions
 abbrev pub middle_lines : Contents → List ℕ
 middle_lines heap = phase_lines heap ++ (register_lines heap ++ all_region_lines heap)
 

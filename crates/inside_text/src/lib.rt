@@ -1,8 +1,8 @@
-//! What a heap holds, as text: sizes and accounts, the collection that runs, registers, regions with their words, pages, and the calls of the
+//! The contents of a heap as text: sizes and accounts, the collection that runs, registers, regions with their words, pages, and the calls of the
 //! swap device.
 //!
 //! The text is a function of what contracts see of a heap (`specs/InsideText.antt`). It is given to a sink piece by piece, through a buffer:
-//! telling it takes no memory, uses no page and makes no page call. Begin with `whole`.
+//! this allocates no memory, uses no page and makes no page call. Begin with `whole`.
 #![tactic(auto)]
 
 mod laws;

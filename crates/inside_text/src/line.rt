@@ -1,7 +1,7 @@
-//! Lines of words, and how words of memory and sets of levels are spelled.
-ghost use Rattle.std.specs.Prelude.{◌≡◌, ◌+◌, ◌<◌, ◌≤◌, ◌/◌, ◌%◌, ◌∷◌, ◌++◌, false, length, decimal, flat_map, map};
+//! Lines of words, and the spelling of memory words and sets of levels.
+ghost use Rattle.std.specs.Prelude.{◌≡◌, ◌+◌, ◌<◌, ◌≤◌, ◌/◌, ◌%◌, ◌∷◌, ◌++◌, false, length, decimal, flat_map, map, OnErr};
 ghost use Rattle.std.specs.Fmt.{digit_glyph};
-ghost use Rattle.outer_ports.specs.Ports.{HasCause};
+ghost use Rattle.outer_ports.specs.Ports.{FailedLast, HasCause};
 ghost use Rattle.outer_ports.specs.Buffers.{Gathers};
 ghost use Rattle.inside_text.specs.Words.{left_words, level_text, levels_text, line, marked_line, without_comma, word_digits};
 
@@ -12,27 +12,29 @@ use paged_memory::PagedMemory;
 use store_word::{Flags, Levels, Word};
 use trace_text::ReplyText;
 
-/// A heap over a memory of frames on a device in memory.
+/// A heap over a memory of frames, whose swap device is in memory.
 pub(crate) type PagedHeap = Heap<PagedMemory<SwapMemory>>;
 
 /// Whether a text was gathered, or the sink failed.
 pub(crate) type Told = Result<(), SinkFault>;
 
-/// Gathers a word behind a space.
+/// Gathers a space and a word.
 fn tell_word<K: Sink>(buffer: &mut SinkBuffer, sink: &mut K, word: &[u8]) -> Told
     ensures gathers { Gathers (K.stands sink.old) (K.stands sink.new)
         buffer.old.pending buffer.new.pending (32 ∷ word.now) result }
     ensures cause { HasCause (K.faults sink.old) (K.faults sink.new) result }
+    ensures last { OnErr result (FailedLast (K.faults sink.old) (K.faults sink.new) (K.failed sink.new)) }
 {
     buffer.gather(sink, b" ")?;
     buffer.gather(sink, word)
 }
 
-/// Gathers words, each behind a space.
+/// Gathers words, each after a space.
 fn tell_words<K: Sink>(buffer: &mut SinkBuffer, sink: &mut K, words: &[&[u8]]) -> Told
     ensures gathers { Gathers (K.stands sink.old) (K.stands sink.new)
         buffer.old.pending buffer.new.pending (flat_map (λ word. 32 ∷ word.now) words.now) result }
     ensures cause { HasCause (K.faults sink.old) (K.faults sink.new) result }
+    ensures last { OnErr result (FailedLast (K.faults sink.old) (K.faults sink.new) (K.failed sink.new)) }
 {
     for word in words {
         tell_word(buffer, sink, word)?;
@@ -40,7 +42,7 @@ fn tell_words<K: Sink>(buffer: &mut SinkBuffer, sink: &mut K, words: &[&[u8]]) -
     Ok(())
 }
 
-/// Gathers a line of words.
+/// Gathers a line that consists of these words.
 pub(crate) fn tell_line<K: Sink>(
     buffer: &mut SinkBuffer,
     sink: &mut K,
@@ -50,23 +52,25 @@ pub(crate) fn tell_line<K: Sink>(
     ensures gathers { Gathers (K.stands sink.old) (K.stands sink.new)
         buffer.old.pending buffer.new.pending (line (first.now ∷ map (λ word. word.now) words.now)) result }
     ensures cause { HasCause (K.faults sink.old) (K.faults sink.new) result }
+    ensures last { OnErr result (FailedLast (K.faults sink.old) (K.faults sink.new) (K.failed sink.new)) }
 {
     buffer.gather(sink, first)?;
     tell_words(buffer, sink, words)?;
     buffer.gather(sink, b"\n")
 }
 
-/// Gathers a number behind a space.
+/// Gathers a space and a number.
 pub(crate) fn tell_number<K: Sink>(buffer: &mut SinkBuffer, sink: &mut K, number: u32) -> Told
     ensures gathers { Gathers (K.stands sink.old) (K.stands sink.new)
         buffer.old.pending buffer.new.pending (32 ∷ decimal number) result }
     ensures cause { HasCause (K.faults sink.old) (K.faults sink.new) result }
+    ensures last { OnErr result (FailedLast (K.faults sink.old) (K.faults sink.new) (K.failed sink.new)) }
 {
     let mut digits = Buffer::new();
     tell_word(buffer, sink, digits.format(number).as_bytes())
 }
 
-/// Adds a level behind a comma, where a set has it.
+/// Appends a comma and a level, if the set contains the level.
 fn push_level(text: &mut ReplyText, set: Levels, level: u8)
     requires from { 1 ≤ level }
     requires to { level ≤ 6 }
@@ -79,7 +83,7 @@ fn push_level(text: &mut ReplyText, set: Levels, level: u8)
     }
 }
 
-/// The levels of a set, ascending, each behind a comma.
+/// The levels of a set in ascending order, each after a comma.
 pub(crate) fn levels_text(set: Levels) -> ReplyText
     ensures { result ≡ levels_text set.0 }
 {
@@ -90,7 +94,7 @@ pub(crate) fn levels_text(set: Levels) -> ReplyText
     text
 }
 
-/// A text without its first comma; a dash where it is empty.
+/// A text without its first comma, or a dash if it is empty.
 pub(crate) fn without_comma(text: &ReplyText) -> &[u8]
     ensures { result.now ≡ without_comma text.now }
 {
@@ -101,7 +105,7 @@ pub(crate) fn without_comma(text: &ReplyText) -> &[u8]
     &bytes[1..]
 }
 
-/// The hexadecimal digit of a number that counts this unit, a power of 16.
+/// The hexadecimal digit of a number at this unit, a power of 16.
 fn digit_at(bits: u64, unit: u64) -> u8
     requires { 0 < unit }
     ensures { result ≡ digit_glyph false (bits / unit % 16) }
@@ -131,7 +135,7 @@ fn word_digits(word: Word) -> [u8; 9]
     ]
 }
 
-/// Gathers a line of a number, digits, and `left` where that is so.
+/// Gathers a line with a number and digits, and with the word `left` if `left` is true.
 fn tell_digits<K: Sink>(
     buffer: &mut SinkBuffer,
     sink: &mut K,
@@ -143,6 +147,7 @@ fn tell_digits<K: Sink>(
     ensures gathers { Gathers (K.stands sink.old) (K.stands sink.new)
         buffer.old.pending buffer.new.pending (line (first.now ∷ decimal number ∷ digits.now ∷ left_words left)) result }
     ensures cause { HasCause (K.faults sink.old) (K.faults sink.new) result }
+    ensures last { OnErr result (FailedLast (K.faults sink.old) (K.faults sink.new) (K.failed sink.new)) }
 {
     let mut decimal = Buffer::new();
     let number = decimal.format(number).as_bytes();
@@ -152,7 +157,7 @@ fn tell_digits<K: Sink>(
     tell_line(buffer, sink, first, &[number, digits])
 }
 
-/// Gathers the line of a register, or of a word of memory: its number, its digits, and whether it is left to scan.
+/// Gathers the line of a register, or of a word of memory: its number, its digits, and whether it has yet to be scanned.
 pub(crate) fn tell_marked<K: Sink>(
     buffer: &mut SinkBuffer,
     sink: &mut K,
@@ -164,6 +169,7 @@ pub(crate) fn tell_marked<K: Sink>(
     ensures gathers { Gathers (K.stands sink.old) (K.stands sink.new)
         buffer.old.pending buffer.new.pending (marked_line first.now number word left) result }
     ensures cause { HasCause (K.faults sink.old) (K.faults sink.new) result }
+    ensures last { OnErr result (FailedLast (K.faults sink.old) (K.faults sink.new) (K.failed sink.new)) }
 {
     let digits = word_digits(word);
     tell_digits(buffer, sink, first, number, &digits, left)

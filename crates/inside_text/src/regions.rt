@@ -1,7 +1,7 @@
 //! The regions that aren't free, and their words.
-ghost use Rattle.std.specs.Prelude.{◌≡◌, ◌<◌, ◌*◌, flat_map, Some};
+ghost use Rattle.std.specs.Prelude.{◌≡◌, ◌<◌, ◌*◌, flat_map, Some, OnErr};
 ghost use Rattle.std.specs.List.{range_with_len};
-ghost use Rattle.outer_ports.specs.Ports.{HasCause};
+ghost use Rattle.outer_ports.specs.Ports.{FailedLast, HasCause};
 ghost use Rattle.outer_ports.specs.Buffers.{Gathers};
 ghost use Rattle.area_space.specs.Table.{used_of};
 ghost use Rattle.inside_text.specs.Words.{age_word};
@@ -12,7 +12,7 @@ use area_space::{Class, RegionTable};
 use itoa::Buffer;
 use outer_ports::{Sink, SinkBuffer};
 
-/// Whether a region is old, as a word.
+/// The word for a region's age: old or live.
 fn age_word(old: bool) -> &'static [u8]
     ensures { result.now ≡ age_word old }
 {
@@ -22,7 +22,7 @@ fn age_word(old: bool) -> &'static [u8]
     b"live"
 }
 
-/// Gathers the line of a region that belongs to this area and level.
+/// Gathers the line of a region that belongs to this area and this level.
 fn tell_owned<K: Sink>(
     buffer: &mut SinkBuffer,
     sink: &mut K,
@@ -34,6 +34,7 @@ fn tell_owned<K: Sink>(
     ensures gathers { Gathers (K.stands sink.old) (K.stands sink.new)
         buffer.old.pending buffer.new.pending (owned_line table.now region owner.area owner.level owner.stale) result }
     ensures cause { HasCause (K.faults sink.old) (K.faults sink.new) result }
+    ensures last { OnErr result (FailedLast (K.faults sink.old) (K.faults sink.new) (K.failed sink.new)) }
 {
     let mut number = Buffer::new();
     let mut area = Buffer::new();
@@ -59,19 +60,20 @@ fn tell_owned<K: Sink>(
     )
 }
 
-/// Gathers the line of a word.
+/// Gathers the line of a word of memory.
 fn tell_word<K: Sink>(buffer: &mut SinkBuffer, sink: &mut K, heap: &PagedHeap, at: u32) -> Told
     requires { at < 4096 * heap.now.table.regions }
     ensures gathers { Gathers (K.stands sink.old) (K.stands sink.new)
         buffer.old.pending buffer.new.pending (word_line heap.now at) result }
     ensures cause { HasCause (K.faults sink.old) (K.faults sink.new) result }
+    ensures last { OnErr result (FailedLast (K.faults sink.old) (K.faults sink.new) (K.failed sink.new)) }
 {
     let ground = heap.ground();
     let left = heap.scan().is_word_left(&ground.table, at);
     tell_marked(buffer, sink, b"word", at, ground.mem.peek(at), left)
 }
 
-/// Gathers the line of each used word of a region.
+/// Gathers a line for each used word of a region.
 fn tell_words_in<K: Sink>(
     buffer: &mut SinkBuffer,
     sink: &mut K,
@@ -82,6 +84,7 @@ fn tell_words_in<K: Sink>(
     ensures gathers { Gathers (K.stands sink.old) (K.stands sink.new)
         buffer.old.pending buffer.new.pending (flat_map (word_line heap.now) (range_with_len (4096 * region) (used_of heap.now.table region))) result }
     ensures cause { HasCause (K.faults sink.old) (K.faults sink.new) result }
+    ensures last { OnErr result (FailedLast (K.faults sink.old) (K.faults sink.new) (K.failed sink.new)) }
 {
     for offset in 0..heap.ground().table.used(region) {
         tell_word(buffer, sink, heap, 4096 * region + offset)?;
@@ -89,7 +92,7 @@ fn tell_words_in<K: Sink>(
     Ok(())
 }
 
-/// Gathers the line of a region and those of its used words, where it isn't free.
+/// Gathers the line of a region and those of its used words, unless the region is free.
 fn tell_region<K: Sink>(
     buffer: &mut SinkBuffer,
     sink: &mut K,
@@ -100,9 +103,10 @@ fn tell_region<K: Sink>(
     ensures gathers { Gathers (K.stands sink.old) (K.stands sink.new)
         buffer.old.pending buffer.new.pending (region_lines heap.now region) result }
     ensures cause { HasCause (K.faults sink.old) (K.faults sink.new) result }
+    ensures last { OnErr result (FailedLast (K.faults sink.old) (K.faults sink.new) (K.failed sink.new)) }
 {
     let table = &heap.ground().table;
-    // What always holds of a table is known where its regions are asked.
+    // This call gives the prover the invariant of the table.
     let _regions = table.regions();
     match table.class_of(4096 * region) {
         None => Ok(()),
@@ -113,11 +117,12 @@ fn tell_region<K: Sink>(
     }
 }
 
-/// Gathers the lines of each region that isn't free.
+/// Gathers the lines of all regions that aren't free.
 pub(crate) fn tell_regions<K: Sink>(buffer: &mut SinkBuffer, sink: &mut K, heap: &PagedHeap) -> Told
     ensures gathers { Gathers (K.stands sink.old) (K.stands sink.new)
         buffer.old.pending buffer.new.pending (all_region_lines heap.now) result }
     ensures cause { HasCause (K.faults sink.old) (K.faults sink.new) result }
+    ensures last { OnErr result (FailedLast (K.faults sink.old) (K.faults sink.new) (K.failed sink.new)) }
 {
     for region in 0..heap.ground().table.regions() {
         tell_region(buffer, sink, heap, region)?;

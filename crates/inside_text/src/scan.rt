@@ -1,6 +1,6 @@
-//! The collection that runs, and what is left to scan; the registers.
-ghost use Rattle.std.specs.Prelude.{◌<◌, ◌∷◌, [], codes, length};
-ghost use Rattle.outer_ports.specs.Ports.{HasCause};
+//! The collection that runs, the units not yet scanned, and the registers.
+ghost use Rattle.std.specs.Prelude.{◌<◌, ◌∷◌, [], codes, length, OnErr};
+ghost use Rattle.outer_ports.specs.Ports.{FailedLast, HasCause};
 ghost use Rattle.outer_ports.specs.Buffers.{Gathers};
 ghost use Rattle.inside_text.specs.InsideText.{left_line, moved_line, next_line, phase_line, phase_lines, register_line, register_lines};
 ghost use Rattle.inside_text.specs.Words.{condemned_word, line};
@@ -11,11 +11,12 @@ use lisp_graph::Condemn;
 use outer_ports::{Sink, SinkBuffer};
 use scavenger::Unit;
 
-/// Gathers the line of the phase of a collection, which began with a flip of this.
+/// Gathers the line of the phase of a collection; `what` is what its flip condemned.
 fn tell_what<K: Sink>(buffer: &mut SinkBuffer, sink: &mut K, phase: &[u8], what: Condemn) -> Told
     ensures gathers { Gathers (K.stands sink.old) (K.stands sink.new)
         buffer.old.pending buffer.new.pending (line (codes "phase" ∷ phase.now ∷ condemned_word what ∷ [])) result }
     ensures cause { HasCause (K.faults sink.old) (K.faults sink.new) result }
+    ensures last { OnErr result (FailedLast (K.faults sink.old) (K.faults sink.new) (K.failed sink.new)) }
 {
     match what {
         Condemn::Full => tell_line(buffer, sink, b"phase", &[phase, b"full"]),
@@ -31,6 +32,7 @@ fn tell_phase<K: Sink>(buffer: &mut SinkBuffer, sink: &mut K, heap: &PagedHeap) 
     ensures gathers { Gathers (K.stands sink.old) (K.stands sink.new)
         buffer.old.pending buffer.new.pending (phase_line heap.now) result }
     ensures cause { HasCause (K.faults sink.old) (K.faults sink.new) result }
+    ensures last { OnErr result (FailedLast (K.faults sink.old) (K.faults sink.new) (K.failed sink.new)) }
 {
     match heap.ground().table.condemned() {
         None => tell_line(buffer, sink, b"phase", &[b"idle"]),
@@ -45,11 +47,12 @@ fn tell_phase<K: Sink>(buffer: &mut SinkBuffer, sink: &mut K, heap: &PagedHeap) 
     }
 }
 
-/// Gathers the line of how many units are left.
+/// Gathers the line of how many units have yet to be scanned.
 fn tell_left<K: Sink>(buffer: &mut SinkBuffer, sink: &mut K, heap: &PagedHeap) -> Told
     ensures gathers { Gathers (K.stands sink.old) (K.stands sink.new)
         buffer.old.pending buffer.new.pending (left_line heap.now) result }
     ensures cause { HasCause (K.faults sink.old) (K.faults sink.new) result }
+    ensures last { OnErr result (FailedLast (K.faults sink.old) (K.faults sink.new) (K.failed sink.new)) }
 {
     let mut left = Buffer::new();
     tell_line(
@@ -65,6 +68,7 @@ fn tell_next<K: Sink>(buffer: &mut SinkBuffer, sink: &mut K, heap: &PagedHeap) -
     ensures gathers { Gathers (K.stands sink.old) (K.stands sink.new)
         buffer.old.pending buffer.new.pending (next_line heap.now) result }
     ensures cause { HasCause (K.faults sink.old) (K.faults sink.new) result }
+    ensures last { OnErr result (FailedLast (K.faults sink.old) (K.faults sink.new) (K.failed sink.new)) }
 {
     let mut number = Buffer::new();
     match heap.next_unit() {
@@ -85,6 +89,7 @@ fn tell_moved<K: Sink>(buffer: &mut SinkBuffer, sink: &mut K, heap: &PagedHeap) 
     ensures gathers { Gathers (K.stands sink.old) (K.stands sink.new)
         buffer.old.pending buffer.new.pending (moved_line heap.now) result }
     ensures cause { HasCause (K.faults sink.old) (K.faults sink.new) result }
+    ensures last { OnErr result (FailedLast (K.faults sink.old) (K.faults sink.new) (K.failed sink.new)) }
 {
     let mut number = Buffer::new();
     match heap.ground().table.last_moved() {
@@ -93,11 +98,12 @@ fn tell_moved<K: Sink>(buffer: &mut SinkBuffer, sink: &mut K, heap: &PagedHeap) 
     }
 }
 
-/// Gathers what a collection condemned, how many units are left, which is next, and the page of the latest transport.
+/// Gathers what a collection condemned, how many units have yet to be scanned, which is next, and the page of the latest transport.
 pub(crate) fn tell_scan<K: Sink>(buffer: &mut SinkBuffer, sink: &mut K, heap: &PagedHeap) -> Told
     ensures gathers { Gathers (K.stands sink.old) (K.stands sink.new)
         buffer.old.pending buffer.new.pending (phase_lines heap.now) result }
     ensures cause { HasCause (K.faults sink.old) (K.faults sink.new) result }
+    ensures last { OnErr result (FailedLast (K.faults sink.old) (K.faults sink.new) (K.failed sink.new)) }
 {
     tell_phase(buffer, sink, heap)?;
     tell_left(buffer, sink, heap)?;
@@ -116,13 +122,14 @@ fn tell_register<K: Sink>(
     ensures gathers { Gathers (K.stands sink.old) (K.stands sink.new)
         buffer.old.pending buffer.new.pending (register_line heap.now register) result }
     ensures cause { HasCause (K.faults sink.old) (K.faults sink.new) result }
+    ensures last { OnErr result (FailedLast (K.faults sink.old) (K.faults sink.new) (K.failed sink.new)) }
 {
     let word = heap.register_words()[register as usize];
     let left = heap.scan().is_register_left(register);
     tell_marked(buffer, sink, b"register", register, word, left)
 }
 
-/// Gathers the line of each register.
+/// Gathers a line for each register.
 pub(crate) fn tell_registers<K: Sink>(
     buffer: &mut SinkBuffer,
     sink: &mut K,
@@ -131,6 +138,7 @@ pub(crate) fn tell_registers<K: Sink>(
     ensures gathers { Gathers (K.stands sink.old) (K.stands sink.new)
         buffer.old.pending buffer.new.pending (register_lines heap.now) result }
     ensures cause { HasCause (K.faults sink.old) (K.faults sink.new) result }
+    ensures last { OnErr result (FailedLast (K.faults sink.old) (K.faults sink.new) (K.failed sink.new)) }
 {
     for register in 0..heap.register_words().len() {
         tell_register(buffer, sink, heap, register as u32)?;

@@ -1,6 +1,6 @@
 //! The sizes of the world, and its areas.
-ghost use Rattle.std.specs.Prelude.{◌<◌, ◌≤◌, ◌++◌, ◌∷◌, decimal, flat_map, map, length};
-ghost use Rattle.outer_ports.specs.Ports.{HasCause};
+ghost use Rattle.std.specs.Prelude.{◌<◌, ◌≤◌, ◌++◌, ◌∷◌, decimal, flat_map, map, length, OnErr};
+ghost use Rattle.outer_ports.specs.Ports.{FailedLast, HasCause};
 ghost use Rattle.outer_ports.specs.Buffers.{Gathers};
 ghost use Rattle.inside_text.specs.Words.{line};
 ghost use Rattle.inside_text.specs.InsideText.{area_line, area_lines, capacity_line, charged_line, space_line};
@@ -12,11 +12,12 @@ use outer_ports::{Sink, SinkBuffer};
 use store_word::Space;
 use world_text::kind_text;
 
-/// Gathers numbers, each behind a space.
+/// Gathers numbers, each after a space.
 fn tell_numbers<K: Sink>(buffer: &mut SinkBuffer, sink: &mut K, numbers: &[u32]) -> Told
     ensures gathers { Gathers (K.stands sink.old) (K.stands sink.new)
         buffer.old.pending buffer.new.pending (flat_map (λ number. 32 ∷ decimal number) numbers.now) result }
     ensures cause { HasCause (K.faults sink.old) (K.faults sink.new) result }
+    ensures last { OnErr result (FailedLast (K.faults sink.old) (K.faults sink.new) (K.failed sink.new)) }
 {
     for number in numbers {
         tell_number(buffer, sink, *number)?;
@@ -24,7 +25,7 @@ fn tell_numbers<K: Sink>(buffer: &mut SinkBuffer, sink: &mut K, numbers: &[u32])
     Ok(())
 }
 
-/// Gathers a line of numbers.
+/// Gathers a line with numbers.
 fn tell_number_line<K: Sink>(
     buffer: &mut SinkBuffer,
     sink: &mut K,
@@ -34,6 +35,7 @@ fn tell_number_line<K: Sink>(
     ensures gathers { Gathers (K.stands sink.old) (K.stands sink.new)
         buffer.old.pending buffer.new.pending (line (first.now ∷ map decimal numbers.now)) result }
     ensures cause { HasCause (K.faults sink.old) (K.faults sink.new) result }
+    ensures last { OnErr result (FailedLast (K.faults sink.old) (K.faults sink.new) (K.failed sink.new)) }
 {
     buffer.gather(sink, first)?;
     tell_numbers(buffer, sink, numbers)?;
@@ -45,6 +47,7 @@ fn tell_space<K: Sink>(buffer: &mut SinkBuffer, sink: &mut K, space: &Space) -> 
     ensures gathers { Gathers (K.stands sink.old) (K.stands sink.new)
         buffer.old.pending buffer.new.pending (space_line space.now) result }
     ensures cause { HasCause (K.faults sink.old) (K.faults sink.new) result }
+    ensures last { OnErr result (FailedLast (K.faults sink.old) (K.faults sink.new) (K.failed sink.new)) }
 {
     let levels = u32::from(space.levels);
     tell_number_line(
@@ -61,12 +64,13 @@ fn tell_space<K: Sink>(buffer: &mut SinkBuffer, sink: &mut K, space: &Space) -> 
     )
 }
 
-/// Gathers the line of the capacities, one for each level.
+/// Gathers the line of the capacities of all levels.
 fn tell_capacity<K: Sink>(buffer: &mut SinkBuffer, sink: &mut K, space: &Space) -> Told
     requires { space.now.levels ≤ 6 }
     ensures gathers { Gathers (K.stands sink.old) (K.stands sink.new)
         buffer.old.pending buffer.new.pending (capacity_line space.now) result }
     ensures cause { HasCause (K.faults sink.old) (K.faults sink.new) result }
+    ensures last { OnErr result (FailedLast (K.faults sink.old) (K.faults sink.new) (K.failed sink.new)) }
 {
     let capacities = &space.capacity[..usize::from(space.levels)];
     tell_number_line(buffer, sink, b"capacity", capacities)
@@ -84,6 +88,7 @@ fn tell_account<K: Sink>(
     ensures gathers { Gathers (K.stands sink.old) (K.stands sink.new)
         buffer.old.pending buffer.new.pending (charged_line area kind quota charged) result }
     ensures cause { HasCause (K.faults sink.old) (K.faults sink.new) result }
+    ensures last { OnErr result (FailedLast (K.faults sink.old) (K.faults sink.new) (K.failed sink.new)) }
 {
     let mut number = Buffer::new();
     let mut limit = Buffer::new();
@@ -109,6 +114,7 @@ fn tell_area<K: Sink>(buffer: &mut SinkBuffer, sink: &mut K, heap: &PagedHeap, a
     ensures gathers { Gathers (K.stands sink.old) (K.stands sink.new)
         buffer.old.pending buffer.new.pending (area_line heap.now area) result }
     ensures cause { HasCause (K.faults sink.old) (K.faults sink.new) result }
+    ensures last { OnErr result (FailedLast (K.faults sink.old) (K.faults sink.new) (K.failed sink.new)) }
 {
     let kinds = heap.kinds();
     let table = &heap.ground().table;
@@ -122,11 +128,12 @@ fn tell_area<K: Sink>(buffer: &mut SinkBuffer, sink: &mut K, heap: &PagedHeap, a
     )
 }
 
-/// Gathers the line of each area.
+/// Gathers a line for each area.
 fn tell_areas<K: Sink>(buffer: &mut SinkBuffer, sink: &mut K, heap: &PagedHeap) -> Told
     ensures gathers { Gathers (K.stands sink.old) (K.stands sink.new)
         buffer.old.pending buffer.new.pending (area_lines heap.now) result }
     ensures cause { HasCause (K.faults sink.old) (K.faults sink.new) result }
+    ensures last { OnErr result (FailedLast (K.faults sink.old) (K.faults sink.new) (K.failed sink.new)) }
 {
     for area in 0..heap.kinds().len() {
         tell_area(buffer, sink, heap, area as u8)?;
@@ -139,6 +146,7 @@ pub(crate) fn tell_sizes<K: Sink>(buffer: &mut SinkBuffer, sink: &mut K, heap: &
     ensures gathers { Gathers (K.stands sink.old) (K.stands sink.new)
         buffer.old.pending buffer.new.pending (space_line heap.now.space ++ (capacity_line heap.now.space ++ area_lines heap.now)) result }
     ensures cause { HasCause (K.faults sink.old) (K.faults sink.new) result }
+    ensures last { OnErr result (FailedLast (K.faults sink.old) (K.faults sink.new) (K.failed sink.new)) }
 {
     let space = heap.space();
     tell_space(buffer, sink, space)?;

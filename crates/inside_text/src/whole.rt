@@ -1,5 +1,6 @@
 //! The whole text.
-ghost use Rattle.outer_ports.specs.Ports.{HasCause};
+ghost use Rattle.std.specs.Prelude.{OnErr};
+ghost use Rattle.outer_ports.specs.Ports.{FailedLast, HasCause};
 ghost use Rattle.outer_ports.specs.Buffers.{Gathers};
 ghost use Rattle.inside_text.specs.InsideText.{head_lines, inside_text, middle_lines};
 
@@ -17,6 +18,7 @@ fn tell_head<K: Sink>(buffer: &mut SinkBuffer, sink: &mut K, heap: &PagedHeap) -
     ensures gathers { Gathers (K.stands sink.old) (K.stands sink.new)
         buffer.old.pending buffer.new.pending (head_lines heap.now) result }
     ensures cause { HasCause (K.faults sink.old) (K.faults sink.new) result }
+    ensures last { OnErr result (FailedLast (K.faults sink.old) (K.faults sink.new) (K.failed sink.new)) }
 {
     buffer.gather(sink, b"lispm-inside 1\n")?;
     tell_sizes(buffer, sink, heap)
@@ -27,13 +29,14 @@ fn tell_middle<K: Sink>(buffer: &mut SinkBuffer, sink: &mut K, heap: &PagedHeap)
     ensures gathers { Gathers (K.stands sink.old) (K.stands sink.new)
         buffer.old.pending buffer.new.pending (middle_lines heap.now) result }
     ensures cause { HasCause (K.faults sink.old) (K.faults sink.new) result }
+    ensures last { OnErr result (FailedLast (K.faults sink.old) (K.faults sink.new) (K.failed sink.new)) }
 {
     tell_scan(buffer, sink, heap)?;
     tell_registers(buffer, sink, heap)?;
     tell_regions(buffer, sink, heap)
 }
 
-/// Gathers the text of a heap behind what is pending, line by line. It takes no memory from the allocator. The heap isn't changed: no page
+/// Gathers the text of a heap after what is pending, line by line. It allocates no memory. The heap is unchanged: no page
 /// is used, and no page call is made.
 pub fn tell_heap<K: Sink>(
     buffer: &mut SinkBuffer,
@@ -43,6 +46,7 @@ pub fn tell_heap<K: Sink>(
     ensures gathers { Gathers (K.stands sink.old) (K.stands sink.new)
         buffer.old.pending buffer.new.pending (inside_text heap.now) result }
     ensures cause { HasCause (K.faults sink.old) (K.faults sink.new) result }
+    ensures last { OnErr result (FailedLast (K.faults sink.old) (K.faults sink.new) (K.failed sink.new)) }
 {
     tell_head(buffer, sink, heap)?;
     tell_middle(buffer, sink, heap)?;

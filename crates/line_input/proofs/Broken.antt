@@ -1,4 +1,4 @@
--- What is known of a line that breaks a limit, or none.
+-- What holds of a line that breaks a limit, or breaks none.
 use Rattle.std.proofs.Common.{◌≡◌, ℕ, ◌+◌, ◌≤◌, ◌^◌, min, Bool, true, false, cond, nat_lt, refl, arith, Option, Some, None, Result, Ok}
 use Rattle.std.proofs.lemmas.Bool.{ltb-false}
 use Rattle.std.proofs.lemmas.Bool.Decides.{nat_tests}
@@ -13,7 +13,7 @@ long_reason true over = TextAfterEnd
 long_reason false true = InputTooLong
 long_reason false false = LineTooLong
 
--- bytes that are enough break a limit, whatever stands behind them
+-- enough bytes break a limit, whatever follows them
 pub front_broken : (limit : ℕ) (ended over : Bool) (before l m : ℕ) → nat_lt limit (before + 32769) ≡ over → before ≤ limit → enough_bytes limit ended before ≤ l → enough_bytes limit ended before ≤ m → broken_limit limit ended before l m ≡ Some (long_reason ended over)
 front_broken limit true over before l m is within text size = refl
 front_broken limit false true before l m is within text size =
@@ -36,14 +36,14 @@ unbroken_limits limit ended before l m h =
     let c = none_at (nat_lt 32768 l) LineTooLong None b.1 in
     (a.0, ltb-false limit (before + min m 32769) b.0, ltb-false 32768 l c.0)
 
--- within the limits no limit is broken
+-- a line within the limits breaks none
 pub unbroken_line : (before l m : ℕ) → before + min m 32769 ≤ 2 ^ 40 → l ≤ 32768 → broken_limit (2 ^ 40) false before l m ≡ None
 unbroken_line before l m within short =
     let a : nat_lt (2 ^ 40) (before + min m 32769) ≡ false = grind (arith, nat_tests, within) in
     let b : nat_lt 32768 l ≡ false = grind (arith, nat_tests, short) in
     rw (a, b) refl
 
--- a line that is accepted breaks none
+-- an accepted line breaks no limit
 pub unbroken : {A : Type 0} (number : ℕ) (broken : Option Reason) (said : Result A RunError) (after : A) → unless_broken number broken said ≡ Ok after → (broken ≡ None) × (said ≡ Ok after)
 unbroken number None said after h = (refl, h)
 unbroken number (Some reason) said after h = absurd (cc (h))

@@ -1,4 +1,4 @@
--- The line that is left, behind what is pending.
+-- The last line, after what is pending.
 use Rattle.std.proofs.Common.{inl, inr, ℕ, List, ◌++◌}
 use Rattle.outer_ports.specs.Ports.{Gained}
 use Rattle.outer_ports.proofs.Gains.{cut_behind, gained_more}

@@ -27,13 +27,13 @@ pub lines_feed : (text rest : List ℕ) → no_feed text ≡ true → lines_of (
 lines_feed [] rest h = refl
 lines_feed (x ∷ xs) rest h = onto_at x (xs ++ 10 ∷ rest) (no_feed_head x xs h) ∙ ap (onto x) (lines_feed xs rest (no_feed_tail x xs h))
 
--- a last line without one
+-- a last line without a line feed
 pub lines_last : (text : List ℕ) → 0 < length text → no_feed text ≡ true → lines_of text ≡ record { text = text; whole = false } ∷ []
 lines_last [] some h = absurd (omega arith)
 lines_last (x ∷ []) some h = onto_at x [] (no_feed_head x [] h)
 lines_last (x ∷ y ∷ ys) some h = onto_at x (y ∷ ys) (no_feed_head x (y ∷ ys) h) ∙ ap (onto x) (lines_last (y ∷ ys) (omega arith) (no_feed_tail x (y ∷ ys) h))
 
--- the first line begins with what has no line feed
+-- the first line begins with bytes that contain no line feed
 pub record Begins (bytes : List ℕ) (n : ℕ) : Type 0 where
   pub line : Line
   pub rest : List Line
@@ -71,7 +71,7 @@ pub no_whole_lines : (text : List ℕ) → no_feed text ≡ true → whole_lines
 no_whole_lines [] h = refl
 no_whole_lines (x ∷ xs) h = ap whole_lines (lines_last (x ∷ xs) (omega arith) h)
 
--- The next line, and the lines behind it.
+-- The next line, and the lines after it.
 pub record Passes (reader : Buffered) (found : Found) : Type 0 where
   pub line : Line
   pub cuts : (more : List ℕ) → (reader.ended ≡ true → more ≡ []) → lines_of (reader.bytes ++ more) ≡ line ∷ lines_of (drop found.size reader.bytes ++ more)

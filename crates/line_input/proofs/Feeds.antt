@@ -11,18 +11,18 @@ pub no_feed-append : (xs ys : List ℕ) → no_feed (xs ++ ys) ≡ no_feed xs &&
 no_feed-append [] ys = refl
 no_feed-append (x ∷ xs) ys = grind (arith, common_steps, no_feed-append xs ys)
 
--- bytes of which none is a line feed
+-- bytes without a line feed
 feedless : (xs : List ℕ) → ((k : ℕ) → k < length xs → get_or xs k 0 ≡ 10 → ⊥) → no_feed xs ≡ true
 feedless [] none = refl
 feedless (x ∷ xs) none = rw (ne_eqb x 10 (none 0 (omega arith)), feedless xs (λ k low. none (suc k) (omega arith))) refl
 
--- no line feed stands behind bytes without one
+-- no line feed follows bytes without one
 pub no_feed_behind : (xs : List ℕ) (from : ℕ) → no_feed (take from xs) ≡ true → IsFirstByte (is_byte 10) (drop from xs) None → no_feed xs ≡ true
 no_feed_behind xs from before none =
     let rest = feedless (drop from xs) (λ k low is. none k (omega arith) low (eq-eqb (get_or (drop from xs) k 0) 10 is)) in
     ap no_feed (sym (take-append-drop from xs)) ∙ no_feed-append (take from xs) (drop from xs) ∙ rw (before, rest) refl
 
--- the first line feed behind bytes without one
+-- the first line feed after bytes without one
 pub feed_behind : (xs : List ℕ) (from at : ℕ) → from ≤ length xs → no_feed (take from xs) ≡ true → IsFirstByte (is_byte 10) (drop from xs) (Some at)
     → (from + at < length xs) × (no_feed (take (from + at) xs) ≡ true) × (get_or xs (from + at) 0 ≡ 10)
 feed_behind xs from at within before found =
@@ -37,7 +37,7 @@ feed_behind xs from at within before found =
       sym (get_or-drop from xs at 0) ∙ eqb-true (get_or (drop from xs) at 0) 10 found.1,
     )
 
--- a part, without its first ones
+-- a part, without its first elements
 pub passed : (xs : List ℕ) (s e k : ℕ) → s ≤ e → k ≤ length (take (e - s) (drop s xs)) → take (e - (s + k)) (drop (s + k) xs) ≡ drop k (take (e - s) (drop s xs))
 passed xs s e k order within =
     let l : length (take (e - s) (drop s xs)) ≤ e - s = omega (arith, length-take (e - s) (drop s xs)) in
@@ -57,7 +57,7 @@ shifted_rest buffer old s i y rest =
     let eq : s + (i + 1) ≡ (s + i) + 1 = omega arith in
     drop-set-lt (s + (i + 1)) buffer i y (omega arith) ∙ rw eq (sym (drop-drop 1 (s + i) buffer) ∙ ap (drop 1) rest ∙ drop-drop 1 (s + i) old)
 
--- bytes that were written behind a part
+-- bytes that were written after a part
 module _ (old new : List ℕ) (s e : ℕ) (order : s ≤ e) (within : e ≤ length old) where
   part_then : drop s (take e old ++ new) ≡ take (e - s) (drop s old) ++ new
   part_then =
@@ -76,7 +76,7 @@ module _ (old new : List ℕ) (s e : ℕ) (order : s ≤ e) (within : e ≤ leng
       let p : List ℕ = take (e - s) (drop s old) in
       ap (λ k. take k (drop s (take e old ++ new))) b ∙ take-add (e - s) n (drop s (take e old ++ new)) ∙ rw (part_same, part_then) (ap (λ xs. p ++ take n xs) (drop_at p new (e - s) part_length))
 
--- after a write of a whole rest
+-- after everything that follows the part was written
 pub behind : (old new post : List ℕ) (s e n : ℕ) → s ≤ e → e ≤ length old → n ≤ length new → take (e + n - s) (drop s (take e old ++ (new ++ post))) ≡ take (e - s) (drop s old) ++ take n new
 behind old new post s e n order within fits = part_more old (new ++ post) s e order within n ∙ ap (λ xs. take (e - s) (drop s old) ++ xs) (take-append-le n new post fits)
 

@@ -1,4 +1,4 @@
--- What holds between two lines, and where the reading ends.
+-- What holds between two lines, and when the reading ends.
 use Rattle.std.proofs.Common.{◌≡◌, ◌⊎◌, inl, inr, ℕ, ◌+◌, ◌-◌, ◌<◌, ◌≤◌, ◌^◌, List, [], ◌∷◌, ◌++◌, length, take, drop, Bool, true, false, cond, Option, Some, None, Result, Ok, Err, refl, sym, ap, ◌∙◌, subst, arith, rules}
 use Rattle.std.specs.Prelude.{IfSome, unwrap_or}
 use Rattle.std.proofs.lemmas.List.{append-nil, append_assoc, length-append, length-drop, take_all}
@@ -16,14 +16,14 @@ use Rattle.line_input.specs.Verdict.{IsPlace, IsUndecided, Judged, Reads, Rules,
 use Rattle.line_input.proofs.Cuts.{Passes, lines_long, no_whole_lines, passes_last, passes_whole, whole_lines-append}
 use Rattle.line_input.proofs.Judged.{front_reason, judged_front, passed}
 
--- The source gave the bytes b: these lines, which have so many bytes, and then what the reader holds.
+-- The source gave the bytes b: those of `lines`, which are `bytes` many, and then those that the reader buffers.
 pub record Taken (left left' : Option (List ℕ)) (lines : List Line) (b : List ℕ) (bytes : ℕ) (reader : Buffered) : Type 0 where
   pub gave : Gave left left' b
   pub cuts : (more : List ℕ) → (reader.ended ≡ true → more ≡ []) → lines_of (b ++ more) ≡ lines ++ lines_of (reader.bytes ++ more)
   pub wholes : reader.ended ≡ false → whole_lines lines ≡ lines
   pub long : length b ≡ bytes + length reader.bytes
 
--- The lines before the place were read, and the bytes that the reader holds stand behind them.
+-- The lines before the place were read, and the buffered bytes follow them.
 pub record Going {J W : Type 0} (by : Rules J W) (first : J) (left left' : Option (List ℕ)) (place : InputReader J) (reader : Buffered) : Type 0 where
   pub lines : List Line
   pub b : List ℕ
@@ -50,7 +50,7 @@ not_ended false b h is = refl
 pub at_least : {a b c : ℕ} → a ≤ b → b ≤ c → a ≤ c
 at_least h k = omega arith
 
--- the rest of an input, where the source tells it
+-- the rest of an input, if the source reports it
 abbrev pub rest_of : Option (List ℕ) → List ℕ
 rest_of left = unwrap_or left []
 
@@ -84,7 +84,7 @@ taken_more {left} {left'} {left''} {lines} {b} {bytes} {reader} reader' piece t 
   long = omega (arith, length-append b piece, length-append reader.bytes piece, ap length more_bytes, t.long);
 }
 
--- one line more was passed
+-- one more line was passed
 pub taken_passed : {left left' : Option (List ℕ)} {lines : List Line} {b : List ℕ} {bytes : ℕ} {reader : Buffered} (bytes' : ℕ) (reader' : Buffered) (found : Found) → Taken left left' lines b bytes reader → (p : Passes reader found)
     → reader'.bytes ≡ drop found.size reader.bytes → reader'.ended ≡ reader.ended → bytes' ≡ bytes + found.size → Taken left left' (lines ++ p.line ∷ []) b bytes' reader'
 taken_passed {left} {left'} {lines} {b} {bytes} {reader} bytes' reader' found t p rest same counted = record {
@@ -99,7 +99,7 @@ taken_passed {left} {left'} {lines} {b} {bytes} {reader} bytes' reader' found t 
   long = omega (arith, t.long, ap length rest, length-drop found.size reader.bytes, p.within, counted);
 }
 
--- where no line feed stands in what the reader holds, the whole lines are those before it
+-- if the buffered bytes contain no line feed, the whole lines are those before them
 pub taken_whole : {left left' : Option (List ℕ)} {lines : List Line} {b : List ℕ} {bytes : ℕ} {reader : Buffered} → Taken left left' lines b bytes reader → no_feed reader.bytes ≡ true → reader.ended ≡ false → whole_lines (lines_of b) ≡ lines ++ []
 taken_whole {lines = lines} {b = b} {reader = reader} t none on =
     ap whole_lines (ap lines_of (sym (append-nil b)) ∙ t.cuts [] (λ _. refl) ∙ ap (λ xs. lines ++ lines_of xs) (append-nil reader.bytes))
@@ -134,7 +134,7 @@ module _ {J W : Type 0} (by : Rules J W) (first : J) where
     same = ap (judged_as by place p.line.text) p.size ∙ ap (λ t. judged_as by place t found.size) p.text;
   }
 
-  -- the prefix of a line is refused as the whole line is
+  -- the prefix of a line is refused as the whole line would be
   front_refused : (place : InputReader J) (reader : Buffered) (found : Found) → place.bytes ≤ 2 ^ 40 → IsAllBuffered reader found → enough by place ≤ length reader.bytes → judged_as by place (take found.length reader.bytes) found.size ≡ Err (T.Line (place.lines + 1) (front_reason by place))
   front_refused place reader found within h many =
       let l : length (take found.length reader.bytes) ≡ length reader.bytes = ap length (take_all found.length reader.bytes (omega (arith, h.all))) in
@@ -153,7 +153,7 @@ module _ {J W : Type 0} (by : Rules J W) (first : J) where
         same = judged_front by place k.line.text (size_of k.line) within (at_least f k.long) (at_least f (omega (arith, k.long))) ∙ sym (front_refused place reader found within h f);
       }
 
-  -- a line that is accepted is passed whole
+  -- an accepted line is passed as a whole
   pub passes_accepted : (reader : Buffered) (many : ℕ) (found : Found) (place after : InputReader J) → place.bytes ≤ 2 ^ 40 → many ≡ enough by place → judged_as by place (take found.length reader.bytes) found.size ≡ Ok after → IsFound reader many found → Passes reader found
   passes_accepted reader many found place after within of accepted (inl h) = passes_whole reader found h
   passes_accepted reader many found place after within of accepted (inr (inl h)) = passes_last reader found h
@@ -161,7 +161,7 @@ module _ {J W : Type 0} (by : Rules J W) (first : J) where
       let e = front_refused place reader found within h (subst (λ n. n ≤ length reader.bytes) of front) in
       absurd cc
 
-  -- one line more was accepted
+  -- one more line was accepted
   pub going_passed : {left left' : Option (List ℕ)} {place : InputReader J} {reader : Buffered} (after : InputReader J) (reader' : Buffered) (found : Found) → Going by first left left' place reader → Passes reader found
       → judged_as by place (take found.length reader.bytes) found.size ≡ Ok after → reader'.bytes ≡ drop found.size reader.bytes → reader'.ended ≡ reader.ended → Going by first left left' after reader'
   going_passed {left} {left'} {place} {reader} after reader' found going p accepted bytes same = record {
@@ -179,7 +179,7 @@ module _ {J W : Type 0} (by : Rules J W) (first : J) where
       let p = passed by place (take found.length reader.bytes) found.size after accepted in
       falls place.bytes after.bytes found.size p.bytes fits.some (omega (arith, p.within, fits.all, short))
 
-  -- Where the reading ends
+  -- The end of the reading
 
   was_read : {left left' : Option (List ℕ)} {place : InputReader J} {reader : Buffered} (result : Result W RunError) (going : Going by first left left' place reader) → Reads by first (going.b ++ rest_of left') going.b result → WasRead by first left left' result
   was_read {left} {left'} result going reads = record {

@@ -1,4 +1,4 @@
--- What is known of lines that are judged, whatever judges them.
+-- What holds of judged lines, whatever judges them.
 use Rattle.std.proofs.Common.{◌≡◌, ℕ, ◌+◌, ◌≤◌, ◌^◌, min, List, [], ◌∷◌, length, Bool, true, false, cond, nat_lt, refl, sym, ap, ◌∙◌, None, Result, Ok, Err}
 use Rattle.world_text.specs.declared.reading.reason.Reason.{Reason}
 use Rattle.line_input.specs.declared.judging.input.InputReader.{InputReader}
@@ -34,11 +34,11 @@ whole_at true whole wanted trouble is = (refl, cc (is))
 whole_at false whole wanted trouble is = absurd (cc (is))
 
 module _ {J W : Type 0} (rules : Rules J W) where
-  -- why a line is refused that has bytes enough, whatever they are
+  -- the reason for refusing a line that has enough bytes, whatever these are
   abbrev pub front_reason : InputReader J → Reason
   front_reason place = long_reason (rules.is_whole place.judge) (nat_lt (2 ^ 40) (place.bytes + 32769))
 
-  -- a line of which enough bytes stand is refused for that, whatever stands behind them
+  -- a line with enough bytes is refused because of them, whatever follows them
   pub judged_front : (place : InputReader J) (text : List ℕ) (size : ℕ) → place.bytes ≤ 2 ^ 40 → enough rules place ≤ length text → enough rules place ≤ size → judged_as rules place text size ≡ Err (T.Line (place.lines + 1) (front_reason place))
   judged_front place text size within long wide =
       let e = front_broken (2 ^ 40) (rules.is_whole place.judge) (nat_lt (2 ^ 40) (place.bytes + 32769)) place.bytes (length text) size refl within long wide in
@@ -52,14 +52,14 @@ module _ {J W : Type 0} (rules : Rules J W) where
       let d = counted_ok place size said after u.1 in
       record { going = a.0; within = a.1; short = a.2; says = d.0; lines = d.1; bytes = d.2 }
 
-  -- a line within the limits is accepted where it says something
+  -- a line within the limits is accepted if it has a meaning
   pub judged_here : (place : InputReader J) (judge : J) (text : List ℕ) (size : ℕ) → rules.is_whole place.judge ≡ false → place.bytes + min size 32769 ≤ 2 ^ 40 → length text ≤ 32768 → rules.says (place.lines + 1) place.judge text ≡ Ok judge
       → judged_as rules place text size ≡ Ok (record { judge = judge; lines = place.lines + 1; bytes = place.bytes + size })
   judged_here place judge text size going within short says =
       let none : broken_limit (2 ^ 40) (rules.is_whole place.judge) place.bytes (length text) size ≡ None = ap (λ over. broken_limit (2 ^ 40) over place.bytes (length text) size) going ∙ unbroken_line place.bytes (length text) size within short in
       ap (λ broken. unless_broken (place.lines + 1) broken (counted place size (rules.says (place.lines + 1) place.judge text))) none ∙ ap (counted place size) says
 
-  -- nothing stands behind lines that are whole
+  -- nothing follows whole lines
   pub nothing_behind : (lines : List Line) (place after : InputReader J) → rules.is_whole place.judge ≡ true → judged rules place lines ≡ Ok after → (lines ≡ []) × (place ≡ after)
   nothing_behind [] place after whole is = (refl, cc (is))
   nothing_behind (line ∷ lines) place after whole is =
@@ -67,7 +67,7 @@ module _ {J W : Type 0} (rules : Rules J W) where
       let going = (passed place line.text (size_of line) d.0 d.1).going in
       absurd (cc (going, whole))
 
-  -- where an input is accepted
+  -- if an input is accepted
   pub ended_parts : (said : Said J) (whole : W) → ended rules said ≡ Ok whole → (place : InputReader J) × (said ≡ Ok place) × (rules.is_whole place.judge ≡ true) × (rules.whole place.judge ≡ whole)
   ended_parts (Ok place) whole is = let e = whole_at (rules.is_whole place.judge) (rules.whole place.judge) whole (T.Line (place.lines + 1) (early_reason place.lines rules.empty)) is in (place, refl, e.0, e.1)
   ended_parts (Err trouble) whole is = absurd (cc (is))

@@ -1,25 +1,25 @@
--- What a reader of lines holds, and which line is next.
+-- What a reader of lines buffers, and which line is next.
 use Rattle.std.specs.Prelude.{◌≡◌, ℕ, ◌+◌, ◌<◌, ◌≤◌, List, [], ◌∷◌, length, Bool, true, not, ◌==◌, ◌&&◌, ◌⊎◌, take, slice_index, Option, Some, None}
 use Rattle.line_input.specs.declared.lines.found.Found.{Found}
 
--- the bytes that were taken and not passed, and whether the source has come to its end
+-- the bytes that were taken and not yet passed, and whether the source has reached its end
 pub record Buffered : Type 0 where
   pub bytes : List ℕ
   pub ended : Bool
 
--- no line feed stands in the bytes
+-- the bytes contain no line feed
 abbrev pub no_feed : List ℕ → Bool
 no_feed [] = true
 no_feed (byte ∷ bytes) = not (byte == 10) && no_feed bytes
 
--- the line's line feed stands
+-- a line with its line feed
 pub record IsWholeLine (buffered : Buffered) (found : Found) : Type 0 where
   pub below : found.length < length buffered.bytes
   pub first : no_feed (take found.length buffered.bytes) ≡ true
   pub feed : slice_index buffered.bytes found.length ≡ 10
   pub size : found.size ≡ found.length + 1
 
--- all that is buffered, which is some
+-- all buffered bytes, of which there is at least one
 pub record IsAllBuffered (buffered : Buffered) (found : Found) : Type 0 where
   pub some : 0 < length buffered.bytes
   pub none : no_feed buffered.bytes ≡ true
@@ -30,22 +30,22 @@ pub record IsAllBuffered (buffered : Buffered) (found : Found) : Type 0 where
 abbrev pub IsLastLine : Buffered → Found → Type 0
 IsLastLine buffered found = IsAllBuffered buffered found × (buffered.ended ≡ true)
 
--- the prefix of a line, which has bytes enough
+-- a prefix of a line, which has enough bytes
 abbrev pub IsFront : Buffered → ℕ → Found → Type 0
 IsFront buffered enough found = IsAllBuffered buffered found × (enough ≤ length buffered.bytes)
 
--- what can be judged of the bytes that are buffered: a line, or a prefix of it that has so many bytes
+-- what of the buffered bytes can be judged: a line, or a prefix of a line that has `enough` bytes
 abbrev pub IsFound : Buffered → ℕ → Found → Type 0
 IsFound buffered enough found = IsWholeLine buffered found ⊎ (IsLastLine buffered found ⊎ IsFront buffered enough found)
 
--- the line has a byte at least, and lies within what is buffered
+-- the line has at least one byte, and lies within the buffered bytes
 pub record FitsIn (buffered : Buffered) (found : Found) : Type 0 where
   pub some : 1 ≤ found.size
   pub close : found.size ≤ found.length + 1
   pub text : found.length ≤ length buffered.bytes
   pub all : found.size ≤ length buffered.bytes
 
--- no line stands in the bytes that are buffered, and they are too few to tell more
+-- the buffered bytes contain no line, and are too few to be judged
 pub record IsPart (buffered : Buffered) (enough : ℕ) : Type 0 where
   pub none : no_feed buffered.bytes ≡ true
   pub few : length buffered.bytes < enough

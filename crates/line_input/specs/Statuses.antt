@@ -27,7 +27,7 @@ code S.SwapFailed = 6
 code S.Usage = 7
 code S.NoObject = 8
 
--- the trouble where line n is refused so, behind lines that name these areas
+-- the trouble if line n is refused for this reason, after lines that name these areas
 abbrev pub world_trouble : ℕ → List AreaRule → WorldFault → RunError
 world_trouble n areas (F.Bad reason) = T.Line n reason
 world_trouble n areas F.TooSmall = T.TooSmall n
@@ -41,7 +41,7 @@ IsOfLine (T.TooSmall n) = Unit {0}
 IsOfLine (T.Exhausted n area charged wanted quota) = Unit {0}
 IsOfLine _ = ⊥
 
--- the status that an error line goes with
+-- the status that goes with an error line
 abbrev pub status_of : RunError → Status
 status_of (T.Line n reason) = S.Refused
 status_of (T.TooSmall n) = S.NoSpace
@@ -52,7 +52,7 @@ status_of T.Swap = S.SwapFailed
 status_of T.Usage = S.Usage
 status_of (T.NoObject object) = S.NoObject
 
--- the status of a run that came to its end, or stopped
+-- the status of a run that reached its end, or stopped
 abbrev pub outcome_status : Result (Unit {0}) Stop → Status
 outcome_status (Ok _) = S.Done
 outcome_status (Err Write) = S.WriteFailed
@@ -112,20 +112,20 @@ trouble_line T.Swap = codes "error: swap failed" ++ 10 ∷ []
 trouble_line T.Usage = codes "error: usage" ++ 10 ∷ []
 trouble_line (T.NoObject object) = codes "error: no object " ++ (decimal object ++ 10 ∷ [])
 
--- what a run that came to its end, or stopped, still has to write
+-- what a run that reached its end, or stopped, still has to write
 abbrev pub outcome_line : Result (Unit {0}) Stop → List ℕ
 outcome_line (Err (Tell trouble)) = trouble_line trouble
 outcome_line _ = []
 
 -- The end of a run
 
--- the sink gained the text, and the status is this; or it failed in the text, of which it gained a prefix that isn't all of it
+-- the sink gained the text, and the status is `status`; or the sink failed in the text, and gained a prefix of it, and not all
 abbrev pub Closed : (List ℕ → Type 0) → (List ℕ → Type 0) → List ℕ → Status → Status → Type 0
 Closed held held' text status result =
     ((result ≡ status) × Gained held held' text)
     ⊎ ((result ≡ S.WriteFailed) × ((front : List ℕ) × IsCut text front × Gained held held' front))
 
--- what was pending and the line that was left were written, or the sink failed in them; where it failed before, nothing more is written
+-- what was pending and the last line were written, or the sink failed in them; if it failed before, nothing more is written
 abbrev pub Finished : (List ℕ → Type 0) → (List ℕ → Type 0) → List ℕ → Result (Unit {0}) Stop → Status → Type 0
 Finished held held' pending (Err Write) result = (result ≡ S.WriteFailed) × Gained held held' []
 Finished held held' pending outcome result = Closed held held' (pending ++ outcome_line outcome) (outcome_status outcome) result

@@ -1,4 +1,4 @@
--- What a world file says, line by line, up to the first line that breaks a rule.
+-- What a world file means, line by line, up to the first line that breaks a rule.
 use Rattle.std.specs.Prelude.{ℕ, List, true, Result, Ok, Err}
 use Rattle.lisp_graph.specs.declared.world.World.{World}
 use Rattle.world_text.specs.declared.reading.reason.Reason.TheVariants.{NotAWorld}
@@ -14,12 +14,12 @@ use Rattle.line_input.specs.declared.world_file.WorldFile.{WorldFile}
 abbrev pub start : WorldFile
 start = record { builder = opening_place true }
 
--- behind a line of this number that says this of the world
+-- after the line of this number, which has this meaning for the world
 abbrev pub next : ℕ → WorldFile → WorldSaid → Result WorldFile RunError
 next number file (Ok (step, builder)) = Ok (record { builder = builder })
 next number file (Err fault) = Err (world_trouble number file.builder.world.areas fault)
 
--- How the lines of a file are judged. They are whole behind `end-world`; an empty file is judged as an empty line.
+-- How the lines of a world file are judged. They are whole after `end-world`; an empty file is judged as an empty line.
 abbrev pub file_rules : Rules WorldFile World
 file_rules = record {
   is_whole = λ file. is_closed file.builder.part;

@@ -1,4 +1,4 @@
-//! Lines that are judged one after another.
+//! Judging lines, one after another.
 
 mod input;
 mod judge;

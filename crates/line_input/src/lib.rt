@@ -1,8 +1,8 @@
-//! Inputs read line by line, and how a run over one ends.
+//! Inputs that are read line by line, and how a run over one ends.
 //!
-//! Contracts see an input as the lines of its bytes (`specs/Lines`), what it says as a fold over them by the rules of a judge
-//! (`specs/Verdict`), a reader as the bytes that it holds of them, and the end of a run as a status with its error line
-//! (`specs/Statuses`). Begin with `judging`: its `judge`, `place` and `read`; then `lines` and `statuses`. `WorldFile` is the judge of
+//! Contracts see an input as the lines of its bytes (`specs/Lines`), its meaning as a fold over them by the rules of a judge
+//! (`specs/Verdict`), a reader as the bytes that it buffers, and the end of a run as a status with its error line
+//! (`specs/Statuses`). Begin with `judging`: its `judge`, `input` and `read`; then `lines` and `statuses`. `WorldFile` is the judge of
 //! the lines of a world file (`specs/WorldFile`).
 #![tactic(auto)]
 

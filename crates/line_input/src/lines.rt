@@ -1,4 +1,4 @@
-//! Lines, from the bytes of a source.
+//! The lines of a source's bytes.
 
 mod buffer;
 mod found;

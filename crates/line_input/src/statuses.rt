@@ -1,4 +1,4 @@
-//! How a run ends, and the line that says it.
+//! How a run ends, and the line that reports it.
 
 mod ending;
 mod reasons;

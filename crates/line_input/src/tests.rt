@@ -27,7 +27,7 @@ fn next_is(
     Ok(())
 }
 
-/// The lines of an input, whatever the pieces in which it comes.
+/// The lines of an input, whatever the pieces in which it arrives.
 #[test]
 fn lines(rt: HostRuntime) -> Result<(), Fail> {
     let alloc = rt.alloc();
@@ -43,7 +43,7 @@ fn lines(rt: HostRuntime) -> Result<(), Fail> {
     Ok(())
 }
 
-/// The next line of an input that comes byte by byte, where so many bytes are enough.
+/// The next line of an input that arrives byte by byte, if this many bytes are enough.
 fn front_is(
     rt: &impl Abort,
     alloc: Global,
@@ -63,7 +63,7 @@ fn front_is(
     Ok(())
 }
 
-/// A line ends at its line feed, at the end, or where a prefix of it is enough.
+/// A line ends at its line feed, at the end of the input, or when a prefix of it is enough.
 #[test]
 fn fronts(rt: HostRuntime) -> Result<(), Fail> {
     let alloc = rt.alloc();
@@ -78,7 +78,7 @@ fn fronts(rt: HostRuntime) -> Result<(), Fail> {
     front_is(&rt, alloc, b"", 1, None)
 }
 
-/// What is pending, and the error line behind it.
+/// What is pending, and the error line after it.
 fn told(
     rt: &impl Abort,
     alloc: Global,
@@ -137,7 +137,7 @@ fn error_lines(rt: HostRuntime) -> Result<(), Fail> {
     Ok(())
 }
 
-/// A place behind whose bytes so many fit into an input.
+/// A place with this much room: that number of bytes may follow before the input is too long.
 fn place_before(left: u64) -> InputReader<()>
     ensures { result.bytes ≤ 2 ^ 40 }
 {
@@ -148,7 +148,7 @@ fn place_before(left: u64) -> InputReader<()>
     }
 }
 
-/// The limits: whether the lines before are whole, how many bytes of the input are left, and the line's length and size.
+/// The limits: whether the lines before are whole, how many bytes of the input remain, and the line's length and size.
 #[test]
 fn limits(rt: HostRuntime) -> Result<(), Fail> {
     for (whole, left, length, size, reason) in [
@@ -165,7 +165,7 @@ fn limits(rt: HostRuntime) -> Result<(), Fail> {
     Ok(())
 }
 
-/// How many bytes of a line are enough: whether the lines before are whole, and how many bytes of the input are left.
+/// How many bytes of a line are enough: whether the lines before are whole, and how many bytes of the input remain.
 #[test]
 fn enough(rt: HostRuntime) -> Result<(), Fail> {
     for (whole, left, bytes) in [

@@ -1,4 +1,4 @@
-//! What the lines of a world file say.
+//! The judge of the lines of a world file.
 ghost use Rattle.std.specs.Prelude.{◌≡◌};
 ghost use Rattle.world_text.specs.Limits.{IsAccepted};
 ghost use Rattle.line_input.specs.WorldFile.{file_rules, start};

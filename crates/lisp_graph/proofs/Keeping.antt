@@ -48,7 +48,7 @@ object_in n objects i h = at_or (IsObject n) objects i no_object (record { refer
 
 -- Changes of a graph
 
--- a graph of so many objects
+-- a graph with n objects
 is_graph : (n : ℕ) (registers : List Value) (objects : List Object) → length objects ≡ n → All (RefersBelow n) registers → All (IsObject n) objects
     → IsGraph (record { registers = registers; objects = objects })
 is_graph n registers objects e r o =

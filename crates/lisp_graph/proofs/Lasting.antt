@@ -1,4 +1,4 @@
--- No command takes a register or an object away.
+-- No command removes a register or an object.
 use Rattle.std.proofs.Common.{◌≡◌, ℕ, ◌*◌, suc, List, length, Bool, true, false, Option, Some, None, refl, sym, subst, pos, set, arith, length-append, length-set}
 use Rattle.std.specs.Prelude.{if◌then◌else◌, nat_lt, nat_le, Result, Ok, Err, IfOk, OnErr}
 use Rattle.std.specs.Option.{IfSome, IsSomeAnd}

@@ -33,7 +33,7 @@ module _ {X : Type 0} where
   set_value-enumerate m n zero (x ∷ xs) y e = grind arith
   set_value-enumerate m n (suc k) (x ∷ xs) y e = grind (arith, set_value-enumerate m (n + 1) k xs y (omega arith))
 
-  -- without its last entry
+  -- the entries without the last
   pub enumerate_without_last : (n : ℕ) (es : List (ℕ × X)) (e : ℕ × X) → es ++ e ∷ [] ≡ enumerate_from n (values_of (es ++ e ∷ [])) → es ≡ enumerate_from n (values_of es)
   enumerate_without_last n [] e h = refl
   enumerate_without_last n (d ∷ es) e h =
@@ -79,7 +79,7 @@ module _ {X : Type 0} where
       let P : List (ℕ × X) → Type 0 = λ r. r ≡ enumerate_from 0 (values_of r) in
       (enumerate_without_last 0 fs e (subst P i h), ap values_of i ∙ map-append (λ d. d.1) fs (e ∷ []))
 
-  -- after the last of more than n entries has gone
+  -- after the last of more than n entries was removed
   pub take-pop : (n : ℕ) (o : Option (ℕ × X)) (es fs : List (ℕ × X)) → IsNumbered es → n < length es → IfSome o (λ p. es ≡ fs ++ p ∷ []) → IsSome o ↔ (0 < length es) → IsNumbered fs × (take n (values_of fs) ≡ take n (values_of es))
   take-pop n None es fs h l removal variant = let p : IsSome {T = ℕ × X} None = variant.1 (omega arith) in cc
   take-pop n (Some e) es fs h l removal variant =

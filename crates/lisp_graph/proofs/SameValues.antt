@@ -1,4 +1,4 @@
--- Two values are the same where they are equal.
+-- Two values are the same if and only if they are equal.
 use Rattle.std.proofs.Common.{◌≡◌, ◌↔◌, ℤ, Ordering, true, refl, ap, subst, arith}
 use Rattle.std.specs.Prelude.{IsTrue}
 use Rattle.std.specs.Ordering.{int_cmp, int_eq, is_eq}

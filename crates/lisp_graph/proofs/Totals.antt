@@ -20,7 +20,7 @@ total-cong f g (suc n) h =
     let b = total-suc g n in
     cc
 
--- two that differ at one place
+-- two functions that differ at one place
 pub total-at : (f g : ℕ → ℕ) (k n : ℕ) → k < n → ((m : ℕ) → m < n → m ≢ k → f m ≡ g m) → total f n + g k ≡ total g n + f k
 total-at f g k zero l h = absurd (omega arith)
 total-at f g k (suc n) l h =
@@ -56,7 +56,7 @@ total-add f g (suc n) =
     let c = total-suc (λ m. f m + g m) n in
     omega arith
 
--- nowhere greater, and smaller at one place
+-- a function that is nowhere greater, and smaller at one place
 pub total-lt : (f g : ℕ → ℕ) (k n : ℕ) → k < n → ((m : ℕ) → m < n → f m ≤ g m) → f k < g k → total f n < total g n
 total-lt f g k zero l h s = absurd (omega arith)
 total-lt f g k (suc n) l h s =

@@ -1,4 +1,4 @@
--- What a command of the program does to the graph where there is room, and what it wants charged.
+-- What a command of the program does to the graph if there is room, and which charge it wants.
 use Rattle.std.specs.Prelude.{◌≡◌, ℕ, suc, ◌+◌, ◌-◌, ◌*◌, max, min, if◌then◌else◌, nat_lt, nat_le, List, [], ◌∷◌, ◌++◌, length, map, replicate, slice_set, Option, Some, None, IsSome, IsSomeAnd, pos}
 use Rattle.lisp_graph.specs.declared.object.Value.{Value}
 use Rattle.lisp_graph.specs.declared.object.Value.TheVariants as V
@@ -50,7 +50,7 @@ cell_of area car cdr = record { area = area; charge = 3; body = B.Cons car cdr }
 abbrev pub block_of : ℕ → ℕ → ℕ → Object
 block_of area code length = record { area = area; charge = suc length; body = B.Block code (replicate length V.Nil) }
 
--- the cdr of the cons with this name in a list, where these cars are left behind it: the next cons, or nil
+-- the cdr of the cons with this name in a list, if these cars follow it: the next cons, or nil
 abbrev pub link : ℕ → List Value → Value
 link name [] = V.Nil
 link name (car ∷ cars) = V.Ref (suc name)
@@ -60,11 +60,11 @@ unfoldable pub list_from : ℕ → ℕ → List Value → List Object
 list_from area name [] = []
 list_from area name (car ∷ cars) = cell_of area car (link name cars) ∷ list_from area (suc name) cars
 
--- how many fields a block of this length has once it has grown to have the fields wanted: at least twice as many and one, up to 2,047
+-- how many fields a block gets when it grows: the number wanted or, if that is greater, 2 * length + 1, at most 2,047
 abbrev pub grown_length : ℕ → ℕ → ℕ
 grown_length length wanted = max wanted (min (2 * length + 1) 2047)
 
--- a block with more fields: the old ones, and nil behind them
+-- a block with more fields: the old ones, followed by nil
 abbrev pub grown_block : ℕ → ℕ → List Value → ℕ → Object
 grown_block area code fields count = record { area = area; charge = suc count; body = B.Block code (fields ++ replicate (count - length fields) V.Nil) }
 
@@ -82,7 +82,7 @@ made graph to area charge objects = record {
   wanted = Some (record { area = area; charge = charge });
 }
 
--- a block keeps its name, code and old fields, and gets at least the fields wanted; one that has them stays
+-- a block keeps its name, code and old fields, and gets at least the fields wanted; one that has them already is unchanged
 abbrev pub grown : Graph → ℕ → ℕ → List Value → ℕ → Effect
 grown graph name code fields wanted =
     let area = (object_at graph.objects name).area in
@@ -96,35 +96,35 @@ grown graph name code fields wanted =
 
 -- Cases
 
--- what is done with the parts of a cons, or else
+-- `found` of the parts of a cons; `other` for a block
 abbrev pub when_cons_body : {A : Type 0} → Body → (Value → Value → A) → A → A
 when_cons_body (B.Cons car cdr) found other = found car cdr
 when_cons_body (B.Block code fields) found other = other
 
--- what is done with the name and the parts of a cons that a value refers to, or else
+-- `found` of the name and the parts of the cons that a value refers to; `other` for any other value
 abbrev pub when_cons : {A : Type 0} → List Object → Value → (ℕ → Value → Value → A) → A → A
 when_cons objects (V.Ref name) found other = when_cons_body (object_at objects name).body (found name) other
 when_cons objects V.Nil found other = other
 when_cons objects (V.Fix number) found other = other
 
--- what is done with the code and the fields of a block, or else
+-- `found` of the code and the fields of a block; `other` for a cons
 abbrev pub when_block_body : {A : Type 0} → Body → (ℕ → List Value → A) → A → A
 when_block_body (B.Block code fields) found other = found code fields
 when_block_body (B.Cons car cdr) found other = other
 
--- what is done with the name, the code and the fields of a block that a value refers to, or else
+-- `found` of the name, the code and the fields of the block that a value refers to; `other` for any other value
 abbrev pub when_block : {A : Type 0} → List Object → Value → (ℕ → ℕ → List Value → A) → A → A
 when_block objects (V.Ref name) found other = when_block_body (object_at objects name).body (found name) other
 when_block objects V.Nil found other = other
 when_block objects (V.Fix number) found other = other
 
--- what is done with a field, or the refusal of an index that is too large
+-- `found` if there is a field of this index; otherwise the refusal of an index that is too large
 abbrev pub when_field : Graph → List Value → ℕ → Effect → Effect
 when_field graph fields index found = if nat_lt index (length fields) then found else answered (R.NoField (length fields)) graph
 
 -- The effect of each command
 
--- a value goes to a register, and is shown
+-- a value is written to a register, and is shown
 abbrev pub fetched : Graph → ℕ → Value → Effect
 fetched graph to value = answered (shown graph.objects value) (with_register graph to value)
 
@@ -182,7 +182,7 @@ effect graph (C.PageOut count) = None
 effect graph C.Stats = None
 effect graph C.Dump = None
 
--- a command of the program answers so, and leaves this graph
+-- a command of the program has this reply, and the graph after it is `new`
 abbrev pub Answers : Graph → Command → Reply → Graph → Type 0
 Answers graph command reply new = IsSomeAnd (effect graph command) (λ effect. (reply ≡ effect.reply) × (new ≡ effect.graph))
 

@@ -4,7 +4,7 @@ use Rattle.lisp_graph.specs.declared.object.Value.{Value}
 use Rattle.lisp_graph.specs.declared.object.Body.{Body}
 use Rattle.lisp_graph.specs.declared.object.Body.TheVariants as B
 
--- a block with more fields than this
+-- a block with a field of this index
 abbrev pub HasField : Body → ℕ → Type 0
 HasField (B.Cons car cdr) index = ⊥
 HasField (B.Block code fields) index = index < length fields

@@ -17,7 +17,7 @@ abbrev pub CondemnsWithin : ℕ → Condemn → Type 0
 CondemnsWithin top what.Full = ⊤
 CondemnsWithin top (what.Chosen levels) = AreChosen top levels
 
--- a flip of a command names levels up to this one
+-- if the command is a flip, it names levels up to this one only
 abbrev pub InLevels : ℕ → Command → Type 0
 InLevels top (C.Flip condemned) = CondemnsWithin top condemned
 InLevels top _ = ⊤

@@ -15,7 +15,7 @@ pub record Graph : Type 0 where
   pub registers : List Value
   pub objects : List Object
 
--- what stands in place of an object past the last name
+-- what is read as the object past the last name
 abbrev pub no_object : Object
 no_object = record { area = 0; charge = 0; body = B.Block 0 [] }
 
@@ -27,7 +27,7 @@ object_at objects name = slice_index_or objects name no_object
 abbrev pub value_at : List Value → ℕ → Value
 value_at values index = slice_index_or values index V.Nil
 
--- whether two values are equal; references are where their names are
+-- whether two values are equal; references are equal if their names are
 abbrev pub same_value : Value → Value → Bool
 same_value (V.Fix i) (V.Fix j) = int_eq i j
 same_value V.Nil V.Nil = true
@@ -51,25 +51,25 @@ is_ref name (V.Ref other) = other == name
 is_ref name V.Nil = false
 is_ref name (V.Fix number) = false
 
--- whether one of these values does
+-- whether one of these values refers to the object with this name
 unfoldable pub refers_in : ℕ → List Value → Bool
 refers_in name [] = false
 refers_in name (value ∷ values) = is_ref name value || refers_in name values
 
--- whether a part of an object does
+-- whether a part of an object refers to the object with this name
 abbrev pub body_refers : ℕ → Body → Bool
 body_refers name (B.Cons car cdr) = is_ref name car || is_ref name cdr
 body_refers name (B.Block code fields) = refers_in name fields
 
 -- Graphs in which no reference dangles
 
--- a value refers to none but the first objects, this many
+-- a value refers to no object except the first `count`
 abbrev pub RefersBelow : ℕ → Value → Type 0
 RefersBelow count (V.Ref name) = name < count
 RefersBelow count V.Nil = ⊤
 RefersBelow count (V.Fix number) = ⊤
 
--- so does each part of an object
+-- nor does any part of an object
 abbrev pub PartsReferBelow : ℕ → Body → Type 0
 PartsReferBelow count (B.Cons car cdr) = RefersBelow count car × RefersBelow count cdr
 PartsReferBelow count (B.Block code fields) = All (RefersBelow count) fields
@@ -79,7 +79,7 @@ abbrev pub width : Body → ℕ
 width (B.Cons car cdr) = 2
 width (B.Block code fields) = length fields
 
--- an object among this many
+-- an object of a graph with this many objects: its parts refer only to them, and it has at most 2,047 parts
 pub record IsObject (count : ℕ) (object : Object) : Type 0 where
   pub refers : PartsReferBelow count object.body
   pub wide : width object.body ≤ 2047
@@ -89,7 +89,7 @@ pub record IsGraph (graph : Graph) : Type 0 where
   pub registers : All (RefersBelow (length graph.objects)) graph.registers
   pub objects : All (IsObject (length graph.objects)) graph.objects
 
--- as many registers, and no fewer objects
+-- the same number of registers, and no fewer objects
 pub record Lasts (old new : Graph) : Type 0 where
   pub registers : length new.registers ≡ length old.registers
   pub objects : length old.objects ≤ length new.objects

@@ -1,4 +1,4 @@
--- Conses that stand together: a list laid in consecutive words.
+-- Groups of conses: each can be laid out as one compact list, in consecutive words.
 use Rattle.std.specs.Prelude.{ℕ, ◌+◌, List, [], ◌∷◌, Bool, true, false, ◌==◌, ◌&&◌, nat_le, if◌then◌else◌, Option, Some, None, option_map}
 use Rattle.lisp_graph.specs.declared.object.Value.{Value}
 use Rattle.lisp_graph.specs.declared.object.Value.TheVariants.{Nil}
@@ -20,7 +20,7 @@ has_cdr test (Block code fields) = false
 abbrev pub is_cell : ℕ → (Value → Bool) → Object → Bool
 is_cell area test object = object.area == area && object.charge == 3 && has_cdr test object.body
 
--- how many of these objects, numbered from this one on, there are up to a tail of the area: the cdr of each refers to the next, and that of the tail is nil
+-- how many of these objects, numbered from `number` on, there are up to the tail of a list: the cdr of each refers to the next, and that of the tail is nil
 abbrev pub to_tail : ℕ → ℕ → List Object → Option ℕ
 to_tail area number [] = None
 to_tail area number (object ∷ objects) =

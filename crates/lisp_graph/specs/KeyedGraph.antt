@@ -18,14 +18,14 @@ pub record KeyedGraph : Type 0 where
   pub form : ℕ → Form
   pub field : ℕ → ℕ → Seen
 
--- A value is shown as it is: its key is that of an object, of the kind that is told; a cons has two fields and code 0.
+-- A value is shown correctly: its key is that of an object, and of the kind that is shown; a cons has two fields and code 0.
 abbrev pub Shows : KeyedGraph → Seen → Type 0
 Shows graph (Cons key) = (graph.has key ≡ true) × ((graph.form key).length ≡ 2) × ((graph.form key).code ≡ 0) × (graph.cons key ≡ true)
 Shows graph (Block key) = (graph.has key ≡ true) × (graph.cons key ≡ false)
 Shows graph Nil = Unit {0}
 Shows graph (Fix number) = Unit {0}
 
--- A graph as a walk over it shows it: an object's key is its name
+-- A graph as a walk shows it: an object's key is its name
 
 -- a cons and a block by their key
 abbrev pub seen_body : ℕ → Body → Seen
@@ -48,7 +48,7 @@ abbrev pub code_of : Body → ℕ
 code_of (B.Cons car cdr) = 0
 code_of (B.Block code fields) = code
 
--- what a walk tells of an object
+-- what a walk shows of an object
 abbrev pub form_of : Object → Form
 form_of object = record { area = object.area; code = code_of object.body; length = width object.body; charge = object.charge }
 
@@ -57,7 +57,7 @@ abbrev pub part_of : Body → ℕ → Value
 part_of (B.Cons car cdr) index = if index == 0 then car else cdr
 part_of (B.Block code fields) index = value_at fields index
 
--- a graph whose objects are asked for by their names
+-- a graph whose keys are names
 abbrev pub keyed : Graph → KeyedGraph
 keyed graph = record {
   registers = map (keyed_value graph.objects) graph.registers;

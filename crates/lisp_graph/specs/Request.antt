@@ -1,4 +1,4 @@
--- A command as it is read: its short form, and the registers of a list beside it.
+-- A command as it is read: its short form, and the registers of a list.
 use Rattle.std.specs.Prelude.{ℕ, ◌<◌, List, [], ◌∷◌, ◌++◌, length, Bool, true, false}
 use Rattle.lisp_graph.specs.declared.command.Command.{Command}
 use Rattle.lisp_graph.specs.declared.command.Command.TheVariants as C
@@ -37,7 +37,7 @@ abbrev pub HasRoom : Command → Type 0
 HasRoom (C.List to area items) = length items < 1024
 HasRoom _ = ⊥
 
--- a list with one register more
+-- a list with a further register
 abbrev pub with_item : Command → ℕ → Command
 with_item (C.List to area items) register = C.List to area (items ++ register ∷ [])
 with_item command register = command

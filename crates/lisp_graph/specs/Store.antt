@@ -1,4 +1,4 @@
--- A store as the graph that it holds.
+-- The graph that a store holds.
 use Rattle.std.specs.Prelude.{ℕ, List, Option, Some, None}
 use Rattle.std.specs.Option.{option_map}
 use Rattle.std.specs.Borrow.{Bor}
@@ -20,6 +20,6 @@ found_cons objects value = when_cons objects value (λ name car cdr. Some (name,
 abbrev pub found_block : List Object → Value → Option (ℕ × ℕ × List Value)
 found_block objects value = when_block objects value (λ name code fields. Some (name, code, fields)) None
 
--- the same with the fields behind a reference
+-- the same, with the list in place of the borrowed list
 abbrev pub block_copied : Option (ℕ × ℕ × Bor (List Value)) → Option (ℕ × ℕ × List Value)
 block_copied found = option_map {U = ℕ × ℕ × List Value} (λ block. (block.0, block.1, block.2.now)) found

@@ -12,7 +12,7 @@ use Rattle.lisp_graph.specs.Graph.{Graph, IsGraph}
 abbrev pub opening : World → Graph
 opening world = record { registers = world.roots; objects = world.objects }
 
--- the sizes of a machine; a capacity stands at its level less one
+-- the sizes of a machine; the capacity of level l is at index l - 1
 pub record IsSpace (space : Space) : Type 0 where
   pub regions : (5 ≤ space.regions) × (space.regions ≤ 1024)
   pub frames : (32 ≤ space.frames) × (space.frames ≤ 4096)

@@ -81,11 +81,11 @@ pub enum Command {
         index: u32,
         from: u8,
     },
-    /// Asks how many fields a block has.
+    /// Returns how many fields a block has.
     Size {
         of: u8,
     },
-    /// Asks whether two registers hold the same value.
+    /// Returns whether two registers hold the same value.
     Eq {
         left: u8,
         right: u8,
@@ -94,18 +94,18 @@ pub enum Command {
     Flip {
         what: Condemn,
     },
-    /// Scans so many units of a collection.
+    /// Scans this many units of a collection.
     Scavenge {
         count: u32,
     },
     /// Ends a collection.
     Reclaim,
-    /// Evicts so many pages.
+    /// Evicts this many pages.
     PageOut {
         count: u32,
     },
-    /// Asks for the account of each area.
+    /// Returns the account of each area.
     Stats,
-    /// Asks for the text of all objects.
+    /// Writes the text of all objects.
     Dump,
 }

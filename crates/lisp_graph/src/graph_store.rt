@@ -1,4 +1,4 @@
-//! The yardstick of a machine: the same commands on objects that are never moved or collected.
+//! The reference that a machine is compared with: the same commands on objects that are never moved or collected.
 ghost use Rattle.std.specs.Prelude.{◌≡◌, length, IsSome, IfOk, OnErr};
 ghost use Rattle.lisp_graph.specs.Graph.{IsGraph, Lasts};
 ghost use Rattle.lisp_graph.specs.Effect.{Allocates, Answers, effect};
@@ -78,8 +78,8 @@ impl GraphStore {
         Ok(GraphStore { store })
     }
 
-    /// Runs a command of the program, from `set` to `eq` or `grow`. Where memory runs out nothing has changed, and this
-    /// comes only from a command that makes or widens an object.
+    /// Executes a command of the program, from `set` to `eq` or `grow`. If memory runs out, nothing has changed; only a command
+    /// that makes or widens an object needs memory.
     pub fn answer(&mut self, command: &Command) -> Result<Reply, NoMemory>
         requires program { IsSome (effect self.old command.now) }
         requires registers { InRegisters (length self.old.registers) command.now }

@@ -7,7 +7,7 @@ use crate::{Form, Seen, Walk, World, WorldWalk};
 use std::marker::Model;
 use store_word::SwapFault;
 
-/// Tells the graph of a world, as `WorldWalk` does, and keeps the world.
+/// Shows the graph of a world, as `WorldWalk` does, and owns the world.
 #[derive(Debug, Drop)]
 pub struct GraphWalk {
     world: World,

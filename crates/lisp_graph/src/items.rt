@@ -40,7 +40,7 @@ impl Items {
         }
     }
 
-    /// Takes all registers away.
+    /// Removes all registers.
     pub fn clear(&mut self)
         ensures { self.new ≡ [] }
     {
@@ -62,7 +62,7 @@ impl Items {
         self.registers.len() as u64
     }
 
-    /// The register at this place, or None from the length on.
+    /// The register at this place; None if the place is the length or more.
     pub fn get(&self, index: u64) -> Option<&u8>
         ensures { option_copied result ≡ slice_get self.now index }
     {

@@ -6,7 +6,7 @@ ghost use Rattle.lisp_graph.specs.Graph.{Graph, IsGraph, Lasts, same_value};
 ghost use Rattle.lisp_graph.specs.Effect.{effect};
 ghost use Rattle.lisp_graph.specs.Commands.{InLimits};
 
-/// No command of the program makes a reference dangle or takes an object away, and `eq` tells whether values are equal.
+/// No command of the program makes a reference dangle or removes an object, and `eq` reports whether values are equal.
 pub fn effects_keep_graphs()
     ensures graph { (graph : Graph) (command : Command) → IsGraph graph → InLimits command → IfSome (effect graph command) (λ effect. IsGraph effect.graph) }
     ensures lasts { (graph : Graph) (command : Command) → IfSome (effect graph command) (λ effect. Lasts graph effect.graph) }

@@ -1,7 +1,7 @@
 //! The types that every layer speaks of: values, objects and worlds, commands and their replies, and walks over objects.
 //!
 //! A program sees a graph, which is the values of its registers and the objects that they lead to (specs/Graph). What each
-//! command does to it is specs/Effect, and `GraphStore` is that on an ordered map: the yardstick of every machine. Contracts
+//! command does to it is specs/Effect, and `GraphStore` does that on an ordered map: each machine is compared with it. Contracts
 //! see each small list type as its list. Begin with `object`, then `command`.
 #![tactic(auto)]
 

@@ -50,7 +50,7 @@ impl<T> Sequence<T> {
         self.items.len() as u64
     }
 
-    /// The item at this place, or None from the length on.
+    /// The item at this place; None if the place is the length or more.
     pub fn get(&self, index: u64) -> Option<&T>
         ensures { option_copied result ≡ slice_get self.now index }
     {
@@ -66,7 +66,7 @@ impl<T> Sequence<T> {
 }
 
 impl<T: Drop> Sequence<T> {
-    /// Adds an item at the end. Where memory runs out the list stays as it was, and the item is given up.
+    /// Adds an item at the end. If memory runs out, the list is unchanged and the item is dropped.
     pub fn push(&mut self, item: T) -> Result<(), NoMemory>
         ensures ok { OnOk result (self.new ≡ self.old ++ item ∷ []) }
         ensures err { OnErr result (self.new ≡ self.old) }
@@ -75,7 +75,7 @@ impl<T: Drop> Sequence<T> {
         Ok(())
     }
 
-    /// Writes an item in the place of an earlier one.
+    /// Replaces the item at this place.
     pub fn set(&mut self, index: usize, item: T)
         requires { index < length self.old }
         ensures { self.new ≡ slice_set self.old index item }
@@ -83,7 +83,7 @@ impl<T: Drop> Sequence<T> {
         self.items[index] = item;
     }
 
-    /// Takes away what stands behind the first `count` items.
+    /// Removes all items after the first `count`.
     pub fn truncate(&mut self, count: usize)
         ensures { self.new ≡ take count self.old }
     {
@@ -100,7 +100,7 @@ impl<T: Copy> Sequence<T> {
         Ok(Sequence { items })
     }
 
-    /// Adds items at the end. Where memory runs out the list stays as it was.
+    /// Adds items at the end. If memory runs out, the list is unchanged.
     pub fn push_all(&mut self, items: &[T]) -> Result<(), NoMemory>
         ensures ok { OnOk result (self.new ≡ self.old ++ items.now) }
         ensures err { OnErr result (self.new ≡ self.old) }
@@ -109,7 +109,7 @@ impl<T: Copy> Sequence<T> {
         Ok(())
     }
 
-    /// Adds an item until the list has this length, no less than its own. Where memory runs out the list stays as it was.
+    /// Adds copies of an item until the list has this length, at least its own. If memory runs out, the list is unchanged.
     pub fn pad(&mut self, count: usize, item: T) -> Result<(), NoMemory>
         requires { length self.old ≤ count }
         ensures ok { OnOk result (self.new ≡ self.old ++ replicate (count - length self.old) item) }

@@ -78,7 +78,7 @@ impl ObjectMap {
         Ok(())
     }
 
-    /// Puts an object in the place of the one with this name.
+    /// Replaces the object with this name.
     pub(crate) fn set(&mut self, name: u64, object: Object)
         requires { name < length self.old }
         ensures { self.new ≡ slice_set self.old name object }
@@ -95,7 +95,7 @@ impl ObjectMap {
         write_field(self.map.get_mut(&name).unwrap(), index, value);
     }
 
-    /// Takes away the objects behind the first `count`.
+    /// Removes all objects after the first `count`.
     pub(crate) fn truncate(&mut self, count: u64)
         ensures { self.new ≡ take count self.old }
     {

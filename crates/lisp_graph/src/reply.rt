@@ -1,13 +1,13 @@
 //! Replies.
 
-/// What a command answers.
+/// The reply to a command.
 #[derive(Clone, Copy, Debug, PartialEq, Eq)]
 pub enum Reply {
-    /// It is done.
+    /// The command is done.
     Fine,
     /// The value is nil, or two values differ.
     Nil,
-    /// The value is this number, or a block has so many fields.
+    /// The value is this number, or a block has this number of fields.
     Number(i32),
     /// The value is a cons.
     Cons,
@@ -20,11 +20,11 @@ pub enum Reply {
     True,
     /// The register holds no cons, or no block.
     WrongType,
-    /// The index is at least the number of fields, which is this.
+    /// The index isn't below the number of fields, `length`.
     NoField {
         length: u16,
     },
-    /// The words that are charged to the area and those that are wanted exceed its quota.
+    /// The words charged to the area plus those wanted exceed its quota.
     Exhausted {
         area: u8,
         charged: u32,
@@ -33,19 +33,19 @@ pub enum Reply {
     },
     /// The swap device failed.
     Fault,
-    /// A collection has begun, and has so many pages to scan.
+    /// A collection has begun, and has this many base pages to scan.
     Flipped {
         pages: u32,
     },
     /// A collection runs.
     Busy,
-    /// Units are left to scan.
+    /// Units remain to be scanned.
     More,
-    /// No unit is left to scan.
+    /// No unit remains to be scanned.
     Done,
     /// No collection runs.
     NotFlipped,
-    /// Units are left to scan, so the collection can't end.
+    /// Units remain to be scanned, so the collection can't end.
     NotDone,
     /// The collection has ended.
     Reclaimed,

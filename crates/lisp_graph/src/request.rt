@@ -1,11 +1,11 @@
-//! A command as it is read, in a place that is used again.
+//! A command as it is read, in a place that is used for one command after another.
 ghost use Rattle.std.specs.Prelude.{◌≡◌, [], false};
 ghost use Rattle.lisp_graph.specs.Request.{HasRoom, command_with, is_list, with_item};
 
 use crate::{Command, Items, Short};
 use std::marker::Model;
 
-/// One command. The registers of a list have a place beside it, so that each other command is written by a few bytes. Contracts see it as the
+/// One command. The registers of a list have a place of their own, so that each other command is written by a few bytes. Contracts see it as the
 /// command.
 #[derive(Debug, Drop)]
 pub struct Request {
@@ -150,7 +150,7 @@ impl Request {
         self.items.push(register);
     }
 
-    /// The command without the registers of a list, and these.
+    /// The command without the registers of a list, and those registers.
     pub fn parts(&self) -> (&Short, &Items)
         ensures { self.now ≡ command_with result.0.now result.1.now }
     {

@@ -1,7 +1,7 @@
 //! Commands without the registers of a list.
 use crate::{Condemn, Value};
 
-/// One command; that of a list is without its registers, so that each of them is a few bytes.
+/// One command; a list command is without its registers, so that each command takes a few bytes.
 #[derive(Clone, Copy, Debug, PartialEq, Eq)]
 pub enum Short {
     /// Writes nil or a number to a register.
@@ -70,11 +70,11 @@ pub enum Short {
         index: u32,
         from: u8,
     },
-    /// Asks how many fields a block has.
+    /// Returns how many fields a block has.
     Size {
         of: u8,
     },
-    /// Asks whether two registers hold the same value.
+    /// Returns whether two registers hold the same value.
     Eq {
         left: u8,
         right: u8,
@@ -83,18 +83,18 @@ pub enum Short {
     Flip {
         what: Condemn,
     },
-    /// Scans so many units of a collection.
+    /// Scans this many units of a collection.
     Scavenge {
         count: u32,
     },
     /// Ends a collection.
     Reclaim,
-    /// Evicts so many pages.
+    /// Evicts this many pages.
     PageOut {
         count: u32,
     },
-    /// Asks for the account of each area.
+    /// Returns the account of each area.
     Stats,
-    /// Asks for the text of all objects.
+    /// Writes the text of all objects.
     Dump,
 }

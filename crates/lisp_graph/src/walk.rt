@@ -1,11 +1,11 @@
-//! Walking over what a machine holds.
+//! Walks over the objects that a machine holds.
 ghost use Rattle.std.specs.Prelude.{◌≡◌, ◌<◌, ℕ, length, slice_get, Some, true, IfOk};
 ghost use Rattle.lisp_graph.specs.Cause.{HasCause};
 ghost use Rattle.lisp_graph.specs.KeyedGraph.{KeyedGraph, Shows};
 
 use store_word::SwapFault;
 
-/// A value as a walk shows it: an object by its key.
+/// A value as a walk shows it: a number, nil, or the key of an object.
 #[derive(Clone, Copy, Debug, PartialEq, Eq)]
 pub enum Seen {
     Fix(i32),
@@ -14,8 +14,8 @@ pub enum Seen {
     Block(u64),
 }
 
-/// What a walk tells of an object: its area, its code and number of fields, and its charge in words. A cons has code 0 and
-/// two fields: its car, then its cdr. `Seen` tells it from a block that looks the same.
+/// What a walk shows of an object: its area, its code and number of fields, and its charge in words. A cons has code 0 and
+/// two fields: its car, then its cdr. `Seen` distinguishes it from a block of the same form.
 #[derive(Clone, Copy, Debug, PartialEq, Eq)]
 pub struct Form {
     pub area: u8,
@@ -24,13 +24,13 @@ pub struct Form {
     pub charge: u32,
 }
 
-/// Shows registers and objects, and changes none. A key is told beside a value, and only such keys are asked for. Until the
-/// next command a key names one object, and an object has one key. A call fails only where the swap has failed in it.
+/// Shows registers and objects, and changes none. A caller passes only keys that a call has returned in a `Seen`. Until the
+/// next command a key names one object, and an object has one key. A call fails only if the swap device failed in it.
 pub trait Walk {
     // The registers, and the objects by their keys.
     ghost graph: { Self → KeyedGraph };
 
-    // How often the swap has failed.
+    // The count of swap errors.
     ghost faults: { Self → ℕ };
 
     /// How many registers there are.
@@ -45,7 +45,7 @@ pub trait Walk {
         ensures same { graph self.new ≡ graph self.old }
         ensures cause { HasCause (faults self.old) (faults self.new) result };
 
-    /// What there is to tell of the object with this key.
+    /// The form of the object with this key.
     fn form_of(&mut self, key: u64) -> Result<Form, SwapFault>
         requires { (graph self.old).has key ≡ true }
         ensures is { IfOk result (λ form. form ≡ (graph self.old).form key) }

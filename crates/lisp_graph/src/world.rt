@@ -1,4 +1,4 @@
-//! What an input says before its trace.
+//! The part of an input before its trace.
 use crate::{Areas, Fields, Name, Objects};
 use store_word::Space;
 
@@ -7,9 +7,9 @@ use store_word::Space;
 pub enum AreaKind {
     /// Its objects are never condemned.
     Static,
-    /// Its objects stand at level 0.
+    /// Its objects are at level 0.
     Dynamic,
-    /// Its new objects stand at level 1.
+    /// Its new objects are at level 1.
     Ephemeral,
 }
 

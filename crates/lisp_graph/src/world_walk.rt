@@ -1,4 +1,4 @@
-//! A walk over the graph of a world that somebody else keeps.
+//! A walk over the graph of a world that its caller keeps.
 ghost use Rattle.std.specs.Prelude.{◌≡◌, ◌<◌, ◌≤◌, length};
 ghost use Rattle.lisp_graph.specs.Graph.{IsGraph, RefersBelow, object_at, width};
 ghost use Rattle.lisp_graph.specs.KeyedGraph.{form_of, part_of, keyed_value};
@@ -8,7 +8,7 @@ use crate::{Body, Form, Object, Seen, Value, Walk, World};
 use std::marker::Model;
 use store_word::SwapFault;
 
-/// Tells the graph of a world: an object's key is its name. It never faults.
+/// Shows the graph of a world: an object's key is its name. It never fails.
 #[derive(Drop)]
 pub struct WorldWalk<'a> {
     world: &'a World,

@@ -1,4 +1,4 @@
--- What is said in two layers is one.
+-- Definitions that two layers have agree.
 use Rattle.std.proofs.Common.{◌≡◌, ◌==◌, ◌-◌, Bool, true, ◌&&◌, nat_lt, refl, arith}
 use Rattle.std.specs.Int.{bit_at}
 use Rattle.std.proofs.lemmas.Bool.{and_parts, lt-ltb, eqb-true, eq-eqb}

@@ -57,7 +57,7 @@ stale_not_live k l e = omega arith
 pub live_not_stale : (k l : ℕ) → live k ≢ stale l
 live_not_stale k l e = omega arith
 
--- A commit, by where the charge comes from
+-- A commit, by the origin of the charge
 
 module _ (s s' : Store) (t u : Table) (b count charge area level : ℕ) (v : IsTable t) (low : level < levels_of t) (inside : slot_of t area level < slots_of t) where
   abbrev new_charge : ℕ

@@ -18,7 +18,7 @@ use Rattle.lisp_ground.specs.GroundInvariant.{Agrees, SameForm, GroundInvariant}
 use Rattle.lisp_ground.specs.After.{AfterOn}
 use Rattle.lisp_ground.proofs.Marking.{ground_marks, image_marks}
 
--- registers, units and marks are no part of the invariant but for the law of marks
+-- registers, units and marks are no part of the invariant, except for the law of marks
 pub kept_beside : (g h : Image) (k : RoleMap) (top : ℕ) (areas : List AreaRule) (s : M.Store) (aim : Condemned)
     → (let same : Image = record g { registers = h.registers; collection = h.collection; register_left = h.register_left; word_left = h.word_left; last_moved = h.last_moved; marks = h.marks } in
     MemoryInvariant g k top areas s aim → Marks same → MemoryInvariant same k top areas s aim)
@@ -36,6 +36,7 @@ kept_beside g h k top areas s aim kept marks = record {
   old_husks = kept.old_husks;
   quota = kept.quota;
   room_live = kept.room_live;
+  room_husks = kept.room_husks;
   room_old = kept.room_old;
   chains = kept.chains;
   marks = marks;

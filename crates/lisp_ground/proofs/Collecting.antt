@@ -48,7 +48,7 @@ freed_form t u f = record {
   kinds = ap (λ (x : Table). x.kinds) f.same;
 }
 
--- the ground of a machine that stands for a state
+-- the ground of a machine that represents a state
 pub strong_ground : (m : Store) (t : Table) (rest : Rest) (k : RoleMap) (s : State) → MachineInvariant (image_of m t rest) k s → FitsOn m t → RoomRule t → Agrees t s.space.levels s.areas → StandsOn m t rest k s
 strong_ground m t rest k s strong f room agrees = record {
   strong = strong;

@@ -43,7 +43,7 @@ shape_is : (t : Table) (i : ℕ) (o : Option ℕ) → region_in t i o ≡ shape 
 shape_is t i None = refl
 shape_is t i (Some c) = refl
 
--- a region is the same where its class and its used end are
+-- a region is the same if its class and its used end are
 pub region_same : (t u : Table) (i : ℕ) → u.top ≡ t.top → class_with u i ≡ class_with t i → used_of u i ≡ used_of t i → region_at u i ≡ region_at t i
 region_same t u i top class used =
     shape_is u i (class_with u i)
@@ -52,7 +52,7 @@ region_same t u i top class used =
     ∙ (ap (λ (n : ℕ). shape t.top n (class_with t i)) used
     ∙ sym (shape_is t i (class_with t i)))))
 
--- and is of the same class where the chains are
+-- and is of the same class if the chains are the same
 shape_class : (top used used' : ℕ) (o : Option ℕ) → class_of (shape top used o) ≡ class_of (shape top used' o)
 shape_class top used used' None = refl
 shape_class top used used' (Some c) = refl

@@ -1,4 +1,4 @@
--- Final addresses on a ground: they are where objects stand.
+-- Final addresses on a ground: they are the places of objects.
 use Rattle.std.proofs.Common.{◌≡◌, ℕ, suc, ◌+◌, ◌<◌, inl, inr, IsTrue, List, length, refl, sym, ◌∙◌, ap, subst, arith, Some}
 use Rattle.area_space.specs.store_word.Words.{Parts}
 use Rattle.area_space.specs.store_word.declared.word.Content.{Content}
@@ -55,7 +55,7 @@ module _ (m : Store) (t : Table) (k : RoleMap) (top : ℕ) (areas : List AreaRul
   abbrev g : Image
   g = ground_image m t
 
-  -- a name that is used stands below a used end, in the memory
+  -- a name that is used has its place below a used end, in the memory
   pub place_used : (n : ℕ) → in_use s n → IsTrue (is_used g (k.at n))
   place_used n u = (used_where g k s on.kept.roled on.kept.covered (k.at n) n (begins_owner (kind_of (object s n).body) (k.role (k.at n)) n (on.kept.roled.begins n u))).0
 
@@ -88,14 +88,14 @@ module _ (m : Store) (t : Table) (k : RoleMap) (top : ℕ) (areas : List AreaRul
         begun AsCons r (inr e) = ap (names_as AsCons) e.1
         begun AsBlock r e = ap (names_as AsBlock) e
 
-    -- the object stands there
+    -- the object is there
     pub stands_there : (b : ℕ) → Final m.words a b → IsFinal m.words b → StandsThere g k kind b n
     stands_there b f is = record {
       named = ap (λ (x : ℕ). names_as kind (k.role x)) (final_is_place b f) ∙ place_named;
       here = sym (same_forward (word_at m.words b).content) ∙ is.no_forward;
     }
 
-  -- where an object stands, no forward is in the way
+  -- at the place of an object there is no forward
   pub final_here : (kind : Kind) (b n : ℕ) → StandsThere g k kind b n → IsFinal m.words b
   final_here kind b n st = record {
     inside = subst (λ (x : ℕ). x < length m.words) (sym (final_is_place kind b n st.named b (0, omega arith, F.here (same_forward (word_at m.words b).content ∙ st.here)))) (place_inside n (name_in_use kind b n st.named));

@@ -168,7 +168,7 @@ module _ (s : Store) (t u : Table) (rest rest' : Rest) (what : Condemn) (top : �
   at_slot : (area level : ℕ) → area < areas_of t → level < levels_of t → state_of u (slot_of t area level) ≡ after_flip (test area level) (state_of t (slot_of t area level))
   at_slot area level area_in low = f.slots (slot_of t area level) (slot_below t area level area_in low) ∙ ap (λ (b : Bool). after_flip b (state_of t (slot_of t area level))) (slot_test area level low)
 
-  -- a number of live classes is left where they aren't condemned
+  -- the number of a live class is kept if it isn't condemned
   live_number : (number : Slot → ℕ) (old new : List ℕ) (area level : ℕ)
       → ((x : Slot) → number (turned x) ≡ 0) → ((slot : ℕ) → number (state_of t slot) ≡ slice_index old (live slot)) → ((slot : ℕ) → number (state_of u slot) ≡ slice_index new (live slot))
       → ((class : ℕ) → 2 * slots_of t ≤ class → slice_index old class ≡ 0) → ((class : ℕ) → 2 * slots_of t ≤ class → slice_index new class ≡ 0)

@@ -87,7 +87,7 @@ module _ (s s' : Store) (t u : Table) (rest rest' : Rest) (v : IsTable t) (w : I
       classes_are s' u rest' i w ∙ (class_after i
       ∙ ap (λ (x : Class). if is_old x.standing then free_class else x) (sym (classes_are s t rest i v)))
 
-  -- an address is old where its region is in an old chain
+  -- an address is old if its region is in an old chain
   old_chain_of : (a : ℕ) → is_old_at (classes (image_of s t rest)) a ≡ true → IsOld t (a / 4096)
   old_chain_of a e = by_chain (region_cases t (a / 4096))
     where

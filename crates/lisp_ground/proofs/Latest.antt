@@ -1,4 +1,4 @@
--- The page of the latest transport, and where survivors go: the table says what the image says.
+-- The page of the latest transport, and the levels of survivors: the table agrees with the image.
 use Rattle.std.proofs.Common.{◌≡◌, ℕ, suc, ◌+◌, ◌*◌, ◌/◌, ◌==◌, nat_lt, if◌then◌else◌, refl, ◌∙◌, ap, arith, Option, Some}
 use Rattle.area_space.specs.lisp_graph.declared.command.Condemn.{Condemn}
 use Rattle.area_space.specs.lisp_graph.declared.command.Condemn.TheVariants.{Full, Chosen}

@@ -31,7 +31,7 @@ use Rattle.lisp_ground.proofs.Marking.{ground_marks}
 use Rattle.lisp_ground.proofs.Writing.{ground_written, named_written}
 use Rattle.lisp_ground.proofs.Closing.{after_on}
 
--- no address is in a free region of the other table, where the chains are the same
+-- no address is in a free region of the other table, if the chains are the same
 pub names_used_again : (t u : Table) (c : Rattle.area_space.specs.store_word.declared.word.Content.Content) → u.chains ≡ t.chains → NamesUsed t c → NamesUsed u c
 names_used_again t u c chains safe = λ to has free. safe to has (λ l m. free l (subst (λ (cs : List (List ℕ)). Contains (list_at (record { nodes = u.regions; lists = cs }) l) (to / 4096)) (sym chains) m))
 

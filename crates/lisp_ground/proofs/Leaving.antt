@@ -65,7 +65,7 @@ some_of_all f name n count one below =
     at_most true x = omega arith
     at_most false x = omega arith
 
--- What stands in one class, from one address on, is charged there
+-- The objects in one class, from one address on, are charged there
 
 module _ (m : Store) (t : Table) (k : RoleMap) (top : ℕ) (areas : List AreaRule) (s : M.Store) (aim : Condemned) (on : GroundInvariant m t k top areas s aim) where
   abbrev g : Image

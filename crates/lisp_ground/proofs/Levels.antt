@@ -32,7 +32,7 @@ module _ (m : Store) (t : Table) (k : RoleMap) (s : State) (on : GroundInvariant
   area_inside : (slot : ℕ) → slot < slots_of t → slot / levels_of t < areas_of t
   area_inside slot inside = (div-lt_iff_lt-mul {k = levels_of t} {x = slot} {y = areas_of t} (omega arith)).1 inside
 
-  -- a name that is held stands in one of the areas
+  -- a name that is held is in one of the areas
   area_low : (n : ℕ) → in_use s.store n → (object s.store n).area < length s.areas
   area_low n u = by_chain (region_cases t (k.at n / 4096))
     where

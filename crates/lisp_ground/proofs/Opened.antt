@@ -131,7 +131,7 @@ module _ (s s' : Store) (t : Table) (r area level : ℕ)
     old_husks = λ x y. refl;
   }
 
--- the ground stands for the same objects
+-- the ground represents the same objects
 pub opened_kept_on : (s s' : Store) (t u : Table) (r area level : ℕ) (k : RoleMap) (top : ℕ) (areas : List AreaRule) (o : M.Store) (aim : Condemned)
     → GroundInvariant s t k top areas o aim → area < areas_of t → level < levels_of t → IsUnclassed t r → u ≡ opened t (live (slot_of t area level)) r → s' ≡ with_level s r level
     → IsTable u → IsGround s' u → NamesNoFree s' u → GroundInvariant s' u k top areas o aim

@@ -1,5 +1,5 @@
 -- A region is opened: the invariant of the image stays.
-use Rattle.std.proofs.Common.{◌≡◌, ℕ, suc, ◌+◌, ◌<◌, ◌≤◌, ◌⊎◌, inl, inr, true, List, sym, ◌∙◌, ap, subst, arith}
+use Rattle.std.proofs.Common.{◌≡◌, ℕ, suc, ◌+◌, ◌<◌, ◌≤◌, ◌⊎◌, inl, inr, true, List, refl, sym, ◌∙◌, ap, subst, arith}
 use Rattle.std.specs.Prelude.{is_some}
 use Rattle.std.proofs.lemmas.Bool.{cases_eq}
 use Rattle.area_space.specs.store_word.Words.{Parts}
@@ -14,6 +14,7 @@ use Rattle.lisp_meaning.specs.Stands.{Classes}
 use Rattle.lisp_meaning.specs.Invariant.{MemoryInvariant}
 use Rattle.lisp_meaning.specs.Marks.{Marks}
 use Rattle.lisp_meaning.specs.Placed.{Placed, Charged}
+use Rattle.lisp_meaning.proofs.Husks.{husks_placed}
 use Rattle.lisp_meaning.proofs.Placing.{opened, class_else, charges_before_at, spares_before_at, two_numbers}
 
 module _ (g g' : Image) (k : RoleMap) (top : ℕ) (areas : List AreaRule) (s : Store) (aim : Condemned) (h : MemoryInvariant g k top areas s aim)
@@ -74,6 +75,7 @@ module _ (g g' : Image) (k : RoleMap) (top : ℕ) (areas : List AreaRule) (s : S
         let r = c.live_husks x y in
         let z = h.room_live x y in
         omega arith);
+    room_husks = husks_placed g g' k k b 0 area level h.covered p (λ a e. refl) c.live_husks h.room_husks;
     room_old = λ x. (let e = p.used_old x in let z = h.room_old x in omega arith);
     chains = p.chains;
     marks = marks;

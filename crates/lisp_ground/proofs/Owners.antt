@@ -22,7 +22,7 @@ from_listed xs r e = Contains-from_any (λ x y. eqb-true x y) r xs e
 pub class_has : (t : Table) (r c : ℕ) → class_with t r ≡ Some c → Contains (chain t c) r
 class_has t r c e = from_listed (chain t c) r (lowest-passes (λ class. list_any (eqb r) (chain t class)) (length t.chains) c e).1
 
--- no class is found where none has it
+-- no class is found if none has the region
 pub free_class : (t : Table) (r : ℕ) → IsUnclassed t r → class_with t r ≡ None
 free_class t r free = none-lowest (λ class. list_any (eqb r) (chain t class)) (length t.chains) (λ m l. not_listed m (cases_Bool (list_any (eqb r) (chain t m))))
   where
@@ -30,7 +30,7 @@ free_class t r free = none-lowest (λ class. list_any (eqb r) (chain t class)) (
     not_listed m (inl e) = absurd (free m (from_listed (chain t m) r e))
     not_listed m (inr e) = e
 
--- where none is found the region is free
+-- if no class is found, the region is free
 pub class_free : (t : Table) (r : ℕ) → class_with t r ≡ None → IsUnclassed t r
 class_free t r e c m =
     let l = list_in (lists_of t) c r m in

@@ -1,4 +1,4 @@
--- Every region but the last of its chain is more than half full.
+-- Every region except the last of its chain is more than half full.
 use Rattle.std.proofs.Common.{◌≡◌, ℕ, ◌<◌, true, false, List, [], ◌∷◌, get_or, slice_index, refl, sym, ◌∙◌, ap, subst, inl, inr, Option, Some, None}
 use Rattle.std.proofs.lemmas.Bool.{cases_eq, eq-eqb}
 use Rattle.area_space.specs.index_lists.Members.{Has}

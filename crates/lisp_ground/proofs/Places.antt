@@ -1,4 +1,4 @@
--- A place for words keeps what the ground stands for, and may be committed.
+-- A place for words keeps the objects that the ground represents, and may be committed.
 use Rattle.std.proofs.Common.{◌≡◌, ℕ, ◌+◌, ◌/◌, ◌<◌, ◌≤◌, true, List, length, refl, sym, ◌∙◌, ap, subst, arith, Option, Some, None}
 use Rattle.area_space.specs.lisp_graph.declared.world.AreaRule.{AreaRule}
 use Rattle.area_space.specs.mem_port.Store.{Store}

@@ -54,7 +54,7 @@ region_live t r slot v m = ap (region_in t r) (has_class t r (live slot) v.sound
 pub region_old : (t : Table) (r slot : ℕ) → IsTable t → Contains (chain t (stale slot)) r → region_at t r ≡ region_of_slot t r Old slot
 region_old t r slot v m = ap (region_in t r) (has_class t r (stale slot) v.sound m) ∙ in_slot t r (stale slot) slot Old (stale_odd slot) (omega arith)
 
--- The standing of a region of the image tells in which chain it is
+-- Whether a region of the image is free, live or old shows in which chain it is
 
 standing_in : (t : Table) (r : ℕ) (o : Option ℕ) → is_free (region_in t r o).standing ≡ true → o ≡ None
 standing_in t r None e = refl

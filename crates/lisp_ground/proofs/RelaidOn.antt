@@ -1,4 +1,4 @@
--- Objects that are laid anew on a ground.
+-- Objects that are relocated on a ground.
 use Rattle.std.proofs.Common.{◌≡◌, ℕ, suc, ◌+◌, ◌-◌, ◌/◌, ◌%◌, ◌<◌, ◌⊎◌, inl, inr, IsTrue, List, length, slice_get, sym, ◌∙◌, ap, subst, arith, Some}
 use Rattle.std.specs.Prelude.{Contains}
 use Rattle.std.proofs.lemmas.Bool.{cases_eq, cases_lt}

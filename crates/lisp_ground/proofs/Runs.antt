@@ -1,4 +1,4 @@
--- Runs of cells on a ground: a run begins at each cell, and its end is one of those for which a transport is known.
+-- Compact runs of cells on a ground: one begins at each cell, and its end is one of those for which a transport is known.
 use Rattle.std.proofs.Common.{◌≡◌, ℕ, zero, suc, ◌+◌, ◌-◌, ◌<◌, ◌≤◌, ◌⊎◌, inl, inr, List, refl, sym, ◌∙◌, ap, subst, arith, Option, Some, None}
 use Rattle.std.specs.Option.{is_some}
 use Rattle.std.proofs.lemmas.Bool.{cases_lt}
@@ -55,7 +55,7 @@ module _ (m : Store) (t : Table) (k : RoleMap) (top : ℕ) (areas : List AreaRul
   cell_is : (b n i : ℕ) → k.role b ≡ Cell n i → IsCell m.words b
   cell_is b n i r = record { final = final_here m t k top areas s aim on AsCons b n (cell_stands b n i r); shape = cell_shape m t k top areas s aim on b n i r }
 
-  -- a run of at most so many cells begins at a cell, by its place in the list
+  -- a compact run of at most `left` cells begins at a cell, by its place in the list
   run_from : (left b n i : ℕ) → k.role b ≡ Cell n i → i + left ≡ 1024 → (run : Run) × (run.cells ≤ left) × IsRun m.words b run
   run_from zero b n i r few = let f = (cell_fits (word g) (classes g) k s on.kept.roled n b i r).few in absurd (omega arith)
   run_from (suc left) b n i r few = by_code (word g b).cdr refl (cell_fits (word g) (classes g) k s on.kept.roled n b i r).cdr (λ c n2 r2. run_from left c n2 (suc i) r2 (omega arith))

@@ -1,4 +1,4 @@
--- Shapes and charges on a ground: what the words at a final address say of the object that stands there.
+-- Shapes and charges on a ground: what the words at a final address show of the object there.
 use Rattle.std.proofs.Common.{◌≡◌, ℕ, zero, suc, ◌+◌, ◌<◌, ◌≤◌, ◌⊎◌, inl, inr, List, length, refl, sym, ◌∙◌, ap, subst, arith, Option, Some}
 use Rattle.area_space.specs.store_word.declared.word.CdrCode.{CdrCode}
 use Rattle.area_space.specs.store_word.declared.word.CdrCode.TheVariants.{Next as CdrNext, Nil as CdrNil, Normal as CdrNormal, Second as CdrSecond}
@@ -26,7 +26,7 @@ use Rattle.lisp_ground.specs.Image.{ground_image}
 use Rattle.lisp_ground.specs.GroundInvariant.{GroundInvariant}
 use Rattle.lisp_ground.proofs.Storing.{used_inside}
 
--- What a shape says of the word
+-- The shape of an object and its first word
 
 cons_pair : (code : CdrCode) → cons_shape code ≡ Pair → code ≡ CdrNormal
 cons_pair CdrNormal e = refl
@@ -138,7 +138,7 @@ module _ (m : Store) (t : Table) (k : RoleMap) (top : ℕ) (areas : List AreaRul
       by_size zero fields = let low : b < length m.words = part_inside b (ap owner r) in omega arith
       by_size (suc size) fields = let low : suc b + size < length m.words = part_inside (suc b + size) (ap owner (fields size (omega arith))) in omega arith
 
-  -- By a reference, where no forward stands
+  -- By a reference that leads to no forward
 
   pub cons_stands : StandsThere g k AsCons b n → (k.role b ≡ PairHead n) ⊎ ((i : ℕ) × (k.role b ≡ Cell n i))
   cons_stands st = cons_there (word g) (classes g) k s on.kept.roled b n st.named st.here
@@ -168,7 +168,7 @@ module _ (m : Store) (t : Table) (k : RoleMap) (top : ℕ) (areas : List AreaRul
       go (inl r) = let x = pair_shape r in cc
       go (inr r) = let x = cell_shape r.0 r.1 in cc
 
-  -- what stands there is charged what its words say, and is in the memory
+  -- an object is charged what its words show, and is in the memory
   pub charge_is : (kind : Kind) → StandsThere g k kind b n → charge_at m.words b ≡ (object s n).charge
   charge_is AsBlock st = head_charged (block_stands st)
   charge_is AsCons st = go (cons_stands st)

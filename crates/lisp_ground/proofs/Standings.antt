@@ -39,7 +39,7 @@ module _ (m : Store) (t : Table) (rest : Rest) (v : IsTable t) (a : ℕ) where
       go (inr (inl l)) = let x = ap is_old (live_standing l) in absurd cc
       go (inr (inr o)) = o
 
-  -- a word below a used end is used, and live where its region isn't old
+  -- a word below a used end is used, and live if its region isn't old
   pub used_there : a % 4096 < used_of t (a / 4096) → IsTrue (is_used (image_of m t rest) a)
   used_there low = is_used_as m t rest a v ∙ lt-ltb a (4096 * (a / 4096) + used_of t (a / 4096)) (omega arith)
 

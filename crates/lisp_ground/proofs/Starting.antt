@@ -62,7 +62,7 @@ module _ (s : Store) (regions top : ℕ) (rules : List AreaRule) (f : IsFresh s 
 abbrev nil_registers : ℕ → Rest
 nil_registers n = record no_rest { registers = replicate n (record { cdr = CdrNil; content = NilWord }) }
 
--- so a new ground stands for a world without objects
+-- so a new ground represents a world without objects
 pub fresh_kept_on : (s : Store) (w : World) (regions : ℕ) → IsFresh s regions w.space.levels → IsTable (fresh regions w.space.levels w.areas) → RoomRule (fresh regions w.space.levels w.areas) → IsBare w
     → GroundInvariant s (fresh regions w.space.levels w.areas) blank_map w.space.levels w.areas (opening w).store no_aim
 fresh_kept_on s w regions f v room bare =

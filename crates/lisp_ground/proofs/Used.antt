@@ -25,7 +25,7 @@ is_used_as s t rest a v =
     ap (λ (r : Region). nat_lt a (4096 * (a / 4096) + r.used)) (region_is s t rest (a / 4096) v)
     ∙ ap (λ (n : ℕ). nat_lt a (4096 * (a / 4096) + n)) (used_is t (a / 4096) v)
 
--- a region's used words, where it passes
+-- a region's used words, if it passes; otherwise 0
 abbrev pub used_where : Table → (Region → Bool) → ℕ → ℕ
 used_where t passes i = if_true (passes (region_at t i)) (region_at t i).used
 

@@ -9,7 +9,7 @@ use Rattle.lisp_ground.specs.GroundInvariant.{NamesUsed}
 use Rattle.lisp_ground.specs.Writes.{Within, WritesWithin}
 use Rattle.lisp_ground.proofs.Placing.{within_or_not}
 
--- where nothing is stored nothing is written
+-- if nothing is stored, nothing is written
 pub reads_within : (old new : Store) (b count : ℕ) → StoresNothing old new → WritesWithin old new b count
 reads_within old new b count n = record {
   size = ap length n.words;
@@ -41,7 +41,7 @@ within_wider old new b count c wide w from to = record {
 
 -- What is known of a ground stays
 
--- where the words are below used ends
+-- if the words are below used ends
 pub ground_written : (s s' : Store) (t : Table) (b count : ℕ) → IsGround s t → WritesWithin s s' b count → ((a : ℕ) → Within b count a → a % 4096 < used_of t (a / 4096)) → IsGround s' t
 ground_written s s' t b count g w below = record {
   size = w.size ∙ g.size;

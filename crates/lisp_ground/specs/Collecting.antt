@@ -16,7 +16,7 @@ use Rattle.lisp_meaning.specs.Invariant.{MachineInvariant}
 use Rattle.lisp_ground.specs.Image.{Rest, image_of}
 use Rattle.lisp_ground.specs.GroundInvariant.{GroundInvariant}
 
--- a machine with this memory, this table and this rest stands for the state, and its ground for the state's objects
+-- a machine with this memory, this table and this rest represents the state, and its ground the state's objects
 pub record StandsOn (m : Store) (t : Table) (rest : Rest) (k : RoleMap) (s : State) : Type 0 where
   pub strong : MachineInvariant (image_of m t rest) k s
   pub ground : GroundInvariant m t k s.space.levels s.areas s.store (aim_of s.phase)
@@ -28,7 +28,7 @@ pub record FitsOn (m : Store) (t : Table) : Type 0 where
   pub table : IsTable t
   pub marks : MarksHold m
 
--- a flip of the table, with all that may have a condemned address left to scan
+-- a flip of the table; all that may have a condemned address remains to be scanned
 pub record FlipsOn (m : Store) (t u : Table) (rest rest' : Rest) (s : State) (what : Condemn) (pages : ℕ) : Type 0 where
   pub condemned : Condemns t u what
   pub fits : FitsOn m u
@@ -43,13 +43,13 @@ pub record ReclaimsOn (m : Store) (t : Table) (m' : Store) (u : Table) (rest res
   pub fits : FitsOn m' u
   pub registers : rest'.registers ≡ rest.registers
 
--- a flip leaves the flipped state
+-- a flip leads to the flipped state
 abbrev pub FlippedOn : Type 0
 FlippedOn =
     (m : Store) (t u : Table) (rest rest' : Rest) (k : RoleMap) (s : State) (what : Condemn) (pages : ℕ)
     → StandsOn m t rest k s → s.phase ≡ Idle → FlipsOn m t u rest rest' s what pages → StandsOn m u rest' k (flipped s what pages)
 
--- a reclaim after the scan leaves a state in which the collection has settled
+-- a reclaim after the scan leads to a state in which the collection has ended
 abbrev pub ReclaimedOn : Type 0
 ReclaimedOn =
     (m m' : Store) (t u : Table) (rest rest' : Rest) (k : RoleMap) (s : State) (c : Collection)

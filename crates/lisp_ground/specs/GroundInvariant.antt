@@ -1,4 +1,4 @@
--- What always holds of a ground that stands for objects.
+-- What always holds of a ground that represents objects.
 use Rattle.std.specs.Prelude.{◌≡◌, ℕ, ◌/◌, List, Some}
 use Rattle.area_space.specs.store_word.Words.{address_of}
 use Rattle.area_space.specs.store_word.declared.word.Content.{Content}
@@ -28,7 +28,7 @@ pub record SameForm (old new : Table) : Type 0 where
   pub quotas : new.quotas ≡ old.quotas
   pub kinds : new.kinds ≡ old.kinds
 
--- the ground stands for the objects, by a map, and the memory and the table fit each other and have room
+-- the ground represents the objects, by a role map; the memory and the table fit each other and have room
 pub record GroundInvariant (memory : Store) (t : Table) (k : RoleMap) (top : ℕ) (areas : List AreaRule) (s : M.Store) (aim : Condemned) : Type 0 where
   pub kept : MemoryInvariant (ground_image memory t) k top areas s aim
   pub ground : IsGround memory t

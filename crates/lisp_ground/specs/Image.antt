@@ -1,4 +1,4 @@
--- What a ground is as a machine's image: a memory and its table tell the words, the regions, the charges and the marks.
+-- The memory image of a ground: its memory and its table determine the words, the regions, the charges and the marks.
 use Rattle.std.specs.Prelude.{ℕ, ◌*◌, ◌/◌, ◌%◌, Bool, true, false, ◌==◌, eqb, nat_lt, if◌then◌else◌, List, [], length, map, Option, Some, None, slice_index}
 use Rattle.std.specs.List.{range_with_len, list_any}
 use Rattle.area_space.specs.store_word.Words.{Parts}
@@ -9,19 +9,19 @@ use Rattle.area_space.specs.Flips.{has_level}
 use Rattle.lisp_meaning.specs.Units.{lowest}
 use Rattle.lisp_meaning.specs.Image.{Standing, Live, Old, Region, no_region, Image}
 
--- what neither a memory nor its table knows: the words of the registers, and which registers and words are left to scan
+-- what neither a memory nor its table has: the words of the registers, and which registers and words remain to be scanned
 pub record Rest : Type 0 where
   pub registers : List Parts
   pub register_left : ℕ → Bool
   pub word_left : ℕ → Bool
 
--- no register, and nothing left to scan
+-- no register, and no unit to scan
 abbrev pub no_rest : Rest
 no_rest = record { registers = []; register_left = λ r. false; word_left = λ a. false }
 
 -- Regions
 
--- the class that has a region in its chain; a free region has none
+-- the class whose chain has a region; a free region has none
 abbrev pub class_with : Table → ℕ → Option ℕ
 class_with t region = lowest (λ class. list_any (eqb region) (chain t class)) (length t.chains)
 
@@ -29,7 +29,7 @@ class_with t region = lowest (λ class. list_any (eqb region) (chain t class)) (
 abbrev pub standing_of : ℕ → Standing
 standing_of class = if class % 2 == 0 then Live else Old
 
--- a region of a class, with the area, the level and the standing of the class
+-- a region of a class: live or old, and with the area and the level of the class
 abbrev pub region_in : Table → ℕ → Option ℕ → Region
 region_in t region None = no_region
 region_in t region (Some class) = record {
@@ -42,7 +42,7 @@ region_in t region (Some class) = record {
 abbrev pub region_at : Table → ℕ → Region
 region_at t region = region_in t region (class_with t region)
 
--- the region is the last of the chain of its class
+-- the region is the last of this chain
 abbrev pub is_at : Option ℕ → ℕ → Bool
 is_at None region = false
 is_at (Some last) region = last == region
@@ -53,7 +53,7 @@ is_end_of t region (Some class) = is_at (last_of (chain t class)) region
 
 -- Numbers of classes
 
--- a class's number in such a list, by its area and level; there is none past the greatest level
+-- the number of a class in such a list, by its area and level; 0 past the greatest level
 abbrev pub by_class : Table → (ℕ → ℕ) → List ℕ → ℕ → ℕ → ℕ
 by_class t class numbers area level = if nat_lt level (levels_of t) then slice_index numbers (class (slot_of t area level)) else 0
 
@@ -80,6 +80,6 @@ image_of s t rest = record {
   marks = λ page level. has_level (s.marks page) level;
 }
 
--- the image of the words of a memory and its table alone. Every page counts as marked: the law of marks is the memory's
+-- the image of a memory and its table alone. Every page counts as marked, since the law of marks is the memory's
 abbrev pub ground_image : Store → Table → Image
 ground_image s t = record (image_of s t no_rest) { marks = λ page level. true }

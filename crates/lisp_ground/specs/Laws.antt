@@ -1,4 +1,4 @@
--- What holds of all grounds.
+-- Laws of all grounds.
 use Rattle.std.specs.Prelude.{◌≡◌, ◌↔◌, ℕ, suc, ◌+◌, ◌*◌, ◌/◌, ◌%◌, ◌<◌, ◌≤◌, ◌==◌, true, IsTrue, List, length, get_or, Option, Some, None, Contains}
 use Rattle.area_space.specs.store_word.Words.{Parts}
 use Rattle.area_space.specs.store_word.Sets.{HasLevel}
@@ -54,7 +54,7 @@ use Rattle.lisp_ground.specs.After.{AfterStore}
 
 -- The image
 
--- its regions are what the chains say: those of live chains are live, those of old chains old, all others free
+-- its regions by the chains: those of live chains are live, those of old chains old, all others free
 pub record RegionsAreChains : Type 0 where
   pub live_is : (m : Store) (t : Table) (rest : Rest) (r slot : ℕ) → IsTable t → Contains (chain t (live slot)) r
       → get_or (image_of m t rest).regions r no_region ≡ record { standing = Live; area = slot / levels_of t; level = slot % levels_of t; used = used_of t r }
@@ -78,7 +78,7 @@ abbrev pub GroundIsMachine : Type 0
 GroundIsMachine = (m : Store) (t : Table) (rest : Rest) (k : RoleMap) (top : ℕ) (areas : List AreaRule) (s : M.Store) (aim : Condemned)
     → GroundInvariant m t k top areas s aim → MarksHold m → MemoryInvariant (image_of m t rest) k top areas s aim
 
--- a new memory and a new table stand for a world without objects
+-- a new memory and a new table represent a world without objects
 abbrev pub FreshStands : Type 0
 FreshStands = (m : Store) (w : World) (regions : ℕ) → IsFresh m regions w.space.levels → IsTable (fresh regions w.space.levels w.areas) → RoomRule (fresh regions w.space.levels w.areas) → IsBare w
     → GroundInvariant m (fresh regions w.space.levels w.areas) blank_map w.space.levels w.areas (opening w).store no_aim
@@ -87,11 +87,11 @@ FreshStands = (m : Store) (w : World) (regions : ℕ) → IsFresh m regions w.sp
 abbrev pub LatestPageIs : Type 0
 LatestPageIs = (m : Store) (t : Table) (rest : Rest) (page : ℕ) → t.last ≡ Some page → (a : ℕ) → on_page_of (image_of m t rest).last_moved a ≡ (a / 256 == page)
 
--- while a collection runs, survivors go where the table says
+-- while a collection runs, the level of a survivor is that of the table
 abbrev pub SurvivorsAgree : Type 0
 SurvivorsAgree = (t : Table) (what : Condemn) (level : ℕ) → t.aim ≡ Some what → survivor t level ≡ M.survivor t.top what level
 
--- a level is in a set alike in each layer
+-- a level is in a set for each layer alike
 pub record LevelsAgree : Type 0 where
   pub table : (levels : Levels) (level : ℕ) → A.has_level levels.0 level ≡ M.has_level levels level
   pub set : (levels : Levels) (level : ℕ) → 1 ≤ level → IsTrue (M.has_level levels level) ↔ HasLevel levels.0 level
@@ -102,7 +102,7 @@ CondemnedAgree = (t : Table) (top : ℕ) (areas : List AreaRule) (what : Condemn
 
 -- Places
 
--- a place keeps what the ground stands for
+-- a place keeps the objects that the ground represents
 abbrev pub PlaceKeeps : Type 0
 PlaceKeeps = (m m' : Store) (t t' : Table) (opened : Option ℕ) (area level : ℕ) (k : RoleMap) (top : ℕ) (areas : List AreaRule) (s : M.Store) (aim : Condemned)
     → GroundInvariant m t k top areas s aim → area < areas_of t → level < levels_of t → Opens m t m' t' opened area level → GroundInvariant m' t' k top areas s aim
@@ -146,7 +146,7 @@ MovedAllowed = (m : Store) (t : Table) (k : RoleMap) (top : ℕ) (areas : List A
 
 -- Words
 
--- where nothing is stored the ground stands for what it stood for
+-- if nothing is stored, the ground represents what it did
 abbrev pub ReadsKeep : Type 0
 ReadsKeep = (m m' : Store) (t : Table) (k : RoleMap) (top : ℕ) (areas : List AreaRule) (s : M.Store) (aim : Condemned) → GroundInvariant m t k top areas s aim → StoresNothing m m' → GroundInvariant m' t k top areas s aim
 
@@ -155,7 +155,7 @@ abbrev pub ValuesNameUsed : Type 0
 ValuesNameUsed = (m : Store) (t : Table) (k : RoleMap) (top : ℕ) (areas : List AreaRule) (s : M.Store) (aim : Condemned) → GroundInvariant m t k top areas s aim
     → (content : Content) (v : Value) → value_of k.role content ≡ Some v → NamesUsed t content
 
--- a word with a value that is stored below a used end, with the code of the word before it, is stored so in the image; and what the image keeps after it the ground keeps
+-- a word with a value is stored below a used end, with the cdr code of the word before it: the image has the same store; and what the image keeps after it, the ground keeps
 pub record StoreKeeps : Type 0 where
   pub stored : (m m' : Store) (t : Table) (k : RoleMap) (top : ℕ) (areas : List AreaRule) (s : M.Store) (aim : Condemned) → GroundInvariant m t k top areas s aim
       → (a : ℕ) (w : Parts) (v : Value) → Stores m m' a w → IsTrue (is_used (ground_image m t) a) → value_of k.role w.content ≡ Some v
@@ -166,13 +166,13 @@ pub record StoreKeeps : Type 0 where
 
 -- Objects
 
--- words say alike in both layers where they lead, which address is final, and how many words an object has
+-- both layers read from words the same forwards, the same final addresses, and the same number of words of an object
 pub record WordsAgree : Type 0 where
   pub forward : (content : Content) → F.forward_of content ≡ forward_of content
   pub final : (m : Store) (t : Table) (a b : ℕ) → G.Final (ground_image m t) a b → Final m.words a b
   pub size : (w : Parts) → words_at w ≡ word_count (shape_of w)
 
--- the final address of an address that has a name is the place of the object with this name, which stands there
+-- the final address of an address that has a name is the place of the object with this name
 pub record FinalsArePlaces : Type 0 where
   pub has_final : (m : Store) (t : Table) (k : RoleMap) (top : ℕ) (areas : List AreaRule) (s : M.Store) (aim : Condemned) → GroundInvariant m t k top areas s aim
       → (kind : Kind) (a n : ℕ) → names_as kind (k.role a) ≡ Some n → HasFinal m.words a
@@ -181,19 +181,19 @@ pub record FinalsArePlaces : Type 0 where
   pub stands : (m : Store) (t : Table) (k : RoleMap) (top : ℕ) (areas : List AreaRule) (s : M.Store) (aim : Condemned) → GroundInvariant m t k top areas s aim
       → (kind : Kind) (a n : ℕ) → names_as kind (k.role a) ≡ Some n → (b : ℕ) → Final m.words a b → IsFinal m.words b → StandsThere (ground_image m t) k kind b n
 
--- what stands there is charged what its words say, and all its words are in the memory
+-- an object at its place is charged what its words show, and all its words are in the memory
 pub record ChargesAreWords : Type 0 where
   pub charge_is : (m : Store) (t : Table) (k : RoleMap) (top : ℕ) (areas : List AreaRule) (s : M.Store) (aim : Condemned) → GroundInvariant m t k top areas s aim
       → (b n : ℕ) (kind : Kind) → StandsThere (ground_image m t) k kind b n → charge_at m.words b ≡ (object s n).charge
   pub whole : (m : Store) (t : Table) (k : RoleMap) (top : ℕ) (areas : List AreaRule) (s : M.Store) (aim : Condemned) → GroundInvariant m t k top areas s aim
       → (b n : ℕ) (kind : Kind) → StandsThere (ground_image m t) k kind b n → IsWhole m.words b
 
--- a run of at most 1,024 cells begins at each cell
+-- a compact run of at most 1,024 cells begins at each cell
 abbrev pub CellsHaveRuns : Type 0
 CellsHaveRuns = (m : Store) (t : Table) (k : RoleMap) (top : ℕ) (areas : List AreaRule) (s : M.Store) (aim : Condemned) → GroundInvariant m t k top areas s aim
     → (b n i : ℕ) → k.role b ≡ Cell n i → HasRun m.words b
 
--- how a run ends says how its cells may move: up to the last cell of a list, with the pair that follows, or cut before a forward, whose final address is a reference to the rest of the list
+-- the end of a compact run shows how its cells may move: up to the last cell of a list, with the pair that follows, or cut before a forward, whose final address is a reference to the rest of the list
 pub record RunEndsAre : Type 0 where
   pub nil : (m : Store) (t : Table) (k : RoleMap) (top : ℕ) (areas : List AreaRule) (s : M.Store) (aim : Condemned) → GroundInvariant m t k top areas s aim
       → (b cells : ℕ) → IsRun m.words b (record { cells = suc cells; ending = Nil })

@@ -8,7 +8,7 @@ use Rattle.area_space.specs.Places.{IsEnd}
 use Rattle.lisp_ground.specs.GroundInvariant.{NamesUsed}
 use Rattle.lisp_ground.specs.Writes.{Within, WritesWithin}
 
--- So many words have been written from b on, the used end of a live class, and none of them has an address in a free region. `new_table` is the table after their commit; the words may be written before it or after it
+-- `count` words were written from b on, the used end of a live class, and none of them has an address in a free region. `new_table` is the table after their commit; the words may be written before it or after it
 pub record Lays (old : Store) (table : Table) (new : Store) (new_table : Table) (b count area level : ℕ) : Type 0 where
   pub area_in : area < areas_of table
   pub level_in : level < levels_of table

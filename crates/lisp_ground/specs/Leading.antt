@@ -1,4 +1,4 @@
--- What references lead to, in the words of a ground.
+-- The objects to which references lead, by the words of a ground.
 use Rattle.std.specs.Prelude.{◌≡◌, ℕ, suc, ◌+◌, ◌<◌, List, length, get_or, Some}
 use Rattle.area_space.specs.store_word.Words.{Parts}
 use Rattle.area_space.specs.store_word.declared.word.CdrCode.{CdrCode}
@@ -16,7 +16,7 @@ use Rattle.lisp_meaning.specs.State.{Condemned, Store, object, in_use}
 use Rattle.lisp_meaning.specs.Roles.{Kind, AsCons, AsBlock, RoleMap, names_as, value_of, kind_of, Begins}
 use Rattle.lisp_ground.specs.GroundInvariant.{GroundInvariant}
 
--- Where the parts of a cons are
+-- The places of the parts of a cons
 
 -- the cdr of a cons at its place, by the cdr code there: the next word's, NIL, or the list that begins at the next word
 abbrev pub cdr_by : CdrCode → ℕ → Content → Content
@@ -33,11 +33,11 @@ car_in words at = (word_at words at).content
 abbrev pub cdr_in : List Parts → ℕ → Content
 cdr_in words at = cdr_by (word_at words at).cdr at (word_at words (suc at)).content
 
--- where a pair stands, its second word is in the memory
+-- if a pair begins at an address, its second word is in the memory
 abbrev pub HasCdr : List Parts → ℕ → Type 0
 HasCdr words at = (word_at words at).cdr ≡ CdrNormal → suc at < length words
 
--- What stands where
+-- The object at a place
 
 -- a reference of a kind to an address
 abbrev pub reference : Kind → ℕ → Content
@@ -69,7 +69,7 @@ pub record IsConsIn (words : List Parts) (k : RoleMap) (s : Store) (n : ℕ) : T
   pub cdr_value : value_of k.role (cdr_in words (k.at n)) ≡ Some cdr
   pub second : HasCdr words (k.at n)
 
--- a block has its header at its place, and the values of its fields in the words behind it
+-- a block has its header at its place, and the values of its fields in the words after it
 pub record IsBlockIn (words : List Parts) (k : RoleMap) (s : Store) (n : ℕ) : Type 0 where
   pub code : ℕ
   pub fields : List Value

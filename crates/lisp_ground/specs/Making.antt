@@ -24,7 +24,7 @@ use Rattle.lisp_ground.specs.Writes.{WritesWithin}
 use Rattle.lisp_ground.specs.GroundInvariant.{GroundInvariant}
 use Rattle.lisp_ground.specs.After.{AfterOn}
 
--- so many words at the used end of a live class are written and committed, as a new object's. It may be done in any order
+-- `count` words at the used end of a live class are written and committed, as those of a new object, in any order
 pub record Commits (old : Store) (table : Table) (new : Store) (new_table : Table) (b count area level charge : ℕ) : Type 0 where
   pub end : IsEnd table (slot_of table area level) b count
   pub writes : WritesWithin old new b count
@@ -49,13 +49,13 @@ pub record MakesBlock (old : Store) (table : Table) (new : Store) (new_table : T
   pub header_at : slice_get new.words b ≡ Some (record { cdr = CdrNext; content = Header code (length fields) })
   pub fields_at : (i : ℕ) → i < length fields → (w : Parts) × (slice_get new.words (suc b + i) ≡ Some w) × (value_of k.role w.content ≡ Some (get_or fields i V.Nil))
 
--- a cell for each value, each but the last coded next
+-- a cell for each value, each except the last coded next
 pub record MakesCells (old : Store) (table : Table) (new : Store) (new_table : Table) (k : RoleMap) (b area level : ℕ) (values : List Value) : Type 0 where
   pub commits : Commits old table new new_table b (length values) area level (3 * length values)
   pub cells_at : (i : ℕ) → i < length values → (w : Parts) × (slice_get new.words (b + i) ≡ Some w) × (value_of k.role w.content ≡ Some (get_or values i V.Nil))
       × (suc i < length values → w.cdr ≡ CdrNext) × (suc i ≡ length values → w.cdr ≡ CdrNil)
 
--- What they are, where they fit the quota of their area
+-- The objects that they are, if they fit the quota of their area
 
 -- a cons
 abbrev pub PairMadeOn : Type 0

@@ -1,4 +1,4 @@
--- What a place for words leaves.
+-- What a place for words changes.
 use Rattle.std.specs.Prelude.{◌≡◌, ℕ, Option, IfSome, IfNone}
 use Rattle.area_space.specs.mem_port.Store.{Store}
 use Rattle.area_space.specs.Table.{Table, slot_of, live, IsUnclassed}

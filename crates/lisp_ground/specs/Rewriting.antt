@@ -62,9 +62,9 @@ ResettledOn =
     → GroundInvariant m t k top areas s aim → value_of k.role (word_at m.words a).content ≡ Some value → StoresValue m m' k a value
     → AfterStore m t m' k top areas s s aim
 
--- Objects that are laid anew
+-- Objects that are relocated
 
--- What stands at a, in a live class, gets so many words at the used end of this class; then a HEADER-FORWARD to them is stored at a, and so many NULL words behind it. `mid` has the new words, `new` the others too
+-- An object at a, in a live class, gets `count` words at the used end of this class; then a HEADER-FORWARD to them is stored at a, and `blank` NULL words after it. `mid` has the new words, `new` the others too
 pub record RelaysOn (old : Store) (table : Table) (mid new : Store) (new_table : Table) (a b count area level blank : ℕ) : Type 0 where
   pub area_in : area < areas_of table
   pub level_in : level < levels_of table
@@ -95,7 +95,7 @@ pub record MakesGrown (old new : Store) (a b code size wide : ℕ) : Type 0 wher
   pub copied : (j : ℕ) → j < size → (word_at new.words (suc b + j)).content ≡ (word_at old.words (suc a + j)).content
   pub nils : (j : ℕ) → size ≤ j → j < wide → (word_at new.words (suc b + j)).content ≡ NilWord
 
--- a block becomes a wider one, and its old words a husk
+-- a block becomes a wider one, and its old words become a husk
 abbrev pub BlockGrownOn : Type 0
 BlockGrownOn =
     (m mid m' : Store) (t c t' : Table) (k : RoleMap) (top : ℕ) (areas : List AreaRule) (s : M.Store) (aim : Condemned) (a b n code wanted area level : ℕ) (fields : List Value)

@@ -1,4 +1,4 @@
--- What this crate says of grounds, of their views.
+-- The definitions of this crate on grounds, restated on their views.
 use Rattle.std.specs.Prelude.{Option, ℕ}
 use Rattle.area_space.specs.View.{GroundView}
 use Rattle.lisp_ground.specs.Placing as placing

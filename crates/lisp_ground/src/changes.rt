@@ -1,10 +1,10 @@
-//! What the calls of a ground leave of what it stands for.
+//! The calls of a ground keep the state that it represents, or change it as they should.
 ghost use Rattle.lisp_ground.specs.Laws.{PlaceKeeps, RoomForNew, RoomForMoved, RoomForSpare, AccountsAgree, LevelTotalsOn, NewAllowed, MovedAllowed, ReadsKeep, StoreKeeps, ValuesNameUsed};
 ghost use Rattle.lisp_ground.specs.Making.{PairMadeOn, BlockMadeOn, ListMadeOn};
 ghost use Rattle.lisp_ground.specs.Rewriting.{CarStoredOn, CdrStoredOn, FieldStoredOn, ResettledOn, CellRelaidOn, BlockGrownOn};
 ghost use Rattle.lisp_ground.specs.Collecting.{FlippedOn, ReclaimedOn, ScannedNamesNoOld};
 
-/// A place keeps what the ground stands for, whether a region is opened for it or not.
+/// A place keeps the objects that the ground represents, whether a region is opened for it or not.
 pub fn places_keep_grounds()
     ensures kept { PlaceKeeps }
 {}
@@ -27,8 +27,8 @@ pub fn commits_are_allowed()
     ensures moved { MovedAllowed }
 {}
 
-/// Reads, holds and evictions keep what the ground stands for, and so does a store of a word that has
-/// a value, where the image keeps it.
+/// Reads, holds and evictions keep the objects that the ground represents, and so does a store of a
+/// word that has a value, if the image keeps them.
 pub fn words_keep_grounds()
     ensures reads { ReadsKeep }
     ensures stores { StoreKeeps }
@@ -52,15 +52,15 @@ pub fn stores_change_objects()
     ensures same_value { ResettledOn }
 {}
 
-/// A cell that is laid anew is a pair with another cdr, and a block that is laid anew a wider one,
+/// A cell that is relocated is a pair with another cdr, and a block that is relocated a wider one,
 /// whose old words are a husk.
 pub fn objects_are_laid_anew()
     ensures cell { CellRelaidOn }
     ensures block { BlockGrownOn }
 {}
 
-/// A flip leaves the flipped state, and a reclaim after the scan a state in which the collection has
-/// settled; before it no word outside old regions has an address in one.
+/// A flip leads to the flipped state, and a reclaim after the scan to a state in which the collection
+/// has ended; before it no word outside old regions has an address in one.
 pub fn flips_and_reclaims_keep_machines()
     ensures flip { FlippedOn }
     ensures reclaim { ReclaimedOn }

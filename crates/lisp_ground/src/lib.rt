@@ -1,6 +1,6 @@
-//! What a memory and the table of its regions stand for.
+//! Which objects a memory and the table of its regions represent.
 //!
-//! The layers that write objects say by `GroundInvariant` (`specs/MemoryInvariant.antt`) that a ground stands for them:
+//! The layers that write objects state by `GroundInvariant` (`specs/GroundInvariant.antt`) that a ground represents them:
 //! its image (`specs/Image.antt`) keeps the invariant of `lisp_meaning`. The functions are laws,
 //! with empty bodies: what the calls of a ground and of `obj_layout` mean for the objects.
 #![tactic(auto)]

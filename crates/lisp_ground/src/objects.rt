@@ -1,9 +1,9 @@
-//! What the words at an object's place say.
+//! What the words at an object's place mean.
 ghost use Rattle.lisp_ground.specs.Laws.{WordsAgree, FinalsArePlaces, ChargesAreWords, CellsHaveRuns, RunEndsAre};
 ghost use Rattle.lisp_ground.specs.Leading.{ReferencesLead};
 
-/// Words say alike in both layers where they lead, which address is final, and how many words an
-/// object has.
+/// Both layers read from words the same forwards, the same final addresses, and the same number of
+/// words of an object.
 pub fn words_are_read_alike()
     ensures words { WordsAgree }
 {}
@@ -19,12 +19,12 @@ pub fn references_lead_to_objects()
     ensures lead { ReferencesLead }
 {}
 
-/// The words of an object say what it is charged, and are all in the memory.
+/// The words of an object show its charge, and are all in the memory.
 pub fn charges_are_words()
     ensures charges { ChargesAreWords }
 {}
 
-/// A run of at most 1,024 cells begins at each cell, and its end says how its cells may move.
+/// A compact run of at most 1,024 cells begins at each cell, and its end shows how its cells may move.
 pub fn cells_have_runs()
     ensures runs { CellsHaveRuns }
     ensures ends { RunEndsAre }

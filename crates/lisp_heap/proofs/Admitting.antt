@@ -1,5 +1,5 @@
 -- An allocation on a heap: what was admitted and then made, and what was refused.
-use Rattle.std.proofs.Common.{◌≡◌, ◌≢◌, ℕ, ◌+◌, ◌-◌, ◌*◌, ◌<◌, ◌≤◌, sym, ◌∙◌, subst, true, List, length, Some}
+use Rattle.std.proofs.Common.{◌≡◌, ◌≢◌, ℕ, ◌+◌, ◌-◌, ◌*◌, ◌<◌, ◌≤◌, refl, sym, ◌∙◌, ap, subst, arith, true, List, length, Some}
 use Rattle.std.specs.Prelude.{Vec}
 use Rattle.std.specs.Vec.{with_items}
 use Rattle.std.proofs.lemmas.List.{with_items_is}
@@ -12,7 +12,7 @@ use Rattle.lisp_graph.specs.Effect.{Effect, effect}
 use Rattle.mem_port.specs.Store.{MarksHold}
 use Rattle.mem_port.specs.View.{TellsIf}
 use Rattle.mem_port.specs.declared.memory.Memory.{Ghosts}
-use Rattle.area_space.specs.View.{view}
+use Rattle.area_space.specs.View.{GroundView, view}
 use Rattle.area_space.specs.declared.ground.Ground.{Ground}
 use Rattle.word_graph.specs.lisp_meaning.State.{State}
 use Rattle.word_graph.specs.lisp_meaning.Flip.{graph_of}
@@ -25,10 +25,13 @@ use Rattle.heap_collect.specs.Admitting.{Wants}
 use Rattle.heap_collect.specs.Laws.{AdmittedIsStep}
 use Rattle.heap_collect.proofs.Admitted.{prepared_goes}
 use Rattle.lisp_heap.specs.Admits.{Admits, Prepares, Unmade}
-use Rattle.lisp_heap.specs.Contents.{Contents, contents_at, counted}
+use Rattle.lisp_heap.specs.Contents.{Contents, contents_at, counted, lists_of}
 use Rattle.lisp_heap.specs.Costs.{Makes}
+use Rattle.lisp_heap.specs.Making.{ScansFirst}
 use Rattle.lisp_heap.specs.Stands.{IsSound, Runs}
-use Rattle.lisp_heap.proofs.Allocating.{Admitted, Made, Prepared, costs_made, made, none_refused}
+use Rattle.lisp_heap.proofs.Allocating.{Admitted, Made, Prepared, costs_made, made, none_refused, standing_prepared}
+use Rattle.lisp_heap.proofs.Making.{moment, moment_same, ready_there}
+use Rattle.lisp_heap.proofs.Ordered.{up_to_listed}
 use Rattle.lisp_heap.proofs.Telling.{tells_then, told_behind}
 use Rattle.lisp_heap.proofs.Units.{allocated_some}
 
@@ -37,6 +40,7 @@ pub record Allocated (old new : Contents) (before after charge words read : ℕ)
   pub sound : IsSound new
   pub runs : Runs old new before after c r
   pub makes : Makes old new before after charge words read r
+  pub order : r ≡ R.Fine → ScansFirst old new charge words read
 
 module _ {M : Type 0} {g : Ghosts M} (ground : Ground M g) {scan : Scan} {registers : List Parts} {space : Space} {area : ℕ} where
   pub prepared_parts : (p : Prepares (view ground) scan space) → IsSound (contents_at ground scan registers space) → area < length ground.table.kinds
@@ -73,6 +77,18 @@ module _ {M : Type 0} {g : Ghosts M} (ground : Ground M g) {scan : Scan} {regist
                   a.table.placed a.few a.cost z.grows (few (sure is)) (cost (sure is)) bound;
               refused = λ refused. absurd (none_refused r z.answer refused);
             };
+            order = λ is. record {
+              ready = moment (lists_of a.first.ground.mem.store) a.first.ground.table a.first.begun registers;
+              silent = ready_there ground a.first (standing_prepared (prepared_parts a.first sound area_in));
+              makes = record {
+                scanned = moment (lists_of (g.seen ground2.mem)) ground2.table scan2 registers2;
+                order = λ runs. up_to_listed (a.scans runs);
+                idle = λ none. (let y = a.idle none in moment_same (ap (λ (v : GroundView). lists_of v.mem.store) y.0) (ap (λ (v : GroundView). v.table) y.0) y.1 y.2);
+                still = refl;
+                grows = z.grows;
+                few = (let low = few (sure is) in omega arith);
+              };
+            };
           }
 
 -- a vector lent the words of the registers
@@ -83,6 +99,6 @@ module _ {M Z : Type 0} {g : Ghosts M} (ground ground3 : Ground M g) (v : Vec Pa
       subst (λ (ws : List Parts). Allocated (contents_at ground scan v.items space) (contents_at ground3 scan3 ws space) before after charge words read c r) (sym (with_items_is v registers3 (x.runs.world.registers ∙ count)))
       (subst (λ (ws : List Parts). Allocated (contents_at ground scan ws space) (contents_at ground3 scan3 registers3 space) before after charge words read c r) is x)
 
--- what was refused
+-- it was refused
 pub allocated_none : {old new : Contents} {before after charge words read : ℕ} {c : Command} {r : Reply} → Unmade old new before after c r → Allocated old new before after charge words read c r
-allocated_none x = record { sound = x.sound; runs = x.runs; makes = record { costs = λ fine. absurd (x.unmade fine); refused = x.refused } }
+allocated_none x = record { sound = x.sound; runs = x.runs; makes = record { costs = λ fine. absurd (x.unmade fine); refused = x.refused }; order = λ fine. absurd (x.unmade fine) }

@@ -45,7 +45,7 @@ use Rattle.lisp_heap.specs.Marked.{MarksPages}
 use Rattle.lisp_heap.specs.Stands.{Told, IsSound, Runs}
 use Rattle.lisp_heap.proofs.Listed.{unlisted}
 use Rattle.lisp_heap.proofs.Marked.{pages_made, pages_scanned}
-use Rattle.lisp_heap.proofs.Running.{goes_runs, keeps_allocating}
+use Rattle.lisp_heap.proofs.Running.{goes_runs, keeps_allocating, pays_scan}
 
 level_low : (kind : AreaKind) → new_level kind ≤ 1
 level_low Static = omega arith
@@ -57,7 +57,7 @@ kind_is kinds areas area are =
     ap (λ (ks : List AreaKind). get_or ks area Static) are
     ∙ get_or-map (λ (rule : AreaRule). rule.kind) areas area no_rule
 
--- what is answered by a refusal isn't done, nor made
+-- a reply that is a refusal isn't done, nor made
 pub refused_undone : (r : Reply) (a b c d : ℕ) → (r ≢ R.Fault → r ≡ R.Exhausted a b c d) → IsDone r → ⊥
 refused_undone R.Fault a b c d h done = done
 refused_undone (R.Exhausted w x y z) a b c d h done = done
@@ -130,7 +130,7 @@ module _ (m0 : Store) (t0 : Table) (scan0 : Scan) (registers0 : List Parts) (spa
 
   module _ (m1 : Store) (t1 : Table) (scan1 : Scan)
       (silent : (registers : List Parts) (k : RoleMap) (s : State) → RepresentsAll m0 t0 scan0 registers k s → s.space ≡ space → length registers ≡ space.registers → PreparesTo m1 t1 scan1 registers s) where
-    -- a state before, and what the silent steps make of it
+    -- a state before, and the state after the silent steps
     pub ready : PreparesTo m1 t1 scan1 registers0 sound.stands.0
     ready =
         let found = sound.stands in
@@ -153,7 +153,7 @@ module _ (m0 : Store) (t0 : Table) (scan0 : Scan) (registers0 : List Parts) (spa
 
 -- What an allocation has before it is made
 
--- the silent steps were made
+-- the silent steps were taken
 pub record Prepared (m0 m1 : Store) (t0 t1 : Table) (scan0 scan1 : Scan) (registers0 : List Parts) (space : Space) (faults0 : ℕ) (resident0 : List ℕ) (counts0 : Counts) (area : ℕ) : Type 0 where
   pub sound : IsSound (contents_of m0 t0 scan0 registers0 space faults0 resident0 counts0)
   pub silent : (registers : List Parts) (k : RoleMap) (s : State) → RepresentsAll m0 t0 scan0 registers k s → s.space ≡ space → length registers ≡ space.registers → PreparesTo m1 t1 scan1 registers s
@@ -174,7 +174,7 @@ pub record Admitted (m1 m2 : Store) (t1 t2 : Table) (scan1 scan2 : Scan) (regist
   pub table : OnlyGrows t1 t2
   pub marks : MarksFollow m1 t1 m2 t2
 
--- and it was made: the heap is sound, the command ran, and it met a fault or is fine
+-- and it was made: the heap is sound, the command ran, and its reply is `fault` or `ok`
 pub record Made (old new : Contents) (before after : ℕ) (c : Command) (r : Reply) (placed2 : ℕ) : Type 0 where
   pub sound : IsSound new
   pub runs : Runs old new before after c r
@@ -210,7 +210,7 @@ module _ {m0 m1 : Store} {t0 t1 : Table} {scan0 scan1 : Scan} {registers0 : List
     parts_run goes many regions told scanned placed settled pages =
         goes_runs m0 m' t0 t' scan0 scan' registers0 registers' space faults0 faults' resident0 resident' counts0 counts' before after c r p.sound goes many (regions ∙ p.regions) told
         (λ e. keeps_allocating c (contents_of m0 t0 scan0 registers0 space faults0 resident0 counts0) (contents_of m' t' scan' registers' space faults' resident' counts') scan1.done t1.placed all p.done p.placed scanned placed)
-        settled pages
+        settled pages (λ none. absurd (pays_scan c all none))
 
   -- it was refused
   module _ (m2 : Store) (t2 : Table) (scan2 : Scan) (registers2 : List Parts) (before after : ℕ) (c : Command) (r : Reply) (charge faults2 : ℕ) (resident2 : List ℕ) (counts2 : Counts) (all : allocates c ≡ true) (allowed : IsAllowed c) (may : IsTrue (may_fault c)) (wants : (s : State) → Wants s c area charge)

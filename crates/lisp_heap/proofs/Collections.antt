@@ -24,15 +24,20 @@ use Rattle.lisp_heap.specs.Contents.{lists_of, store_of}
 use Rattle.lisp_heap.proofs.Listed.{read_all, same_mark}
 use Rattle.lisp_heap.proofs.Unwanted.{pays_nothing}
 
--- What was answered
+-- The reply
 
--- a flip told pages only if no collection ran
+-- a flip replied with pages only if no collection ran
 pub was_idle : (aim : Option Condemn) (r : Reply) (pages : ℕ) → (aim ≢ None → r ≡ R.Busy) → r ≡ R.Flipped pages → aim ≡ None
 was_idle None r pages busy is = refl
 was_idle (Some what) r pages busy is = absurd (let e = busy (λ none. cc) in cc)
 
 pub same_count : (aim : Option Condemn) (r : Reply) (pages count : ℕ) → aim ≡ None → (aim ≡ None → r ≡ R.Flipped pages) → r ≡ R.Flipped count → count ≡ pages
 same_count aim r pages count none flips is = let e = flips none in cc
+
+-- if one runs already, what holds then holds
+pub busy_still : {A : Type 0} (aim : Option Condemn) (r : Reply) (pages : ℕ) → (aim ≡ None → r ≡ R.Flipped pages) → (aim ≢ None → A) → r ≡ R.Busy → A
+busy_still None r pages flips still busy = absurd (let e = flips refl in cc)
+busy_still (Some what) r pages flips still busy = still (λ none. cc)
 
 pub flip_sure : (aim : Option Condemn) (r : Reply) (pages : ℕ) → (aim ≢ None → r ≡ R.Busy) → (aim ≡ None → r ≡ R.Flipped pages) → r ≢ R.Fault
 flip_sure None r pages busy flips fault = let e = flips refl in cc

@@ -1,4 +1,4 @@
--- What the dump of a heap is a dump of, and what it stands for while a walk goes over it.
+-- What the dump of a heap shows, and what the heap represents while a walk visits it.
 use Rattle.std.proofs.Common.{◌≡◌, ℕ, refl, sym, ◌∙◌, subst, arith, List, Option, Some, None, Result}
 use Rattle.std.specs.Result.{IfOk}
 use Rattle.std.proofs.lemmas.Result.{IfOk-weaker}
@@ -16,7 +16,7 @@ use Rattle.lisp_heap.specs.Stands.{Stands}
 use Rattle.lisp_heap.specs.Walking.{StandsAsBefore, StandsSince, graph_in}
 use Rattle.lisp_heap.proofs.Walking.{dump_is_of_state}
 
--- a dump of what it shows is the dump of each state for which it stands
+-- a dump of what it shows is the dump of each state that it represents
 pub dumped_of_state : {E : Type 0} (h : Contents) (areas : List AreaRule) (result : Result (List ℕ) E) → IfOk result (λ text. IsDump (graph_in h) h.space areas text)
     → IfOk result (λ text. (s : State) → Stands h s → s.areas ≡ areas → text ≡ dumped (world_of s))
 dumped_of_state h areas result =
@@ -26,13 +26,13 @@ dumped_of_state h areas result =
     (subst (λ (rules : List AreaRule). IsDump (keyed (graph_of s)) h.space rules text) (sym same)
     (dump_is_of_state h s st h.space areas text dump))))
 
--- where a walk begins it has stood so far,
+-- when a walk begins, the heap represents the same states,
 pub begins : (start : Option Contents) (heap : Contents) → start ≡ Some heap → StandsSince start heap
 begins start heap is =
     subst (λ (from : Option Contents). StandsSince from heap) (sym is)
     (record { words = refl; settled = refl; table = refl; scan = refl; stands = λ s st. st; world = record { registers = refl; space = refl; kinds = refl }; room = omega arith })
 
--- it stands on where it is only read,
+-- it still does if it is only read,
 pub goes_on : (start : Option Contents) (old new : Contents) → StandsSince start old → StandsAsBefore old new → StandsSince start new
 goes_on None old new since read = tt
 goes_on (Some start) old new since read = record {
@@ -49,6 +49,6 @@ goes_on (Some start) old new since read = record {
   room = (let a = since.room in let b = read.room in omega arith);
 }
 
--- and so it stands at its end for what it stood for
+-- and so at the end of the walk it represents the same states
 pub ends : (start : Option Contents) (heap new : Contents) → start ≡ Some heap → StandsSince start new → StandsAsBefore heap new
 ends start heap new is since = subst (λ (from : Option Contents). StandsSince from new) is since

@@ -1,4 +1,4 @@
--- What areas are charged when a collection has ended.
+-- The accounts of areas when a collection has ended.
 use Rattle.std.proofs.Common.{◌≡◌, ℕ, sym, ◌∙◌, subst, Bool, List}
 use Rattle.std.specs.Prelude.{MatchBool}
 use Rattle.store_word.specs.Words.{Parts}

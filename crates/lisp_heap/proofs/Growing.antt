@@ -49,15 +49,15 @@ use Rattle.lisp_heap.specs.Marked.{MarksPages}
 use Rattle.lisp_heap.specs.Stands.{Told, IsSound, Runs, Stands}
 use Rattle.lisp_heap.proofs.Allocating.{area_ready}
 use Rattle.lisp_heap.proofs.Listed.{unlisted}
-use Rattle.lisp_heap.proofs.Running.{goes_runs, keeps_allocating}
+use Rattle.lisp_heap.proofs.Running.{goes_runs, keeps_allocating, pays_scan}
 
--- What is wanted
+-- The charge that is required
 
 abbrev charge_of : Option Wanted → ℕ
 charge_of None = 0
 charge_of (Some w) = w.charge
 
--- a block that grows wants its charge
+-- a block that grows requires its charge
 wants_growth : (s : State) (target wanted area charge : ℕ) → IsGrowing s target wanted area charge → wants_in s (C.Grow target wanted) ≡ Some (record { area = area; charge = charge })
 wants_growth s target wanted area charge g = let x = growing_effect s target wanted area charge g in ap wanted_by x.1 ∙ x.2
 
@@ -73,18 +73,18 @@ none_wanted o w none some = none_wanted_one w (sym none ∙ some)
 pub some_wanted : (s : State) (target wanted area charge : ℕ) → IsGrowing s target wanted area charge → wants_in s (C.Grow target wanted) ≡ None → ⊥
 some_wanted s target wanted area charge g none = none_wanted (wants_in s (C.Grow target wanted)) (record { area = area; charge = charge }) none (wants_growth s target wanted area charge g)
 
--- an answer is no fault where its reply is none
+-- a reply that isn't `fault` isn't the answer `fault`
 pub answered_sure : (r : Reply) → r ≢ R.Fault → Answered r ≡ Answered R.Fault → ⊥
 answered_sure r sure e = sure (cc (e))
 
--- it is more than the fields wanted
+-- it is more than the requested fields
 pub fields_charged : (s : State) (target wanted area charge : ℕ) → IsGrowing s target wanted area charge → wanted < charge
 fields_charged s target wanted area charge g =
     let low = le-max_left wanted (min (2 * length g.block.fields + 1) 2047) in
     let is = g.charge_is in
     omega arith
 
--- and so it isn't refused, where it met no fault
+-- and so it isn't refused, if it met no swap error
 pub unrefused : (r : Reply) → (r ≢ R.Fault → r ≡ R.Fine) → IsRefused r → ⊥
 unrefused r sure refused = let fine = sure (λ e. subst IsRefused e refused) in subst IsRefused fine refused
 
@@ -196,7 +196,7 @@ module _ (m1 m2 : Store) (t1 t2 : Table) (scan1 scan2 : Scan) (registers1 regist
         law m1 m2 m3 t1 t2 t3 scan1 scan2 registers1 registers2 registers3 k s (C.Grow target wanted) r area charge x (grow_wants k s x.represents) (area_there k s x)
         (subst (λ (n : ℕ). HasScannedAhead m1 t1 m2 t2 scan2 registers2 k s (n * charge)) (sym same) (ahead k s x)) left performs
 
--- The silent steps leave the graph
+-- The silent steps don't change the graph
 
 reclaim_graph : (s mid : State) (p : Phase) → SilentReclaim s p mid → graph_of mid ≡ graph_of s
 reclaim_graph s mid Idle x = ap graph_of x
@@ -227,7 +227,7 @@ module _ (m0 : Store) (t0 : Table) (scan0 : Scan) (registers0 : List Parts) (spa
   pub some_areas : 0 < areas_of t1
   some_areas = area_ready m0 t0 scan0 registers0 space faults0 resident0 counts0 sound m1 t1 scan1 silent 0 (let some = sound.areas.0 in omega arith)
 
-  -- a state for which the heap stood, after the silent steps: each command wants of it what it did
+  -- a state that the heap represented, after the silent steps: each command needs the same words in it
   pub ready_for : (s : State) → Stands (contents_of m0 t0 scan0 registers0 space faults0 resident0 counts0) s → (k : RoleMap) × (mid : State) × RepresentsAll m1 t1 scan1 registers0 k mid × ((c : Command) → wants_in mid c ≡ wants_in s c)
   ready_for s st =
       let x = silent registers0 st.map s (unlisted m0 t0 scan0 registers0 st.map s st.represents) (sym st.space) sound.registers in
@@ -250,4 +250,8 @@ module _ (m0 : Store) (t0 : Table) (scan0 : Scan) (registers0 : List Parts) (spa
         (subst (λ (ws : List Parts). IsSound (contents_of m3 t3 scan3 ws space faults3 resident3 counts3) × Runs (contents_of m0 t0 scan0 registers0 space faults0 resident0 counts0) (contents_of m3 t3 scan3 ws space faults3 resident3 counts3) before after c r)
         (sym (with_items_is v registers3 (many ∙ count)))
         (goes_runs m0 m3 t0 t3 scan0 scan3 registers0 registers3 space faults0 faults3 resident0 resident3 counts0 counts3 before after c r sound (stepped_goes prepared marks) many (regions3 ∙ regions1) told
-        (λ e. keeps_allocating c (contents_of m0 t0 scan0 registers0 space faults0 resident0 counts0) (contents_of m3 t3 scan3 registers3 space faults3 resident3 counts3) scan1.done t1.placed all done_is placed_is scanned placed) settled pages))
+        (λ e. keeps_allocating c (contents_of m0 t0 scan0 registers0 space faults0 resident0 counts0) (contents_of m3 t3 scan3 registers3 space faults3 resident3 counts3) scan1.done t1.placed all done_is placed_is scanned placed) settled pages (λ none. absurd (pays_scan c all none))))
+
+-- a vector lent the words of the registers
+pub lent_words : {Z : Type 0} (v : Vec Parts Z) (registers registers3 : List Parts) (P : List Parts → List Parts → Type 0) → registers ≡ v.items → length registers3 ≡ v.len → P registers registers3 → P v.items (with_items v registers3).items
+lent_words v registers registers3 P is count x = subst (P v.items) (sym (with_items_is v registers3 count)) (subst (λ (ws : List Parts). P ws registers3) is x)

@@ -18,6 +18,7 @@ pub mod Growing
 pub mod Units
 pub mod Freed
 mod Looking
+mod Making
 mod Ordered
 mod Transporting
 pub mod Room

@@ -26,7 +26,7 @@ use Rattle.heap_collect.specs.Moments.{IsStanding}
 use Rattle.lisp_heap.specs.Contents.{Counts, contents_of, lists_of, store_of}
 use Rattle.lisp_heap.specs.Stands.{IsSound as IsSoundHeap}
 
--- What is represented looks at no marks
+-- What is represented doesn't depend on marks
 
 module _ (m : Store) (marks : ℕ → ℕ) where
   abbrev other : Store
@@ -93,7 +93,7 @@ marks_back m regions size count hold at word found high =
     let inside : at / 256 < 16 * length m.levels = omega arith in
     subst (λ (set : ℕ). HasLevel set (level_of_word m.levels word)) (same_mark m (at / 256) inside) (hold at word found high)
 
--- Both ways
+-- Conversely too
 
 pub listed : (m : Store) (t : Table) (scan : Scan) (registers : List Parts) (k : RoleMap) (s : State) → RepresentsAll m t scan registers k s → RepresentsAll (store_of (lists_of m)) t scan registers k s
 listed m t scan registers k s x = remarked m (λ page. slice_index (lists_of m).marks page) t scan registers k s x (marks_listed m t.regions x.represents.kept.ground.size x.represents.kept.ground.levels_size x.marks)

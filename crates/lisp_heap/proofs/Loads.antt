@@ -1,4 +1,4 @@
--- What a heap stands for while a world is loaded.
+-- What a heap represents while a world is loaded.
 use Rattle.std.proofs.Common.{◌≡◌, ℕ, ◌*◌, ◌≤◌, refl, sym, ◌∙◌, ap, subst, List, length}
 use Rattle.store_word.specs.Words.{Parts}
 use Rattle.store_word.specs.declared.space.Space.{Space}
@@ -22,7 +22,7 @@ module _ (m : Store) (t : Table) (scan : Scan) (registers : List Parts) (space :
   pub here : Stands old (opening (world_with world.space world.areas))
   here = subst (λ (x : Contents). Stands x (opening (world_with world.space world.areas))) (sym view) empty
 
-  -- what it stands on represents the world without objects
+  -- what it consists of represents the world without objects
   pub represents_empty : RepresentsWorld m t registers (emptied world)
   represents_empty = record { map = here.map; represents = (unlisted m t scan registers here.map (opening (emptied world)) here.represents).represents }
 
@@ -30,7 +30,7 @@ module _ (m : Store) (t : Table) (scan : Scan) (registers : List Parts) (space :
     abbrev new : Contents
     new = contents_of m' t' scan registers' space faults' resident' counts'
 
-    -- it stands for what is represented, since nothing is left to scan
+    -- it represents what its parts represent, since nothing remains to be scanned
     abbrev pub stands_loaded : (w : World) → w.space ≡ world.space → w.areas ≡ world.areas → RepresentsWorld m' t' registers' w → Stands new (opening w)
     stands_loaded w sizes areas x = record {
       map = x.map;
@@ -44,7 +44,7 @@ module _ (m : Store) (t : Table) (scan : Scan) (registers : List Parts) (space :
       kinds = x.represents.kept.agrees.kinds;
     }
 
-    -- and its conses stand as they were laid
+    -- and its conses have the layout that loading gave them
     pub grouped_loaded : RepresentsGroups m' t' registers' world → StandsGrouped new world
     grouped_loaded x = record { stands = stands_loaded world refl refl x.represents; grouped = x.grouped }
 

@@ -1,4 +1,4 @@
--- What a heap has that is looked at.
+-- The parts of a heap that calls look at.
 use Rattle.std.proofs.Common.{◌≡◌, ℕ, ◌*◌, true, false, List, length}
 use Rattle.store_word.specs.Words.{Parts}
 use Rattle.store_word.specs.declared.space.Space.{Space}

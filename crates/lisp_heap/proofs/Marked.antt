@@ -31,7 +31,7 @@ pages_unmarked t t' c h = record { at = 0; unmarked = λ page clean. inl (h page
 pub pages_same : {m m' : Store} {r : Reply} (t t' : Table) (c : Command) → m' ≡ m → MarksPages c r m t m' t'
 pages_same {m} {m'} {r} t t' c same = pages_unmarked t t' c (λ page clean. subst (λ (n : Store). n.marks page ≡ 0) (sym same) clean)
 
--- After steps that free regions
+-- After calls that free regions
 module _ (m m1 m2 : Store) (t t1 t2 : Table) (c : Command) (r : Reply) (frees : FreesAtMost m t m1 t1) (grows : OnlyGrows t1 t2) where
   gone : (region : ℕ) → IsFreed t t1 region → IsGone t t2 region
   gone region x = record { old = x.old; now = λ old. (let was = old-before grows old in x.free (stale was.0) was.1) }

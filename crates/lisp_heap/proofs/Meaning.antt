@@ -1,4 +1,4 @@
--- A heap that stands for a state has its meaning.
+-- A heap that represents a state has its meaning.
 use Rattle.word_graph.specs.lisp_meaning.State.{State}
 use Rattle.word_graph.specs.lisp_meaning.Stands.{Stands as Means}
 use Rattle.word_graph.proofs.lisp_meaning.Adequacy.{stands_under}

@@ -1,4 +1,4 @@
--- A heap that was just opened stands for the opening of its world.
+-- A heap that was just opened represents the opening of its world.
 use Rattle.std.proofs.Common.{◌≡◌, ℕ, ◌+◌, ◌*◌, ◌<◌, refl, sym, ◌∙◌, ap, subst, arith, List, length, get_or, replicate, Some}
 use Rattle.std.specs.Prelude.{Contains}
 use Rattle.std.proofs.lemmas.List.{get_or-replicate, length-map, length-replicate}

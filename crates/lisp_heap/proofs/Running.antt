@@ -6,6 +6,7 @@ use Rattle.std.proofs.lemmas.List.{with_items_is}
 use Rattle.store_word.specs.Words.{Parts}
 use Rattle.store_word.specs.declared.space.Space.{Space}
 use Rattle.lisp_graph.specs.declared.command.Command.{Command}
+use Rattle.lisp_graph.specs.declared.command.Command.TheVariants as C
 use Rattle.lisp_graph.specs.declared.reply.Reply.{Reply}
 use Rattle.lisp_graph.specs.declared.reply.Reply.TheVariants as R
 use Rattle.lisp_graph.specs.World.{IsSpace}
@@ -34,7 +35,7 @@ use Rattle.heap_state.proofs.Reached.{steps_bear}
 use Rattle.lisp_heap.specs.Contents.{Contents, Counts, contents_at, contents_of, counted}
 use Rattle.lisp_heap.specs.Costs.{done_at, placed_at}
 use Rattle.lisp_heap.specs.Marked.{MarksPages}
-use Rattle.lisp_heap.specs.Stands.{IsSound, Keeps, Runs, Stands, Told}
+use Rattle.lisp_heap.specs.Stands.{IsSound, Keeps, Runs, Stands, Told, scans_for}
 use Rattle.lisp_heap.proofs.Listed.{consistent, listed, unlisted}
 use Rattle.lisp_heap.proofs.Marked.{pages_listed, pages_marked}
 use Rattle.lisp_heap.proofs.Telling.{told_by}
@@ -44,7 +45,7 @@ use Rattle.lisp_heap.proofs.Worlds.{does_same}
 pub not_less : (n : ℕ) → n ≤ n
 not_less n = omega arith
 
--- What a command keeps that met a fault
+-- What a command that met a swap error keeps
 
 pub keeps_plain : (c : Command) (old new : Contents) → allocates c ≡ false → old.scan.done ≤ new.scan.done → old.table.placed ≤ new.table.placed → Keeps c old new
 keeps_plain c old new none done placed = record {
@@ -52,12 +53,20 @@ keeps_plain c old new none done placed = record {
   placed = subst (λ (b : Bool). (if b then placed_at old else old.table.placed) ≤ new.table.placed) (sym none) placed;
 }
 
--- behind its silent steps
+-- after its silent steps
 pub keeps_allocating : (c : Command) (old new : Contents) (done placed : ℕ) → allocates c ≡ true → done ≡ done_at old → placed ≡ placed_at old → done ≤ new.scan.done → placed ≤ new.table.placed → Keeps c old new
 keeps_allocating c old new done placed all done_is placed_is more_done more_placed = record {
   scanned = subst (λ (b : Bool). (if b then done_at old else old.scan.done) ≤ new.scan.done) (sym all) (subst (λ (n : ℕ). n ≤ new.scan.done) done_is more_done);
   placed = subst (λ (b : Bool). (if b then placed_at old else old.table.placed) ≤ new.table.placed) (sym all) (subst (λ (n : ℕ). n ≤ new.table.placed) placed_is more_placed);
 }
+
+-- an allocation may scan
+pub pays_scan : (c : Command) → allocates c ≡ true → scans_for c ≡ false → ⊥
+pays_scan (C.Cons to area car cdr) all none = cc
+pays_scan (C.List to area items) all none = cc
+pays_scan (C.Make to area code length) all none = cc
+pays_scan (C.Grow target length) all none = cc
+pays_scan c all none = cc
 
 -- What runs
 
@@ -68,12 +77,12 @@ module _ (m m' : Store) (t t' : Table) (scan scan' : Scan) (registers registers'
   abbrev new : Contents
   new = contents_of m' t' scan' registers' space faults' resident' counts'
 
-  -- whatever state it stood for, the definition goes on to one that it stands for then
+  -- from each state that it represented, the definition goes on to one that it represents then
   pub goes_runs : IsSound old → ((k : RoleMap) (s : State) → RepresentsAll m t scan registers k s → s.space ≡ space → t.kinds ≡ kinds_in s.areas → GoesTo m' t' scan' registers' s c r)
       → length registers' ≡ length registers → t'.regions ≡ t.regions → Told old new before after c r → (r ≡ R.Fault → Keeps c old new)
-      → (IsDone r → (i : ℕ) → IsTrue (reads c i) → IsSettled t' registers' i) → MarksPages c r m t m' t'
+      → (IsDone r → (i : ℕ) → IsTrue (reads c i) → IsSettled t' registers' i) → MarksPages c r m t m' t' → (scans_for c ≡ false → scan' ≡ scan)
       → IsSound new × Runs old new before after c r
-  goes_runs sound goes count regions told kept settled marks =
+  goes_runs sound goes count regions told kept settled marks still =
       let found = sound.stands in
       let next = stands found.0 found.1 in
       let sized : length m'.levels ≡ length m.levels = next.2.represents.represents.kept.ground.levels_size ∙ regions ∙ sym found.1.represents.represents.kept.ground.levels_size in
@@ -86,6 +95,7 @@ module _ (m m' : Store) (t t' : Table) (scan scan' : Scan) (registers registers'
           kept = kept;
           settled = settled;
           marks = pages_listed sized marks;
+          still = still;
         },
       )
     where
@@ -98,7 +108,7 @@ module _ (m m' : Store) (t t' : Table) (scan scan' : Scan) (registers registers'
             record { map = x.map; represents = listed m' t' scan' registers' x.map x.next x.represents; space = st.space ∙ sym sizes.space; kinds = x.represents.represents.kept.agrees.kinds },
           )
 
-  -- a step alone
+  -- a transition alone
   pub step_goes : MarksHold m' → IsSpace space → IsAllowed c → ((s : State) → s.space ≡ space → Silent s c s) → ((k : RoleMap) (s : State) → RepresentsAll m t scan registers k s → s.space ≡ space → StepsTo m' t' scan' registers' s c r)
       → (k : RoleMap) (s : State) → RepresentsAll m t scan registers k s → s.space ≡ space → t.kinds ≡ kinds_in s.areas → GoesTo m' t' scan' registers' s c r
   step_goes marks sizes allowed silent steps k s b same are =
@@ -116,13 +126,13 @@ module _ (m m' : Store) (t t' : Table) (scan scan' : Scan) (registers registers'
   pub step_runs : IsSound (contents_of m t scan registers space faults resident counts) → MarksHold m' → IsAllowed c → allocates c ≡ false
       → ((k : RoleMap) (s : State) → RepresentsAll m t scan registers k s → s.space ≡ space → StepsTo m' t' scan' registers' s c r)
       → length registers' ≡ length registers → t'.regions ≡ t.regions → Told (contents_of m t scan registers space faults resident counts) (contents_of m' t' scan' registers' space faults' resident' counts') before after c r → (r ≡ R.Fault → (scan.done ≤ scan'.done) × (t.placed ≤ t'.placed))
-      → (IsDone r → (i : ℕ) → IsTrue (reads c i) → IsSettled t' registers' i) → MarksPages c r m t m' t'
+      → (IsDone r → (i : ℕ) → IsTrue (reads c i) → IsSettled t' registers' i) → MarksPages c r m t m' t' → (scans_for c ≡ false → scan' ≡ scan)
       → IsSound (contents_of m' t' scan' registers' space faults' resident' counts') × Runs (contents_of m t scan registers space faults resident counts) (contents_of m' t' scan' registers' space faults' resident' counts') before after c r
-  step_runs sound marks allowed none steps count regions told kept settled pages =
+  step_runs sound marks allowed none steps count regions told kept settled pages still =
       goes_runs m m' t t' scan scan' registers registers' space faults faults' resident resident' counts counts' before after c r sound
       (step_goes m m' t t' scan scan' registers registers' space faults faults' resident resident' counts counts' before after c r marks sound.sizes allowed (λ s same. not_silent s c none) steps)
       count regions told
-      (λ e. keeps_plain c (contents_of m t scan registers space faults resident counts) (contents_of m' t' scan' registers' space faults' resident' counts') none (kept e).0 (kept e).1) settled pages
+      (λ e. keeps_plain c (contents_of m t scan registers space faults resident counts) (contents_of m' t' scan' registers' space faults' resident' counts') none (kept e).0 (kept e).1) settled pages still
 
 -- what is performed by one
 module _ (m m' : Store) (t t' : Table) (scan : Scan) (registers registers' : List Parts) (space : Space) (faults faults' : ℕ) (resident resident' : List ℕ) (counts counts' : Counts) (before after : ℕ) (c : Command) (r : Reply) where
@@ -132,9 +142,9 @@ module _ (m m' : Store) (t t' : Table) (scan : Scan) (registers registers' : Lis
   performs_runs law sound marks allowed none performs told =
       step_runs m m' t t' scan scan registers registers' space faults faults' resident resident' counts counts' before after c r sound marks allowed none
       (λ k s b same. law m m' t t' scan registers registers' k s c r 0 b.represents b.scans b.reach (pays_nothing s c none) performs)
-      performs.others.count performs.preserves.grows.form.regions (told_by (contents_of m t scan registers space faults resident counts) (contents_of m' t' scan registers' space faults' resident' counts') before after c r told) (λ e. (not_less scan.done, performs.preserves.grows.placed)) performs.settled (pages_marked m m' t t' c r performs.preserves.grows performs.marks)
+      performs.others.count performs.preserves.grows.form.regions (told_by (contents_of m t scan registers space faults resident counts) (contents_of m' t' scan registers' space faults' resident' counts') before after c r told) (λ e. (not_less scan.done, performs.preserves.grows.placed)) performs.settled (pages_marked m m' t t' c r performs.preserves.grows performs.marks) (λ _. refl)
 
--- the registers stand in a vector, and are lent
+-- the registers are in a vector, and are lent
 module _ {M Z : Type 0} {g : Ghosts M} (ground ground' : Ground M g) {scan : Scan} (v : Vec Parts Z) {registers registers' : List Parts} {space : Space} {before after : ℕ} (c : Command) {r : Reply} where
   pub lent_runs : registers ≡ v.items → length registers ≡ v.len → PerformsIsStep → MarksHold (g.seen ground'.mem) → IsSound (contents_at ground scan v.items space) → IsAllowed c → allocates c ≡ false
       → Performs (g.seen ground.mem) ground.table registers (g.seen ground'.mem) ground'.table registers' c r → TellsIf (view ground).mem (view ground').mem before after (is_fault r)

@@ -1,4 +1,4 @@
--- A register gets a value that is no reference.
+-- A register gets a value that isn't a reference.
 use Rattle.std.proofs.Common.{◌≡◌, ℕ, ◌<◌, ◌⊎◌, inr, refl, List, length, slice_set, Some, arith}
 use Rattle.store_word.specs.Words.{Parts}
 use Rattle.lisp_graph.specs.declared.command.Command.TheVariants as C

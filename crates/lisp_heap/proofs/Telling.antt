@@ -1,4 +1,4 @@
--- What commands tell of the memory.
+-- What commands report of the memory.
 use Rattle.std.proofs.Common.{◌≡◌, ◌≢◌, ℕ, ◌+◌, ◌-◌, ◌*◌, ◌≤◌, refl, sym, ◌∙◌, ap, arith, Bool, true, false, length}
 use Rattle.std.specs.Prelude.{Result, Ok, Err, IfOk, OnOk}
 use Rattle.store_word.specs.Faults.{TellsFaults}
@@ -11,7 +11,7 @@ use Rattle.mem_port.specs.Store.{Store}
 use Rattle.mem_port.specs.View.{MemoryView, TellsIf}
 use Rattle.word_graph.specs.lisp_meaning.Run.{allocates}
 use Rattle.heap_state.specs.Reads.{is_fault, reply_of}
-use Rattle.heap_collect.specs.Silent.{collects_alone}
+use Rattle.heap_collect.specs.Silent.{reclaims_alone}
 use Rattle.lisp_heap.specs.Contents.{Contents}
 use Rattle.lisp_heap.specs.Costs.{Takes}
 use Rattle.lisp_heap.specs.Stands.{Told, frees_pages}
@@ -21,7 +21,7 @@ use Rattle.lisp_heap.specs.Words.{paged}
 abbrev pub memory_of : Store → Contents → MemoryView
 memory_of store heap = record { store = store; faults = heap.faults; taken = heap.counts.taken; resident = length heap.resident }
 
--- a reply is a fault, or its test says so
+-- a reply is `fault`, or its test says that it isn't
 pub not_fault : (r : Reply) → r ≢ R.Fault → is_fault r ≡ false
 not_fault R.Fault other = absurd (other refl)
 not_fault r other = refl
@@ -36,7 +36,7 @@ told_by old new before after c r x = record {
   gone = λ frees. x.gone;
 }
 
--- nothing was asked of the memory
+-- the memory wasn't used
 pub nothing_asked : (v : MemoryView) (steps : ℕ) (faulted : Bool) → faulted ≡ false → TellsIf v v steps steps faulted
 nothing_asked v steps faulted none = record {
   later = omega arith;
@@ -58,7 +58,7 @@ told_still old new steps c r faults taken none resident = record {
   gone = λ frees. (let a = resident frees in omega arith);
 }
 
--- pages were put out
+-- pages were evicted
 pub told_paged : (old new : Contents) (count : ℕ) (evicted : Result ℕ SwapFault) → TellsFaults old.faults new.faults evicted → new.counts.taken ≡ old.counts.taken → Told old new 0 0 (C.PageOut count) (paged evicted)
 told_paged old new count (Ok n) x taken = record {
   later = x.later;
@@ -77,7 +77,7 @@ told_paged old new count (Err fault) x taken = record {
   gone = λ frees. absurd (cc);
 }
 
--- one call after another, the first of which met no fault
+-- one call after another, the first of which met no swap error
 pub tells_then : {v v1 v2 : MemoryView} {before mid after : ℕ} {faulted : Bool} → TellsIf v v1 before mid false → TellsIf v1 v2 mid after faulted → TellsIf v v2 before after faulted
 tells_then x y =
     let same = x.quiet refl in
@@ -91,8 +91,8 @@ tells_then x y =
       gone = (let a = y.gone in omega arith);
     }
 
--- an allocation, behind its silent steps
-pub told_behind : {store' : Store} (old new : Contents) (v : MemoryView) (before after : ℕ) (c : Command) (r : Reply) → allocates c ≡ true → v.faults ≡ old.faults → v.taken ≡ old.counts.taken → (collects_alone old.space ≡ false → v.resident ≡ length old.resident)
+-- an allocation, after its silent steps
+pub told_behind : {store' : Store} (old new : Contents) (v : MemoryView) (before after : ℕ) (c : Command) (r : Reply) → allocates c ≡ true → v.faults ≡ old.faults → v.taken ≡ old.counts.taken → (reclaims_alone old.table old.scan old.space ≡ false → v.resident ≡ length old.resident)
     → TellsIf v (memory_of store' new) before after (is_fault r) → Told old new before after c r
 told_behind old new v before after c r all faults taken quiet x = record {
   later = (let a = x.later in omega arith);
@@ -103,14 +103,14 @@ told_behind old new v before after c r all faults taken quiet x = record {
   gone = λ frees. (let a = x.gone in let b = quiet (alone c all frees) in omega arith);
 }
   where
-    alone : (c : Command) → allocates c ≡ true → frees_pages c old ≡ false → collects_alone old.space ≡ false
+    alone : (c : Command) → allocates c ≡ true → frees_pages c old ≡ false → reclaims_alone old.table old.scan old.space ≡ false
     alone (C.Cons to area car cdr) all frees = frees
     alone (C.List to area items) all frees = frees
     alone (C.Make to area code length) all frees = frees
     alone (C.Grow target length) all frees = frees
     alone c all frees = absurd (cc)
 
--- what a command took, if it was answered
+-- the memory accesses of a command, if it returned a reply
 pub cost_of : {A : Type 0} (answer : Result Reply SwapFault) → OnOk answer A → reply_of answer ≢ R.Fault → A
 cost_of (Ok reply) cost other = cost
 cost_of (Err fault) cost other = absurd (other refl)
@@ -119,7 +119,7 @@ pub takes_by : {old new : Contents} {before after words steps : ℕ} (answer : R
     → Takes old new before after words steps r
 takes_by answer r is few cost = record { few = few; cost = λ other. cost_of answer cost (λ e. other (is ∙ e)) }
 
--- one that makes something and was answered is fine
+-- the reply to one that makes something is `ok`, if the swap didn't fail
 pub made_sure : (answer : Result Reply SwapFault) → reply_of answer ≡ R.Fine → reply_of answer ≢ R.Fault
 made_sure answer fine fault = let bad : R.Fine ≡ R.Fault = sym fine ∙ fault in absurd (cc)
 

@@ -15,11 +15,13 @@ use Rattle.heap_state.specs.transporter.Relocations.{Moves, Relocates}
 use Rattle.heap_state.specs.transporter.Transports.{MovesFrom, there, moved as from_old}
 use Rattle.heap_state.specs.transporter.Writes.{Writes}
 use Rattle.heap_state.specs.transporter.declared.parcel.Parcel.{Parcel}
+use Rattle.heap_commands.specs.Moves.{MovesOrLays}
+use Rattle.heap_commands.specs.cdr_lists.Parts.{LaysPair}
 use Rattle.lisp_heap.specs.Contents.{lists_of}
 use Rattle.lisp_heap.proofs.Listed.{same_mark}
 use Rattle.lisp_heap.proofs.Ordered.{in_lists, unmarked}
 
--- where a page without marks gets none, it gets none in the list
+-- if a page without marks gets none, it gets none in the list
 clean_listed : (m m' : Store) (page : ℕ) → length m'.levels ≡ length m.levels → (m.marks page ≡ 0 → m'.marks page ≡ 0) → slice_index (lists_of m).marks page ≡ 0 → slice_index (lists_of m').marks page ≡ 0
 clean_listed m m' page same stays clean = elim (cases_lt page (16 * length m.levels)) [
   | inl low ↦ unmarked m' page (stays (sym (same_mark m page low) ∙ clean))
@@ -97,3 +99,37 @@ transported_listed (moved x f) = moved (transported_listed x) (from_listed f)
 
 pub most_listed : {m m' : Store} {t t' : Table} {most : ℕ} → MovesAtMost m t m' t' most → MovesAtMost (in_lists m) t (in_lists m') t' most
 most_listed x = record { count = x.count; few = x.few; moves = transported_listed x.moves }
+
+-- A cell that became a pair
+
+lays_listed : {m m' : Store} {t t' : Table} {cell : ℕ} {car cdr : Parts} → LaysPair m t m' t' cell car cdr → LaysPair (in_lists m) t (in_lists m') t' cell car cdr
+lays_listed x = record {
+  room = x.room;
+  opens = x.opens;
+  area = x.area;
+  level = x.level;
+  needed = x.needed;
+  class = x.class;
+  at = x.at;
+  end = x.end;
+  commit = x.commit;
+  first = x.first;
+  second = x.second;
+  forward = x.forward;
+  rest = x.rest;
+}
+
+pub laid_listed : {m m' : Store} {t t' : Table} {target cdr : Parts} → MovesOrLays m t m' t' target cdr → MovesOrLays (in_lists m) t (in_lists m') t' target cdr
+laid_listed (inl x) = inl (most_listed x)
+laid_listed (inr x) = inr (record {
+  ready = in_lists x.ready;
+  table = x.table;
+  settled = most_listed x.settled;
+  cell = x.cell;
+  place = record { reference = x.place.reference; is = x.place.is; final = x.place.final; last = record { inside = x.place.last.inside; no_forward = x.place.last.no_forward } };
+  no_pair = x.no_pair;
+  between = in_lists x.between;
+  room = x.room;
+  car = most_listed x.car;
+  lays = lays_listed x.lays;
+})

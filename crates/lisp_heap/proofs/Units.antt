@@ -1,4 +1,4 @@
--- Units that are left, and those that were scanned.
+-- Units that remain, and those that were scanned.
 use Rattle.std.proofs.Common.{◌≡◌, ℕ, zero, suc, ◌+◌, ◌<◌, ◌≤◌, ◌⊎◌, inl, inr, Bool, true, false, if◌then◌else◌, List, length, refl, sym, ◌∙◌, ap, subst, arith}
 use Rattle.std.proofs.lemmas.Bool.{cases_Bool}
 use Rattle.store_word.specs.Words.{Parts}
@@ -21,7 +21,7 @@ use Rattle.lisp_heap.specs.Costs.{ScansSome, done_at, left_at, left_in, placed_a
 use Rattle.lisp_heap.specs.Stands.{IsSound, Stands}
 use Rattle.lisp_heap.specs.Units.{IsOwing, IsUnfinished}
 
--- Nothing is left
+-- No unit remains
 
 none_counted : (f : ℕ → ℕ) (n : ℕ) → ((i : ℕ) → f i ≡ 0) → total f n ≡ 0
 none_counted f zero none = total-zero f
@@ -46,7 +46,7 @@ nothing m t scan registers over =
 pub nothing_left : (heap : Contents) → IsSound heap → heap.scan.over ≡ true → left_in heap ≡ 0
 nothing_left heap sound over = nothing (store_of heap.memory) heap.table heap.scan heap.registers over
 
--- Something is left
+-- A unit remains
 
 module _ (m : Store) (t : Table) (scan : Scan) (registers : List Parts) (k : RoleMap) (s : M.Store) (going : scan.over ≡ false) where
   clean : (p : Phase) → Scans m t scan registers k s p 0 → Clean m t scan registers

@@ -1,4 +1,4 @@
--- A command that allocates nothing pays nothing, and no silent step comes before it.
+-- A command that allocates nothing pays nothing, and no silent step precedes it.
 use Rattle.std.proofs.Common.{◌≡◌, ℕ, refl, sym, ◌∙◌, ap, subst, Bool, false, ◌&&◌, List, None, length, nat_lt}
 use Rattle.std.specs.Prelude.{MatchBool}
 use Rattle.std.proofs.lemmas.Bool.{cond_both}
@@ -19,7 +19,7 @@ use Rattle.word_graph.specs.lisp_meaning.Run.{Silent, SilentFlip, SilentReclaim,
 use Rattle.heap_state.specs.StepsTo.{PaysAhead}
 use Rattle.heap_state.specs.Wanting.{paid_wanting}
 
--- What wants nothing
+-- What requires no charge
 
 cons_body : (body : Body) (found : Value → Value → Effect) (other : Effect) → ((car cdr : Value) → (found car cdr).wanted ≡ None) → other.wanted ≡ None → (when_cons_body body found other).wanted ≡ None
 cons_body (B.Cons car cdr) found other x y = x car cdr

@@ -1,4 +1,4 @@
--- What a walk over a heap owes to the words that are told, and what it may tell.
+-- What a walk over a heap requires of the words that it is given, and what it may return.
 use Rattle.std.proofs.Common.{◌≡◌, ℕ, ◌+◌, ◌<◌, ◌≤◌, true, refl, sym, ◌∙◌, ap, subst, arith, List, length, get_or, slice_get, Some, Result, Ok, Err}
 use Rattle.std.specs.Result.{IfOk}
 use Rattle.std.proofs.lemmas.Option.{get_or_from_slice_get, slice_get_read}
@@ -24,12 +24,12 @@ use Rattle.lisp_heap.specs.Stands.{Stands, IsSound}
 use Rattle.lisp_heap.specs.Walking.{graph_in, DumpIsOfState, CensusIsOfState, StandsAsBefore}
 use Rattle.lisp_heap.proofs.Listed.{listed, read_all, unlisted}
 
--- for each fault of a read at most one page fewer is resident
+-- for each swap error of a read at most one page fewer is resident
 pub room_by_faults : {T E : Type 0} (faults faults' before now : ℕ) (result : Result T E) → TellsFaults faults faults' result → LeavesRoom before now result → before + faults ≤ now + faults'
 room_by_faults faults faults' before now (Ok x) cause room = (let a = room.answered in let b = cause.later in omega arith)
 room_by_faults faults faults' before now (Err e) cause room = (let a = room.failed in let b = cause.failed in omega arith)
 
--- the registers have the values of a state for which the heap stands
+-- the registers have the values of a state that the heap represents
 stands_mean : (h : Contents) (s : State) (st : Stands h s) → MeanValues st.map h.registers s.registers
 stands_mean h s st = record { count = st.represents.represents.count; each = st.represents.represents.means }
 
@@ -39,7 +39,7 @@ dump_is_of_state h s st space areas text dump = dump_shown (store_of h.memory) h
 pub census_is_of_state : CensusIsOfState
 census_is_of_state h s st rows census = census_shown (store_of h.memory) h.table h.registers st.map s st.represents.represents.kept (stands_mean h s st) rows census
 
--- so it can be walked over
+-- so a walk over it is possible
 stands_walk : (h : Contents) (s : State) → Stands h s → CanWalk (store_of h.memory) h.table h.registers
 stands_walk h s st = record {
   map = st.map;
@@ -54,7 +54,7 @@ stands_walk h s st = record {
 
 module _ (m : Store) (t : Table) (scan : Scan) (registers : List Parts) (space : Space) (faults : ℕ) (resident : List ℕ) (counts : Counts) (sound : IsSound (contents_of m t scan registers space faults resident counts)) where
   module _ (m' : Store) (faults' : ℕ) (resident' : List ℕ) (counts' : Counts) (stays : StoresNothing m m') (marks : MarksHold m') where
-    -- where nothing was stored it stands for what it stood for,
+    -- if nothing was stored it represents the same states,
     stands_still : (s : State) → Stands (contents_of m t scan registers space faults resident counts) s → Stands (contents_of m' t scan registers space faults' resident' counts') s
     stands_still s st = record {
       map = st.map;
@@ -72,7 +72,7 @@ module _ (m : Store) (t : Table) (scan : Scan) (registers : List Parts) (space :
       regions = sound.regions;
     }
 
-  -- and is sound still
+  -- and is still sound
   pub sound_after : (m' : Store) (t' : Table) (faults' : ℕ) (resident' : List ℕ) (counts' : Counts) → StoresNothing m m' → t' ≡ t → MarksHold m' → IsSound (contents_of m' t' scan registers space faults' resident' counts')
   sound_after m' t' faults' resident' counts' stays same marks =
       subst (λ (x : Table). IsSound (contents_of m' x scan registers space faults' resident' counts')) (sym same) (sound_still m' faults' resident' counts' stays marks)
@@ -86,7 +86,7 @@ module _ (m : Store) (t : Table) (scan : Scan) (registers : List Parts) (space :
     same_graph m' t' faults' resident' counts' stays same =
         ap (λ (x : Table). graph_in (contents_of m' x scan registers space faults' resident' counts')) same ∙ reads_show_the_same m m' t registers stays ∙ ap graph_in view
 
-    -- and stands for what it stood for, in the same world
+    -- and it represents the same states, in the same world
     pub stands_as_before : (m' : Store) (t' : Table) (faults' : ℕ) (resident' : List ℕ) (counts' : Counts) → StoresNothing m m' → t' ≡ t → MarksHold m' → length resident + faults ≤ length resident' + faults' → StandsAsBefore h (contents_of m' t' scan registers space faults' resident' counts')
     stands_as_before m' t' faults' resident' counts' stays same marks room =
         subst (λ (x : Contents). StandsAsBefore x (contents_of m' t' scan registers space faults' resident' counts')) view

@@ -1,4 +1,4 @@
--- No step changes the world.
+-- No transition changes the world.
 use Rattle.std.proofs.Common.{◌≡◌, ℕ, ◌*◌, ◌≤◌, refl, ◌∙◌, ap, inl, inr, ◌⊎◌, Option, Some, None}
 use Rattle.std.proofs.lemmas.Bool.{cond_both}
 use Rattle.lisp_graph.specs.declared.command.Command.{Command}
@@ -31,7 +31,7 @@ settled s new aim x = record { space = x.space; areas = x.areas }
 flipped_so : (s new : State) (what : Condemn) (pages : ℕ) → new ≡ flipped s what pages → SameSizes s new
 flipped_so s new what pages e = record { space = ap (λ (x : State). x.space) e; areas = ap (λ (x : State). x.areas) e }
 
--- Steps
+-- Transitions
 
 ends : (s : State) (c : Command) (r : Reply) (mid : State) (a : Answer) (new : State) → SameSizes s mid → Ends s c r mid a new → SameSizes s new
 ends s c r mid a new x e = record { space = ap (λ (x : State). x.space) e.3 ∙ x.space; areas = ap (λ (x : State). x.areas) e.3 ∙ x.areas }

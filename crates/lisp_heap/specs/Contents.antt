@@ -24,7 +24,7 @@ lists_of s = record { words = s.words; levels = s.levels; marks = map s.marks (r
 abbrev pub store_of : Lists → Store
 store_of lists = record { words = lists.words; levels = lists.levels; marks = λ page. slice_index lists.marks page; top = lists.top }
 
--- what is counted of a memory: the pages on its swap device with the page calls, and how many words were taken
+-- the counts of a memory: the pages on its swap device with the page calls, and the number of memory accesses
 pub record Counts : Type 0 where
   pub swaps : Swaps
   pub taken : ℕ
@@ -33,7 +33,7 @@ module _ {M : Type 0} (g : Ghosts M) where
   abbrev pub counted : M → Counts
   counted it = record { swaps = g.swaps it; taken = g.taken it }
 
--- its memory, the table of its regions and what is left to scan, the words of its registers, the sizes of its world, how often its swap failed, the resident pages, the least recently used first, and what is counted of its memory
+-- its memory, the table of its regions and what remains to be scanned, the words of its registers, the sizes of its world, how often its swap failed, the resident pages, the least recently used first, and the counts of its memory
 pub record Contents : Type 0 where
   pub memory : Lists
   pub table : Table

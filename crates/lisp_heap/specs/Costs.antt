@@ -1,4 +1,4 @@
--- How many units are left to scan, and what an allocation scans and takes.
+-- How many units remain to be scanned, and what an allocation scans and takes.
 use Rattle.std.specs.Prelude.{◌≡◌, ◌≢◌, ℕ, ◌+◌, ◌-◌, ◌*◌, ◌<◌, ◌≤◌, ◌⊎◌, if◌then◌else◌, false, true, Option}
 use Rattle.lisp_graph.specs.declared.command.Command.{Command}
 use Rattle.lisp_graph.specs.declared.reply.Reply.{Reply}
@@ -21,36 +21,36 @@ done_at heap = done_from heap.table heap.scan heap.space
 abbrev pub placed_at : Contents → ℕ
 placed_at heap = placed_from heap.table heap.scan heap.space
 
--- the registers and the words that are left to scan: none where the scan is over, and none where no collection runs
+-- the registers and the words that remain to be scanned: none if the scan has finished, and none if no collection runs
 abbrev pub left_in : Contents → ℕ
 left_in heap = units_of (store_of heap.memory) heap.scan heap.table heap.registers
 
--- those that are left when an allocation begins; where a flip comes by itself, those that there are at its start
+-- those that remain when an allocation begins; if a silent flip occurs, those that there are at its start
 abbrev pub left_at : Contents → Contents → ℕ
 left_at old new = if flips_alone old.table old.scan old.space then new.scan.begun else left_in old
 
--- So many units were asked for, of so many that were left when so many were scanned and so many words were placed. As many were scanned, or all that were left, those among them that were placed meanwhile.
+-- `limit` units were requested, when `before` units remained, `done` were scanned and `placed` words were placed. This number was scanned, or all that remained, including words placed meanwhile.
 pub record ScansSome (new : Contents) (before done placed limit : ℕ) : Type 0 where
   pub some : done ≤ new.scan.done
   pub amount : (new.scan.done ≡ done + limit) ⊎ ((new.scan.done < done + limit) × (left_in new ≡ 0))
-  -- while the scan isn't over as many are left as were and words were placed, less those that were scanned
+  -- while the scan hasn't finished, the units that remain are those that remained before and the words placed, less the units scanned
   pub left : new.scan.over ≡ false → left_in new + (new.scan.done + placed) ≡ before + (done + new.table.placed)
 
--- An allocation with so many steps before and after it was made, with this charge. It made so many words and read so many registers.
+-- An allocation with this charge was made, with these counts of memory accesses before and after it. It made `words` words and read `read` registers.
 pub record Costs (old new : Contents) (before after charge words read : ℕ) : Type 0 where
-  -- so many units were scanned for each word charged as the rate says, or all that were left
+  -- the units scanned for each word charged are those that the rate requires, or all that remained
   pub scans : ScansSome new (left_at old new) (done_at old) (placed_at old) (old.space.rate * charge)
-  -- at most 128 steps a word charged, 128 a unit that the rate says, and 8 a word copied
+  -- at most 128 memory accesses a word charged, 128 a unit that the rate requires, and 8 a word copied
   pub bound : after ≤ before + 128 * charge + 128 * (old.space.rate * charge) + 8 * (new.table.placed - (placed_at old + words))
   -- at most 2,048 words are copied for each unit scanned and for each register read
   pub copied : new.table.placed ≤ placed_at old + words + 2048 * ((new.scan.done - done_at old) + read)
 
--- refused, as the quota leaves too little
+-- refused, as the quota allows too little
 abbrev pub IsRefused : Reply → Type 0
 IsRefused (R.Exhausted area charged wanted quota) = Unit {0}
 IsRefused _ = ⊥
 
--- A command with so many steps before and after it was refused: no unit was scanned, no word placed, and no step taken.
+-- A command, with these counts of memory accesses before and after it, was refused: no unit was scanned, no word placed, and no memory accessed.
 pub record CostsNothing (old new : Contents) (before after : ℕ) : Type 0 where
   pub done : new.scan.done ≡ done_at old
   pub placed : new.table.placed ≡ placed_at old
@@ -61,22 +61,22 @@ pub record Makes (old new : Contents) (before after charge words read : ℕ) (r 
   pub costs : r ≡ R.Fine → Costs old new before after charge words read
   pub refused : IsRefused r → CostsNothing old new before after
 
--- A command with so many steps before and after it, and this reply, placed at most so many words; and if no fault came it took at most so many steps, and 4 for each word placed.
+-- A command with this reply, and these counts of memory accesses before and after it, placed at most `words` words; and if no swap error occurred it took at most `steps` memory accesses, and 4 for each word placed.
 pub record Takes (old new : Contents) (before after words steps : ℕ) (r : Reply) : Type 0 where
   pub few : new.table.placed ≤ old.table.placed + words
   pub cost : r ≢ R.Fault → after ≤ before + 4 * (new.table.placed - old.table.placed) + steps
 
--- What `grow` takes, by what it wants charged
+-- What `grow` takes, by the charge that it requires
 
--- what a command wants charged in a state
+-- the charge that a command requires in a state
 abbrev pub wants_in : State → Command → Option Wanted
 wants_in s c = wanted_by (effect (graph_of s) c)
 
--- A command with so many steps before and after it looked at one register, and nothing was to be charged.
+-- A command, with these counts of memory accesses before and after it, looked at one register, and requires no charge.
 pub record CostsLook (old new : Contents) (before after : ℕ) : Type 0 where
   -- no unit was scanned
   pub done : new.scan.done ≡ done_at old
-  -- at most 59 steps, and 4 a word copied
+  -- at most 59 memory accesses, and 4 a word copied
   pub bound : after ≤ before + 59 + 4 * (new.table.placed - placed_at old)
   -- at most 2,048 words are copied
   pub copied : new.table.placed ≤ placed_at old + 2048
@@ -88,14 +88,14 @@ pub record LookCosts (scan scan' : Scan) (t t' : Table) (before after : ℕ) : T
   pub bound : after ≤ before + 59 + 4 * (t'.placed - t.placed)
   pub copied : t'.placed ≤ t.placed + 2048
 
--- After a call with this reply no unit and no word is told less than before it, what is over stays over, and it is the same collection where the block grew.
+-- After a call with this reply the counts of units and words are no less than before it, a scan that had finished still has, and it is the same collection if the block grew.
 pub record ScanGoesOn (scan scan' : Scan) (t t' : Table) (r : Reply) : Type 0 where
   pub some : scan.done ≤ scan'.done
   pub begun : r ≡ R.Fine → scan'.begun ≡ scan.begun
   pub stays : scan.over ≡ true → scan'.over ≡ true
   pub grows : t.placed ≤ t'.placed
 
--- A block grew after the silent steps, and was charged so much; so many registers were read for it. So many units were scanned as the rate says for the charge, or all that were left.
+-- A block grew after the silent steps, with this charge; `read` registers were read for it. The units scanned are those that the rate requires for the charge, or all that remained.
 pub record Spends (scan scan' : Scan) (t t' : Table) (rate charge fixed read before after : ℕ) : Type 0 where
   pub some : 1 ≤ charge
   pub amount : Amount scan scan' (rate * charge)

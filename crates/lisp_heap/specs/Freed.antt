@@ -1,4 +1,4 @@
--- What areas are charged when a collection has ended.
+-- The accounts of areas when a collection has ended.
 use Rattle.std.specs.Prelude.{◌≡◌, ℕ, true}
 use Rattle.word_graph.specs.lisp_meaning.State.{Collection, Running, State}
 use Rattle.word_graph.specs.lisp_meaning.Flip.{Settles}
@@ -7,7 +7,7 @@ use Rattle.word_graph.specs.lisp_meaning.Run.{SilentReclaim}
 use Rattle.lisp_heap.specs.Contents.{Contents}
 use Rattle.lisp_heap.specs.Stands.{Stands}
 
--- A state in which a collection ran, and one for which the heap stands, in which it has settled; each area is charged what it was, less what went, and at most what is retained.
+-- In a state a collection ran, and the heap represents one that follows its reclaim; each account is what it was, less what was freed, and at most what is retained.
 pub record Reclaimed (new : Contents) (s : State) : Type 0 where
   pub collection : Collection
   pub next : State
@@ -16,6 +16,6 @@ pub record Reclaimed (new : Contents) (s : State) : Type 0 where
   pub stands : Stands new next
   pub retains : (area : ℕ) → Retains s collection.aim next area
 
--- so it is by a reclaim that no command asked for, too
+-- the same for a reclaim that no command requested
 abbrev pub SilentRetains : Type 0
 SilentRetains = (s mid : State) (c : Collection) → s.phase ≡ Running c → c.over ≡ true → SilentReclaim s s.phase mid → (area : ℕ) → Retains s c.aim mid area

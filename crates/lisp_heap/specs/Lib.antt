@@ -5,8 +5,11 @@ pub mod Marked
 pub mod Stands
 pub mod Loaded
 pub mod Costs
+pub mod Moves
 pub mod Admits
 pub mod Units
+pub mod Making
+pub mod Growth
 pub mod Freed
 pub mod Room
 pub mod Walking

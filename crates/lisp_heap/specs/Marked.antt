@@ -11,24 +11,24 @@ use Rattle.heap_state.specs.transporter.Marking.{IsForward}
 use Rattle.heap_state.specs.transporter.Settling.{HasOld}
 use Rattle.heap_state.specs.transporter.obj_layout.Forwards.{word_at}
 
--- a region was old and isn't any more: what stood there is gone
+-- a region was old and isn't any more: what was in it is gone
 pub record IsGone (t t' : Table) (region : ℕ) : Type 0 where
   pub old : IsOld t region
   pub now : IsOld t' region → ⊥
 
--- the word at an address was placed: behind what was used of its region, or anywhere in one that was old
+-- the word at an address was placed: past the used end of its region, or anywhere in one that was old
 pub record WasPlaced (t t' : Table) (a : ℕ) : Type 0 where
   pub past : (used_of t (a / 4096) ≤ a % 4096) ⊎ IsGone t t' (a / 4096)
   pub used : a % 4096 < used_of t' (a / 4096)
 
--- a word may have given marks to its page: it was placed, it became a forward, or it lost an old address; or it has an address of level 1 or more, where a command that stores into an object met no fault
+-- a word may have given marks to its page: it was placed, it became a forward, or it lost an old address; or it has an address of level 1 or more, if a command that stores into an object met no swap error
 pub data HasMarked (c : Command) (r : Reply) (at : ℕ) (words : List Parts) (t : Table) (words' : List Parts) (levels' : List ℕ) (t' : Table) (a : ℕ) : Type 0 where
   by_place : WasPlaced t t' a → HasMarked c r at words t words' levels' t' a
   by_forward : (IsForward (word_at words a) → IsGone t t' (a / 4096)) → IsForward (word_at words' a) → HasMarked c r at words t words' levels' t' a
   by_settling : HasOld t' (word_at words a) → (HasOld t' (word_at words' a) → ⊥) → HasMarked c r at words t words' levels' t' a
   by_storing : stores c ≡ true → a ≡ at → (r ≢ R.Fault → 0 < level_of_word levels' (word_at words' a)) → HasMarked c r at words t words' levels' t' a
 
--- No page without marks got any but by such a word of it; at most one word was stored into an object
+-- A page without marks got some only from such a word of it; at most one word was stored into an object
 pub record MarksPages (c : Command) (r : Reply) (m : Store) (t : Table) (m' : Store) (t' : Table) : Type 0 where
   pub at : ℕ
   pub unmarked : (page : ℕ) → m.marks page ≡ 0 → (m'.marks page ≡ 0) ⊎ ((a : ℕ) × (a / 256 ≡ page) × HasMarked c r at m.words t m'.words m'.levels t' a)

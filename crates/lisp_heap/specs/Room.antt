@@ -11,7 +11,7 @@ use Rattle.word_graph.specs.lisp_ground.Image.{ground_image}
 use Rattle.lisp_heap.specs.Contents.{Contents, store_of}
 use Rattle.lisp_heap.specs.Stands.{Stands}
 
--- its memory and its table are what a place is asked of
+-- what placing an object requires of its memory and its table
 pub record IsPlaceable (heap : Contents) : Type 0 where
   pub room : RoomRule heap.table
   pub ground : IsGround (store_of heap.memory) heap.table

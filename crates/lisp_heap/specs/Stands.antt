@@ -1,4 +1,4 @@
--- What it means that a heap stands for a state.
+-- What it means that a heap represents a state.
 use Rattle.std.specs.Prelude.{◌≡◌, ◌≢◌, ◌+◌, ◌≤◌, ◌<◌, ℕ, Bool, true, false, ◌&&◌, if◌then◌else◌, length, IsTrue}
 use Rattle.lisp_graph.specs.declared.command.Command.{Command}
 use Rattle.lisp_graph.specs.declared.command.Command.TheVariants as C
@@ -16,23 +16,23 @@ use Rattle.scavenger.specs.Left.{rest_of}
 use Rattle.heap_state.specs.RepresentsAll.{RepresentsAll}
 use Rattle.heap_state.specs.Reads.{reads, IsDone}
 use Rattle.heap_state.specs.Settled.{IsSettled}
-use Rattle.heap_collect.specs.Silent.{collects_alone}
+use Rattle.heap_collect.specs.Silent.{reclaims_alone}
 use Rattle.lisp_heap.specs.Contents.{Contents, SameWorld, store_of}
 use Rattle.lisp_heap.specs.Costs.{done_at, placed_at}
 use Rattle.lisp_heap.specs.Marked.{MarksPages}
 
--- the heap as a machine: the image of its memory, its table, its registers and what is left to scan
+-- the memory image of the heap: its memory, its table, its registers and what remains to be scanned
 abbrev pub machine_of : Contents → Image
 machine_of heap = image_of (store_of heap.memory) heap.table (rest_of heap.scan heap.table heap.registers)
 
--- The heap stands for the state: memory, table, registers and scan do, by a map of its words, and space and areas are the state's.
+-- The heap represents the state: memory, table, registers and scan do, by a map of its words, and space and areas are the state's.
 pub record Stands (heap : Contents) (s : State) : Type 0 where
   pub map : RoleMap
   pub represents : RepresentsAll (store_of heap.memory) heap.table heap.scan heap.registers map s
   pub space : heap.space ≡ s.space
   pub kinds : heap.table.kinds ≡ kinds_in s.areas
 
--- The invariant of each heap: it stands for some state, and is of a machine's sizes.
+-- The invariant of each heap: it represents some state, and has a machine's sizes.
 pub record IsSound (heap : Contents) : Type 0 where
   pub stands : (s : State) × Stands heap s
   pub sizes : IsSpace heap.space
@@ -40,25 +40,31 @@ pub record IsSound (heap : Contents) : Type 0 where
   pub registers : length heap.registers ≡ heap.space.registers
   pub regions : heap.table.regions ≡ heap.space.regions
 
--- the units scanned, and the words placed since the flip, of the collection that runs when a command begins, behind the silent steps before it
+-- the units scanned, and the words placed since the flip, of the collection that runs when a command begins, after the silent steps before it
 abbrev pub done_before : Command → Contents → ℕ
 done_before c heap = if allocates c then done_at heap else heap.scan.done
 
 abbrev pub placed_before : Command → Contents → ℕ
 placed_before c heap = if allocates c then placed_at heap else heap.table.placed
 
--- What was done of a command that met a fault stays: units that were scanned are scanned, and what was transported stands where it was placed.
+-- What a command did before it met a swap error remains: units that were scanned are scanned, and what was transported is where it was placed.
 pub record Keeps (c : Command) (old new : Contents) : Type 0 where
   pub scanned : done_before c old ≤ new.scan.done
   pub placed : placed_before c old ≤ new.table.placed
 
--- a command may make pages empty or put them out: it does so itself, or a collection may end by itself before it
+-- a command may scan units, or begins a scan: an allocation pays for units, `scavenge` scans them, and `flip` begins a scan
+abbrev pub scans_for : Command → Bool
+scans_for (C.Flip what) = true
+scans_for (C.Scavenge count) = true
+scans_for c = allocates c
+
+-- a command may make pages empty or evict them: it does so itself, or a silent reclaim may precede it
 abbrev pub frees_pages : Command → Contents → Bool
 frees_pages (C.PageOut count) heap = true
 frees_pages C.Reclaim heap = true
-frees_pages c heap = allocates c && collects_alone heap.space
+frees_pages c heap = allocates c && reclaims_alone heap.table heap.scan heap.space
 
--- What a command with so many steps before and after it tells of the memory: each fault, each word taken as a step, and that no page left its frame but for another one, or, where a fault is answered, one for a page that didn't come.
+-- What a command, with these counts of memory accesses before and after it, reports of the memory: each swap error is in its count, each access too, and no page left its frame except for another one, or, if the reply is `fault`, one for a page that wasn't read.
 pub record Told (old new : Contents) (before after : ℕ) (c : Command) (r : Reply) : Type 0 where
   pub later : old.faults ≤ new.faults
   pub fault : r ≡ R.Fault → old.faults < new.faults
@@ -67,7 +73,7 @@ pub record Told (old new : Contents) (before after : ℕ) (c : Command) (r : Rep
   pub room : r ≢ R.Fault → frees_pages c old ≡ false → length old.resident ≤ length new.resident
   pub gone : frees_pages c old ≡ false → length old.resident ≤ length new.resident + 1
 
--- A command ran with this reply: from each state that the heap stood for the definition does it, and the heap stands for what follows. The world is the same, and what it met is told; a fault undoes nothing. A register that was read is settled, where the command was done. No page got marks without a word that may give them.
+-- A command ran with this reply: from each state that the heap represented the definition does it, and the heap represents what follows. The world is the same, and what it met is reported; a swap error undoes nothing. A register that was read is settled, if the command was done. No page got marks without a word that may give them. A command that neither pays for units nor begins a scan leaves the scan as it is.
 pub record Runs (old new : Contents) (before after : ℕ) (c : Command) (r : Reply) : Type 0 where
   pub does : (s : State) → Stands old s → ((next : State) × Does s c (Replied r) next × Stands new next)
   pub world : SameWorld old new
@@ -75,3 +81,4 @@ pub record Runs (old new : Contents) (before after : ℕ) (c : Command) (r : Rep
   pub kept : r ≡ R.Fault → Keeps c old new
   pub settled : IsDone r → (i : ℕ) → IsTrue (reads c i) → IsSettled new.table new.registers i
   pub marks : MarksPages c r (store_of old.memory) old.table (store_of new.memory) new.table
+  pub still : scans_for c ≡ false → new.scan ≡ old.scan

@@ -1,4 +1,4 @@
--- What it means that units were scanned in their order, and that one is left to scan.
+-- What it means that units were scanned in their order, and that one remains to be scanned.
 use Rattle.std.specs.Prelude.{◌≡◌, ◌<◌, ◌≤◌, ◌+◌, ℕ, List, None}
 use Rattle.store_word.specs.Words.{Parts}
 use Rattle.mem_port.specs.Store.{Store}
@@ -11,7 +11,7 @@ use Rattle.lisp_heap.specs.Contents.{Contents, store_of}
 use Rattle.lisp_heap.specs.Costs.{left_in}
 use Rattle.lisp_heap.specs.Stands.{Stands}
 
--- units were scanned one after another, each of them the next one: so many, or all that were left
+-- units were scanned one after another, each of them the next one: `limit` of them, or all that remained
 pub record FollowsOrder (m : Store) (t : Table) (scan : Scan) (registers : List Parts) (m' : Store) (t' : Table) (scan' : Scan) (registers' : List Parts) (limit : ℕ) : Type 0 where
   pub count : ℕ
   pub many : ScansMany m t scan registers m' t' scan' registers' count
@@ -27,7 +27,7 @@ abbrev pub IsOwing : Phase → Type 0
 IsOwing Idle = ⊥
 IsOwing (Running c) = c.paid < c.owed
 
--- A unit is left; and in each state for which the heap stands a collection runs that has paid less than it owes.
+-- A unit remains; and in each state that the heap represents a collection runs that has paid less than it owes.
 pub record IsUnfinished (heap : Contents) : Type 0 where
   pub left : 0 < left_in heap
   pub owing : (s : State) → Stands heap s → IsOwing s.phase

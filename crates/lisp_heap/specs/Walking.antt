@@ -16,7 +16,7 @@ use Rattle.lisp_heap.specs.Stands.{Stands}
 abbrev pub graph_in : Contents → KeyedGraph
 graph_in heap = shown_by (store_of heap.memory) heap.table heap.registers
 
--- a dump of it is a dump of each state for which the heap stands,
+-- a dump of it is a dump of each state that the heap represents,
 abbrev pub DumpIsOfState : Type 0
 DumpIsOfState = (heap : Contents) (s : State) → Stands heap s → (space : Space) (areas : List AreaRule) (text : List ℕ) → IsDump (graph_in heap) space areas text → IsDump (keyed (graph_of s)) space areas text
 
@@ -24,7 +24,7 @@ DumpIsOfState = (heap : Contents) (s : State) → Stands heap s → (space : Spa
 abbrev pub CensusIsOfState : Type 0
 CensusIsOfState = (heap : Contents) (s : State) → Stands heap s → (rows : List CensusRow) → IsReachedCensus (graph_in heap) rows → IsReachedCensus (keyed (graph_of s)) rows
 
--- A heap was only read: no word was written and no register settled, it stands for each state that it stood for, and its world is the same. For each fault at most one page fewer is resident.
+-- A heap was only read: no word was written and no register settled, it represents each state that it represented before, and its world is the same. For each swap error at most one page fewer is resident.
 pub record StandsAsBefore (old new : Contents) : Type 0 where
   pub words : new.memory.words ≡ old.memory.words
   pub settled : new.registers ≡ old.registers
@@ -34,7 +34,7 @@ pub record StandsAsBefore (old new : Contents) : Type 0 where
   pub world : SameWorld old new
   pub room : length old.resident + old.faults ≤ length new.resident + new.faults
 
--- where a walk began with some heap, this one has only been read since
+-- if a walk began with some heap, this one has only been read since
 abbrev pub StandsSince : Option Contents → Contents → Type 0
 StandsSince None heap = Unit {0}
 StandsSince (Some start) heap = StandsAsBefore start heap

@@ -1,4 +1,4 @@
--- What words and replies say.
+-- The contents of words, and replies.
 use Rattle.std.specs.Prelude.{ℕ, Result, Ok, Err}
 use Rattle.store_word.specs.declared.word.Content.{Content}
 use Rattle.store_word.specs.declared.word.Content.TheVariants.{Nil, Fixnum}
@@ -8,7 +8,7 @@ use Rattle.lisp_graph.specs.declared.object.Value.TheVariants as V
 use Rattle.lisp_graph.specs.declared.reply.Reply.{Reply}
 use Rattle.lisp_graph.specs.declared.reply.Reply.TheVariants as R
 
--- what a word says that has a value which is no reference
+-- the content of a word whose value isn't a reference
 abbrev pub content_of : Value → Content
 content_of (V.Fix number) = Fixnum number
 content_of V.Nil = Nil

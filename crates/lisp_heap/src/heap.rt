@@ -54,7 +54,7 @@ impl<M: Memory> Model for Heap<M> {
     ghost invariant = { λ h. IsSound (contents_of (M.seen h.ground.mem) h.ground.table h.scan h.registers.items h.space (M.faults h.ground.mem) (M.resident h.ground.mem) (counted M.Memory h.ground.mem)) };
 }
 
-// What a heap has beside its memory.
+// What a heap has besides its memory.
 #[derive(Drop)]
 struct HeapParts {
     table: RegionTable,
@@ -63,8 +63,8 @@ struct HeapParts {
 }
 
 impl<M: Memory> Heap<M> {
-    /// Opens a heap over a new memory of the space's size. It is refused where the allocator has no memory,
-    /// and then `mem` comes back as it was.
+    /// Opens a heap over a new memory of the space's size. It is refused if the allocator has no memory,
+    /// and then `mem` is returned unchanged.
     pub fn open(alloc: Global, space: &Space, areas: &Areas, mem: M) -> Result<Heap<M>, Refused<M>>
         requires form { IsForm space.now areas.now }
         requires fresh { IsFresh (M.seen mem) space.now.regions space.now.levels }
@@ -122,7 +122,7 @@ fn make_parts(alloc: Global, space: &Space, areas: &Areas) -> Result<HeapParts, 
     })
 }
 
-// The reply to a command: what it answered, or that a page call failed.
+// The reply to a command: what it returned, or that a page call failed.
 fn reply_of(answer: Result<Reply, SwapFault>) -> Reply
     ensures { result ≡ reply_of answer }
 {
@@ -132,7 +132,7 @@ fn reply_of(answer: Result<Reply, SwapFault>) -> Reply
     }
 }
 
-// The same where a command ends: it is known that its memory keeps the law of marks.
+// The same at the end of a command: it is known that its memory satisfies the law of marks.
 fn replied<M: Memory>(mem: &M, answer: Result<Reply, SwapFault>) -> Reply
     ensures is { result ≡ reply_of answer }
     ensures marks { MarksHold (M.seen mem.now) }
@@ -141,7 +141,7 @@ fn replied<M: Memory>(mem: &M, answer: Result<Reply, SwapFault>) -> Reply
     reply_of(answer)
 }
 
-// Ends a command that was performed, and makes nothing: what it performed is a step.
+// Ends a command that was performed, and makes nothing: what it performed is a transition.
 fn ended<M: Memory>(mem: &M, answer: Result<Reply, SwapFault>) -> Reply
     ensures is { result ≡ reply_of answer }
     ensures marks { MarksHold (M.seen mem.now) }

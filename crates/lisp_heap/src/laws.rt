@@ -1,4 +1,4 @@
-//! What it comes to that a heap stands for a state.
+//! What follows if a heap represents a state.
 ghost use Rattle.lisp_graph.specs.declared.world.World.{World};
 ghost use Rattle.word_graph.specs.lisp_meaning.State.{State};
 ghost use Rattle.word_graph.specs.lisp_meaning.Stands.{Stands as Means};
@@ -10,13 +10,13 @@ ghost use Rattle.lisp_heap.specs.Freed.{SilentRetains};
 ghost use Rattle.lisp_heap.specs.Room.{HeapsArePlaceable, MovedHasPlace, NewHasPlace, SpareHasPlace};
 ghost use Rattle.lisp_heap.specs.Walking.{DumpIsOfState, CensusIsOfState};
 
-/// A heap that stands for a state has its meaning: each register and each object is found in its
+/// A heap that represents a state has its meaning: each register and each object is found in its
 /// words, under a naming.
 pub fn standing_is_meaning()
     ensures { (heap : Contents) (s : State) → Stands heap s → Means (machine_of heap) s }
 {}
 
-/// What a walk over a heap shows has the dump and the census of each state for which the heap stands.
+/// What a walk over a heap shows has the dump and the census of each state that the heap represents.
 pub fn walks_show_states()
     ensures dump { DumpIsOfState }
     ensures census { CensusIsOfState }
@@ -27,7 +27,7 @@ pub fn accepted_worlds_fit()
     ensures { (world : World) → IsAccepted world → FitsQuotas world }
 {}
 
-/// In each state for which a heap stands there is a place for a new object that the quota of its area
+/// In each state that a heap represents there is a place for a new object that the quota of its area
 /// allows, for objects that a collection moves, and for the pair that a cell becomes.
 pub fn heaps_have_room()
     ensures ground { HeapsArePlaceable }
@@ -36,8 +36,8 @@ pub fn heaps_have_room()
     ensures spare { SpareHasPlace }
 {}
 
-/// A reclaim that no command asked for leaves of each area's account what one by a command does: what
-/// it was, less what went, and at most what the definition retains.
+/// A reclaim that no command requested reduces each area's account like one that a command requested: by
+/// what was freed, and to at most what the definition retains.
 pub fn reclaims_free_what_went()
     ensures { SilentRetains }
 {}

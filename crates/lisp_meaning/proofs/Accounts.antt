@@ -19,7 +19,7 @@ use Rattle.std.specs.Prelude.{is_some}
 use Rattle.lisp_graph.specs.Totals.{total, if_true}
 use Rattle.lisp_graph.proofs.Totals.{total-cong, total-at, total-add}
 
--- each name counts where it counted, under other tests, classes or places
+-- each name is counted as before, by other tests, classes or places
 pub charges_same : (s s' : Store) (at at' : ℕ → ℕ) (regions regions' : ℕ → Class) (passes passes' : ℕ → Class → Bool) → length s'.objects ≡ length s.objects
     → ((n : ℕ) → object s' n ≡ object s n) → ((n : ℕ) → (is_held s' n && passes' n (class_at regions' (at' n))) ≡ (is_held s n && passes n (class_at regions (at n))))
     → charges_in s' at' regions' passes' ≡ charges_in s at regions passes
@@ -57,7 +57,7 @@ levels_of true Old true level charge levels f low =
     total-cong (in_level true Old true level charge) (λ l. if_true (nat_eq level l) charge) levels (λ m l. (let z : 0 + if_true (nat_eq level m) charge ≡ if_true (nat_eq level m) charge = omega arith in z))
     ∙ one_level level charge levels (low refl)
 
--- where each held name stands in its area, at one of the levels, in a region that isn't free
+-- if each held name is in a region of its area, at one of the levels, that isn't free
 pub account_of_classes : (s : Store) (at : ℕ → ℕ) (regions : ℕ → Class) (area levels : ℕ)
     → ((n : ℕ) → in_use s n → ((class_at regions (at n)).area ≡ (object s n).area) × ((class_at regions (at n)).level < levels) × (is_free (class_at regions (at n)).standing ≡ false))
     → total (λ l. charges_in s at regions (in_class area l) + charges_in s at regions (in_old_class area l)) levels ≡ charges s (λ n. is_held s n && per_area s area n)
@@ -82,7 +82,7 @@ account_of_classes s at regions area levels classes =
 
 -- The words that cells may need
 
--- where one object is laid or changed, the others' are as they were
+-- if one object is laid out or changed, the others' spare words are unchanged
 pub spares_changed : (W : ℕ → Parts) (regions : ℕ → Class) (k k' : RoleMap) (s s' : Store) (passes : ℕ → Class → Bool) (n : ℕ) → Roled W regions k s → Frame k k' s s' (λ m. m == n)
     → n < length s.objects → length s'.objects ≡ length s.objects → ((m : ℕ) → (m ≡ n → ⊥) → s'.held m ≡ s.held m)
     → spares_in s' k' regions passes + spare_in s k regions passes n ≡ spares_in s k regions passes + spare_in s' k' regions passes n

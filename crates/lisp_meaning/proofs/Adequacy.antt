@@ -1,6 +1,6 @@
--- The invariant gives what the machine means.
+-- The invariant implies that the machine represents the state.
 use Rattle.std.specs.Prelude.{List}
-use Rattle.std.proofs.Common.{◌≡◌, ℕ, suc, ◌+◌, ◌<◌, ◌⊎◌, inl, inr, Bool, true, false, ◌&&◌, refl, sym, ◌∙◌, ap, arith, Some, length, get_or}
+use Rattle.std.proofs.Common.{◌≡◌, ℕ, zero, suc, ◌+◌, ◌*◌, ◌<◌, ◌⊎◌, inl, inr, Bool, true, false, ◌&&◌, refl, sym, ◌∙◌, ap, arith, Some, length, get_or}
 use Rattle.std.proofs.lemmas.Bool.{cases_Bool}
 use Rattle.lisp_graph.specs.declared.object.Value.TheVariants as V
 use Rattle.lisp_graph.specs.declared.object.Value.{Value}
@@ -11,7 +11,7 @@ use Rattle.lisp_meaning.specs.invariants.Fits.{CellCdr, Roled}
 use Rattle.lisp_meaning.specs.reading.Image.{Image, word, region, is_free}
 use Rattle.lisp_meaning.specs.invariants.Invariant.{MemoryInvariant, MachineInvariant}
 use Rattle.lisp_meaning.specs.invariants.Roles.{Kind, AsCons, AsBlock, Role, Cell, value_of, RoleMap, kind_of, cdr_of, Begins}
-use Rattle.lisp_meaning.specs.reading.Stands.{is_cell_word, is_cell_of, stands_in, machine_account, Room, StandsUnder}
+use Rattle.lisp_meaning.specs.reading.Stands.{is_cell_word, is_cell_of, stands_in, cells_in, machine_account, Room, StandsUnder}
 use Rattle.lisp_meaning.specs.machine.State.{Store, Condemned, aim_of, object, in_use, is_held, State}
 use Rattle.lisp_graph.specs.store_word.Words.{null_word}
 use Rattle.lisp_graph.specs.declared.world.AreaRule.{AreaRule}
@@ -20,13 +20,14 @@ use Rattle.lisp_graph.specs.store_word.declared.word.CdrCode.TheVariants.{Next a
 use Rattle.lisp_graph.specs.store_word.declared.word.Content.{Content}
 use Rattle.lisp_graph.specs.store_word.declared.word.Content.TheVariants.{Null, Nil as NilWord, Fixnum, List as ListAt, Struct as StructAt, Header, HeaderForward, GcForward}
 use Rattle.lisp_graph.specs.Totals.{total, if_true}
-use Rattle.lisp_graph.proofs.Totals.{total-cong, total-add}
+use Rattle.lisp_graph.proofs.Totals.{total-zero, total-suc, total-cong, total-add}
 use Rattle.lisp_meaning.proofs.Accounts.{account_of_classes}
 use Rattle.lisp_meaning.proofs.Patches.{begins_owner}
 use Rattle.lisp_meaning.proofs.Standing.{cell_fits, head_fits, block_fits}
+use Rattle.lisp_meaning.proofs.HuskWords.{husk_words_few}
 use Rattle.lisp_meaning.proofs.Reading.{means, distinct, objects_read, no_stale_read, above_read, used_where}
 
--- what stands at a name's place is a cell where its role is one
+-- a name's word is that of a cell if and only if its role is one
 cell_value : (role : ℕ → Role) (c : Content) (v : Value) → value_of role c ≡ Some v → (is_cell_of c CdrNext ≡ true) × (is_cell_of c CdrNil ≡ true) × (is_cell_of c CdrNormal ≡ false)
 cell_value role Null v e = cc
 cell_value role NilWord v e = (refl, refl, refl)
@@ -58,9 +59,23 @@ and_assoc : (a b c : Bool) → ((a && b) && c) ≡ (a && (b && c))
 and_assoc true b c = refl
 and_assoc false b c = refl
 
+-- two for each that passes
+total-twice : (p : ℕ → Bool) (n : ℕ) → 2 * total (λ m. if_true (p m) 1) n ≡ total (λ m. if_true (p m) 2) n
+total-twice p zero = let a = total-zero (λ m. if_true (p m) 1) in let b = total-zero (λ m. if_true (p m) 2) in omega arith
+total-twice p (suc n) =
+    let i = total-twice p n in
+    let a = total-suc (λ m. if_true (p m) 1) n in
+    let b = total-suc (λ m. if_true (p m) 2) n in
+    let c = two (p n) in
+    omega arith
+  where
+    two : (t : Bool) → 2 * if_true t 1 ≡ if_true t 2
+    two true = refl
+    two false = refl
+
 module _ (g : Image) (k : RoleMap) (top : ℕ) (areas : List AreaRule) (s : Store) (aim : Condemned) (h : MemoryInvariant g k top areas s aim) where
-  spares_read : (area level : ℕ) → total (λ n. if_true (stands_in g s k.at (of_class area level) n && is_cell_word (word g (k.at n))) 2) (length s.objects) ≡ spares_in s k (classes g) (in_class area level)
-  spares_read area level = total-cong (λ n. if_true (stands_in g s k.at (of_class area level) n && is_cell_word (word g (k.at n))) 2) (spare_in s k (classes g) (in_class area level)) (length s.objects)
+  spares_read : (area level : ℕ) → 2 * cells_in g s k.at (of_class area level) ≡ spares_in s k (classes g) (in_class area level)
+  spares_read area level = total-twice (λ n. stands_in g s k.at (of_class area level) n && is_cell_word (word g (k.at n))) (length s.objects) ∙ total-cong (λ n. if_true (stands_in g s k.at (of_class area level) n && is_cell_word (word g (k.at n))) 2) (spare_in s k (classes g) (in_class area level)) (length s.objects)
       (λ n l. each n (cases_Bool (is_held s n)))
     where
       each : (n : ℕ) → (is_held s n ≡ true) ⊎ (is_held s n ≡ false)
@@ -76,6 +91,7 @@ module _ (g : Image) (k : RoleMap) (top : ℕ) (areas : List AreaRule) (s : Stor
   room_read : Room g s aim k.at
   room_read = record {
     live = λ area level. (let a = spares_read area level in let b = h.room_live area level in let c = h.live_charges area level in let d = h.live_husks area level in omega arith);
+    husks = λ area level. (let a = husk_words_few g k s h.roled h.covered h.names area level in let b = h.room_husks area level (length g.words) in let c = h.live_husks area level in omega arith);
     old = h.room_old;
     chains = h.chains;
     above = above_read g k s h.roled h.covered;

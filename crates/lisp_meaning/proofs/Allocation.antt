@@ -23,7 +23,7 @@ use Rattle.lisp_meaning.proofs.ListMade.{kept_list_made, list_made_old, list_mad
 use Rattle.lisp_meaning.proofs.LaidThere.{laid_named, run_named, one_named}
 use Rattle.lisp_meaning.proofs.StandingOld.{standing_less}
 
--- the invariant by a later map, where what stood old stands old
+-- the invariant by a later map, if what was in old regions still is
 pub after_same : (g g' : Image) (k map : RoleMap) (top : ℕ) (areas : List AreaRule) (s s' : Store) (aim : Condemned) (kind : Kind) (b count : ℕ) (name : ℕ → ℕ)
     → MemoryInvariant g k top areas s aim → MemoryInvariant g' map top areas s' aim → Refines k.role map.role → ((i : ℕ) → i < count → names_as kind (map.role (b + i)) ≡ Some (name i))
     → charges_in s' map.at (classes g') in_old ≡ charges_in s k.at (classes g) in_old → After g g' k top areas s s' aim 0 kind b count name

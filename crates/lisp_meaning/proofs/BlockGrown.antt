@@ -173,7 +173,7 @@ module _ (g g1 : Image) (k : RoleMap) (top : ℕ) (areas : List AreaRule) (s : S
 
   pub kept_block_grown : MemoryInvariant (record g1 { words = ws }) (relaid_to k n a (ABlock (length fields)) b (ABlock wide)) top areas (with_grown s n (grown_block area code fields wide) area level (suc (length fields))) aim
   kept_block_grown = kept_laid_anew g g1 k top areas s (with_grown s n (grown_block area code fields wide) area level (suc (length fields))) aim h n a b area level (suc (length fields)) (ABlock (length fields)) (ABlock wide) p block_recharged ws marks block_relays
-      block_standing there block_roled block_frame block_quota (let x = charge_now in let y = block_charge in omega arith)
+      block_standing there block_roled block_frame block_quota (let x = charge_now in let y = block_charge in omega arith) (inl refl)
 
   pub block_grown_old : charges_in (with_grown s n (grown_block area code fields wide) area level (suc (length fields))) (relaid_to k n a (ABlock (length fields)) b (ABlock wide)).at (classes g1) in_old ≡ charges_in s k.at (classes g) in_old
   block_grown_old = laid_anew_old g g1 k top areas s (with_grown s n (grown_block area code fields wide) area level (suc (length fields))) aim h n a b area level (suc (length fields)) (ABlock (length fields)) (ABlock wide) p block_recharged ws marks block_relays

@@ -1,5 +1,5 @@
 -- RPLACD of a cell, from the invariant to the invariant.
-use Rattle.std.proofs.Common.{◌≡◌, ℕ, suc, ◌+◌, ◌<◌, ◌≤◌, ◌==◌, refl, sym, ◌∙◌, ap, subst, arith, Some, List, length}
+use Rattle.std.proofs.Common.{◌≡◌, ℕ, suc, ◌+◌, ◌<◌, ◌≤◌, inr, ◌==◌, refl, sym, ◌∙◌, ap, subst, arith, Some, List, length}
 use Rattle.std.proofs.Math.ListN.{length-set}
 use Rattle.lisp_graph.specs.store_word.Words.{Parts}
 use Rattle.lisp_graph.specs.store_word.declared.word.CdrCode.TheVariants.{Next as CdrNext, Normal as CdrNormal}
@@ -108,7 +108,7 @@ module _ (g g1 : Image) (k : RoleMap) (top : ℕ) (areas : List AreaRule) (s : S
 
   pub kept_cell_relaid : MemoryInvariant (record g1 { words = ws }) (relaid_to k n a (ACell i) b APair) top areas (put_body s n (Cons car new)) aim
   kept_cell_relaid = kept_laid_anew g g1 k top areas s (put_body s n (Cons car new)) aim h n a b area level 0 (ACell i) APair p recharged ws marks cell_relays
-      (stands_cell (word g) (classes g) k s h.roled n a i ra) there cell_roled cell_frame cell_quota (let x = cell_charge in let y = was.charge in omega arith)
+      (stands_cell (word g) (classes g) k s h.roled n a i ra) there cell_roled cell_frame cell_quota (let x = cell_charge in let y = was.charge in omega arith) (inr (refl, refl, refl))
 
   pub cell_relaid_old : charges_in (put_body s n (Cons car new)) (relaid_to k n a (ACell i) b APair).at (classes g1) in_old ≡ charges_in s k.at (classes g) in_old
   cell_relaid_old = laid_anew_old g g1 k top areas s (put_body s n (Cons car new)) aim h n a b area level 0 (ACell i) APair p recharged ws marks cell_relays

@@ -1,4 +1,4 @@
--- New cells, from the invariant to the invariant: so many names at once.
+-- New cells, from the invariant to the invariant: many names at once.
 use Rattle.std.proofs.Common.{◌≡◌, ℕ, suc, ◌+◌, ◌*◌, ◌-◌, ◌<◌, ◌≤◌, ◌⊎◌, inl, inr, ⊎_elim, Bool, true, false, ◌&&◌, if◌then◌else◌, refl, sym, ◌∙◌, ap, subst, arith, Option, Some, List, length, nat_eq}
 use Rattle.std.specs.Prelude.{is_some}
 use Rattle.std.proofs.lemmas.Bool.{cases_Bool, cases_lt}
@@ -15,12 +15,13 @@ use Rattle.lisp_meaning.specs.reading.Classes.{Class, class_at, classes, of_clas
 use Rattle.lisp_meaning.specs.reading.Marks.{Marks}
 use Rattle.lisp_meaning.specs.invariants.Roles.{Role, Blank, Scratch, Cell, RoleMap, kind_of, Refines}
 use Rattle.lisp_meaning.specs.invariants.Fits.{Roled}
-use Rattle.lisp_meaning.specs.invariants.ChargesIn.{charges_in, spare_in, spares_in, is_cell}
+use Rattle.lisp_meaning.specs.invariants.ChargesIn.{charges_in, spare_in, spares_in, is_cell, is_of_husk}
 use Rattle.lisp_meaning.specs.reading.Stands.{Classes}
 use Rattle.lisp_meaning.specs.invariants.Invariant.{MemoryInvariant}
 use Rattle.lisp_meaning.specs.invariants.Laid.{between, scratched, cells_laid}
 use Rattle.lisp_meaning.specs.invariants.Placed.{Placed, Charged}
 use Rattle.lisp_meaning.proofs.Charges.{total-split, total-const, total-none, charges_new, charges_new_else}
+use Rattle.lisp_meaning.proofs.Husks.{husks_placed}
 use Rattle.lisp_meaning.proofs.Frames.{Frame}
 use Rattle.lisp_meaning.proofs.Patches.{begins_owner}
 use Rattle.lisp_meaning.proofs.Laying.{between_yes, between_no, between_which}
@@ -50,7 +51,7 @@ module _ (g g1 : Image) (k : RoleMap) (top : ℕ) (areas : List AreaRule) (s : S
   unfolding New
   old_name m l x = let y = x.0 in omega arith
 
-  -- and then it is so many behind the first
+  -- and then it is i places after the first
   nth : (m : ℕ) → New m → (i : ℕ) × (i < count) × (m ≡ length s.objects + i)
   unfolding New
   nth m x = let l = x.0 in let y = x.1 in (m - length s.objects, omega arith, omega arith)
@@ -81,6 +82,16 @@ module _ (g g1 : Image) (k : RoleMap) (top : ℕ) (areas : List AreaRule) (s : S
       inside a i e l =
           let r = ap (cells_laid k (length s.objects) b count).role e ∙ role_new i l in
           (λ z. (let x = sym r ∙ z in cc), λ z. (let x = sym r ∙ z in cc))
+
+  no_husk : (a : ℕ) → is_of_husk ((cells_laid k (length s.objects) b count).role a) ≡ true → (cells_laid k (length s.objects) b count).role a ≡ k.role a
+  no_husk a e = go (between_which b count a)
+    where
+      go : ((b ≤ a) × (a < b + count)) ⊎ ((b ≤ a) × (a < b + count) → ⊥) → (cells_laid k (length s.objects) b count).role a ≡ k.role a
+      go (inl x) =
+          let l = x.0 in let y = x.1 in
+          let r = ap (cells_laid k (length s.objects) b count).role (let z : a ≡ b + (a - b) = omega arith in z) ∙ role_new (a - b) (omega arith) in
+          let z = ap is_of_husk r in cc
+      go (inr x) = role_old a x
 
   class_new : (i : ℕ) → i < count → class_at (classes g1) ((cells_laid k (length s.objects) b count).at (length s.objects + i)) ≡ record { area = area; level = level; standing = Live }
   class_new i l = ap (class_at (classes g1)) (at_new i l) ∙ ap (classes g1) (p.near i l) ∙ p.class_there
@@ -284,6 +295,7 @@ module _ (g g1 : Image) (k : RoleMap) (top : ℕ) (areas : List AreaRule) (s : S
     old_husks = λ x. total-cong (g1.old_husks x) (g.old_husks x) (suc top) (λ y l. c.old_husks x y) ∙ h.old_husks x;
     quota = quota;
     room_live = λ x y. room_live x y (two_numbers x y area level (Rattle.std.proofs.lemmas.Bool.cases_eq x area) (Rattle.std.proofs.lemmas.Bool.cases_eq y level));
+    room_husks = husks_placed g g1 k (cells_laid k (length s.objects) b count) b count area level h.covered p no_husk c.live_husks h.room_husks;
     room_old = λ x. (let a = h.room_old x in let u = p.used_old x in let d = doomed_sum x in omega arith);
     chains = p.chains;
     marks = marks;

@@ -1,4 +1,4 @@
--- Where forwards lead, from what the words are for.
+-- The end of a chain of forwards, from the roles of words.
 use Rattle.std.proofs.Common.{◌≡◌, ℕ, zero, suc, ◌+◌, ◌*◌, ◌-◌, ◌≤◌, ◌⊎◌, inl, inr, Bool, true, false, refl, sym, ◌∙◌, ap, subst, arith, Some, None}
 use Rattle.lisp_graph.specs.declared.object.Value.{Value}
 use Rattle.lisp_meaning.specs.reading.Classes.{Class, class_at, is_old_at, is_live_at}
@@ -22,7 +22,7 @@ pub record Onward (W : ℕ → Parts) (regions : ℕ → Class) (k : RoleMap) (k
 -- what the word at a named address is
 pub record Named (W : ℕ → Parts) (regions : ℕ → Class) (k : RoleMap) (s : Store) (kind : Kind) (n a : ℕ) : Type 0 where
   pub used : in_use s n
-  -- the object stands there, or one forward leads on
+  -- the object is there, or one forward leads on
   pub step : ((k.at n ≡ a) × (forward_of (W a).content ≡ None)) ⊎ Onward W regions k kind n a
 
 value_no_forward : (role : ℕ → Role) (c : Content) (v : Value) → value_of role c ≡ Some v → forward_of c ≡ None
@@ -91,7 +91,7 @@ module _ (W : ℕ → Parts) (regions : ℕ → Class) (k : RoleMap) (s : Store)
   named_by AsBlock n a (Moved AsCons m) f e = cc
   named_by AsBlock n a (Relaid AsCons m) f e = cc
 
-  -- the object of a name that is known in a region that isn't old stands in the same class
+  -- the object of a name that is known in a region that isn't old is in the same class
   module _ (R : Roled W regions k s) where
     class_step : (a n : ℕ) (kind : Kind) → names_as kind (k.role a) ≡ Some n → is_old_at regions a ≡ false
         → ((k.at n ≡ a) × (forward_of (W a).content ≡ None)) ⊎ Onward W regions k kind n a

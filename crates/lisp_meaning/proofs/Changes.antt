@@ -86,7 +86,7 @@ module _ (t : Store) (made : List Object) (level : ℕ) where
   pub made_used : (i : ℕ) → i < length made → in_use (with_made t made level) (length t.objects + i)
   made_used i l = ap is_some (held_new (length t.objects + i) (omega arith) (omega arith))
 
-  -- where names that are held are below the next name
+  -- if names that are held are below the next name
   module _ (below : (n : ℕ) → in_use t n → n < length t.objects) where
     pub made_uses : (m : ℕ) → in_use t m → in_use (with_made t made level) m
     made_uses m u = ap is_some (held_old m (λ x. let l = x.0 in let b = below m u in omega arith)) ∙ u

@@ -90,7 +90,7 @@ module _ (s : Store) (at at' : ℕ → ℕ) (regions : ℕ → Class) (passes : 
       let c = moved in
       let z : charge_in s at regions passes n ≡ charge_in s at' regions passes n = ap (λ (b : Bool). if_true (is_held s n && b) (object s n).charge) x in omega arith
 
--- a grown block: its charge changes in the class where it stays
+-- a grown block: its charge changes in the class in which it remains
 pub charges_grown : (s s' : Store) (at at' : ℕ → ℕ) (regions : ℕ → Class) (passes : ℕ → Class → Bool) (n : ℕ) → n < length s.objects → length s'.objects ≡ length s.objects
     → ((m : ℕ) → s'.held m ≡ s.held m) → ((m : ℕ) → (m ≡ n → ⊥) → object s' m ≡ object s m) → ((m : ℕ) → (m ≡ n → ⊥) → at' m ≡ at m)
     → is_held s n ≡ true → passes n (class_at regions (at n)) ≡ true → class_at regions (at' n) ≡ class_at regions (at n)

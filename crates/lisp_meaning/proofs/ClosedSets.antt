@@ -26,7 +26,7 @@ refers_at n [] i e = cc
 refers_at n (v ∷ vs) zero e = refers_in-cons n v vs ∙ or_left (is_ref n v) (refers_in n vs) e
 refers_at n (v ∷ vs) (suc i) e = refers_in-cons n v vs ∙ or_right (is_ref n v) (refers_in n vs) (refers_at n vs i e)
 
--- a set has all that the values of a list refer to where it has what each refers to
+-- a set has all that the values of a list refer to if it has what each refers to
 pub refers_each : (K : ℕ → Bool) (vs : List Value) → ((i n : ℕ) → i < length vs → is_ref n (get_or vs i V.Nil) ≡ true → K n ≡ true) → (n : ℕ) → refers_in n vs ≡ true → K n ≡ true
 refers_each K [] h n e = let x = refers_in-nil n in cc
 refers_each K (v ∷ vs) h n e = go (or_cases (is_ref n v) (refers_in n vs) (sym (refers_in-cons n v vs) ∙ e)) (refers_each K vs (λ i m l r. h (suc i) m (omega arith) r) n)

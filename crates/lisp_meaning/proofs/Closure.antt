@@ -1,4 +1,4 @@
--- The closure is the least closed set above its start: after as many rounds as there are objects nothing is added, and nothing is added that a closed set lacks.
+-- The closure is the least closed set that contains its start: after one round for each object nothing is added, and nothing is added that a closed set lacks.
 use Rattle.std.proofs.Common.{◌≡◌, ◌≢◌, ℕ, zero, suc, ◌<◌, ◌≤◌, ◌⊎◌, inl, inr, Bool, true, false, ◌&&◌, ◌||◌, refl, sym, ◌∙◌, ap, arith, List, length}
 use Rattle.std.proofs.lemmas.Bool.{cases_eq, cases_Bool, or_cases, and_parts, or_left, or_right}
 use Rattle.std.proofs.lemmas.Grind.{common_steps}

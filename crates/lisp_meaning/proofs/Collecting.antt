@@ -51,7 +51,7 @@ nothing_left g e = (
   λ a l. none_left (g.word_left a) (let x = total-part (λ i. if_true (g.word_left i) 1) (length g.words) a l in omega arith),
 )
 
--- the state that a machine stands for is sound: what is left to scan is owed
+-- the state that a machine represents is sound: work is owed for the units that remain
 pub strong_sound : InvariantIsSound
 strong_sound g k s h few = record {
   registers = few;
@@ -85,7 +85,7 @@ gone_sum areas s top what x = go (is_static (rule_of areas x).kind)
     go false = refl
 
 module _ (g : Image) (k : RoleMap) (top : ℕ) (areas : List AreaRule) (s : Store) (h : MemoryInvariant g k top areas s no_aim) (what : Condemn) where
-  -- a name is condemned where its class is
+  -- a name is condemned if and only if its class is
   condemned_there : (n : ℕ) → condemned_by areas s what n ≡ (is_held s n && condemned_classes areas what (class_at (classes g) (k.at n)).area (class_at (classes g) (k.at n)).level)
   condemned_there n = go (s.held n) refl
     where
@@ -104,7 +104,7 @@ module _ (g : Image) (k : RoleMap) (top : ℕ) (areas : List AreaRule) (s : Stor
           ∙ ap (λ (l : ℕ). not (is_static (rule_of areas (class_at (classes g) (k.at n)).area).kind) && condemns what l) (sym (h.classes_of.spared n level e refl).1)
           ∙ sym (ap (λ (o : Option ℕ). is_some o && condemned_classes areas what (class_at (classes g) (k.at n)).area (class_at (classes g) (k.at n)).level) e)
 
--- the machine after a flip stands for the flipped state
+-- the machine after a flip represents the flipped state
 module _ (g g' : Image) (k : RoleMap) (s : State) (h : MachineInvariant g k s) (idle : s.phase ≡ Idle) (what : Condemn) (pages : ℕ) (t : TableFlipped g g' s.space.levels (condemned_classes s.areas what))
     (registers : g'.registers ≡ g.registers) (collection : g'.collection ≡ Some what) (scanned : IsScanned g' false) (units : units_left g' ≤ s.space.registers + 256 * pages) where
   kept_idle : MemoryInvariant g k s.space.levels s.areas s.store no_aim
@@ -120,7 +120,7 @@ module _ (g g' : Image) (k : RoleMap) (s : State) (h : MachineInvariant g k s) (
   kept_flip = kept_flipped g g' k s.space.levels s.areas s.store kept_idle (condemned_classes s.areas what) t (husks_left s.areas s.store what) (aim_by s what pages) none_old
       (husks_by s.areas s.store what) (gone_sum s.areas s.store s.space.levels what) (condemned_there g k s.space.levels s.areas s.store kept_idle what) (bound_held s what closed)
 
-  -- what stands old was condemned, so it is owed
+  -- what is in old regions was condemned, so it is owed
   old_owed : charges (record s.store { husks = husks_left s.areas s.store what }) (λ n. condemned_by s.areas s.store what n && is_old (region g' (k.at n)).standing) ≤ charges s.store (condemned_by s.areas s.store what)
   old_owed = total-le (λ n. if_true (condemned_by s.areas s.store what n && is_old (region g' (k.at n)).standing) (object s.store n).charge) (λ n. if_true (condemned_by s.areas s.store what n) (object s.store n).charge) (length s.store.objects)
       (λ n l. less (condemned_by s.areas s.store what n) (is_old (region g' (k.at n)).standing) (object s.store n).charge)
@@ -154,7 +154,7 @@ held_after regions k top s aim n = if is_old_at regions (k.at n) then None else 
 abbrev pub reclaimed : Image → RoleMap → State → Condemned → State
 reclaimed g k s aim = record s { phase = Idle; store = record s.store { held = held_after (classes g) k s.space.levels s.store aim } }
 
--- the machine after the reclaim of a collection that is over stands for that state
+-- the machine after the reclaim of a finished collection represents that state
 module _ (g g' : Image) (k : RoleMap) (s : State) (c : Collection) (h : MachineInvariant g k s) (running : s.phase ≡ Running c) (over : c.over ≡ true) (t : TableFreed g g')
     (registers : g'.registers ≡ g.registers) (collection : g'.collection ≡ None) where
   kept_running : MemoryInvariant g k s.space.levels s.areas s.store c.aim
@@ -163,7 +163,7 @@ module _ (g g' : Image) (k : RoleMap) (s : State) (c : Collection) (h : MachineI
   scan : IsScanned g c.over
   scan = let P : Phase → Type 0 = λ p. PhaseOf g p in (subst P running h.phase).1
 
-  -- every word that has a value is fresh where nothing is left
+  -- every word that has a value is fresh if nothing remains to be scanned
   fresh : (a b : ℕ) (v : Value) → is_old_at (classes g) a ≡ false → value_of k.role (word g a).content ≡ Some v → address_of (word g a).content ≡ Some b → is_old_at (classes g) b ≡ false
   fresh a b v e has at = go (region g a).standing refl (cases_lt a (length g.words))
     where

@@ -1,4 +1,4 @@
--- A flip and a settle keep what is held closed, and some settle there is.
+-- A flip and the end of a collection keep what is held closed, and each collection can end.
 use Rattle.std.proofs.Common.{◌≡◌, ℕ, ◌⊎◌, inl, inr, Bool, true, false, not, ◌&&◌, ◌||◌, refl, sym, subst, ◌∙◌, ap, arith, List, length, Option, Some, None, IsTrue, if◌then◌else◌}
 use Rattle.std.specs.Prelude.{is_some}
 use Rattle.std.proofs.lemmas.Bool.{or_cases, or_left, or_right, and_parts, not-true}
@@ -13,7 +13,7 @@ use Rattle.lisp_meaning.specs.Laws.{is_root}
 use Rattle.lisp_meaning.proofs.Closure.{closure_start, closure_closed, closure_inside}
 use Rattle.lisp_meaning.proofs.ClosedSets.{closed_same}
 
--- what a flip binds is held, where what is held is closed
+-- what a flip binds is held, if what is held is closed
 pub bound_held : (s : State) (what : Condemn) → Closed (graph_of s) (is_held s.store) → (n : ℕ) → bound_by s what n ≡ true → is_held s.store n ≡ true
 bound_held s what c n e =
     closure_inside s.store.objects (is_held s.store) (roots_of s what) (λ m n l u r. c.from_objects m n l u r)
@@ -59,7 +59,7 @@ module _ (s : State) (what : Condemn) (h : IsClosed s) where
     reach = (let r = flipped_reaches pages in record { condemned = r.condemned; bound = r.bound; closed = r.closed });
   }
 
--- held before, where held after
+-- a name held after was held before
 pub settles_less : (s : State) (aim : Condemned) (new : State) → Settles s aim new → (n : ℕ) → in_use new.store n → in_use s.store n
 settles_less s aim new t n u = go (s.store.held n) refl
   where
@@ -90,7 +90,7 @@ settled s aim = record s {
   store = record s.store { held = λ n. settled_level (aim.condemned n) (aim.bound n) (survivor s.space.levels aim.what (level_or_zero (s.store.held n))) (s.store.held n) };
 }
 
--- held after exactly where kept
+-- a name is held after if and only if it is kept
 settled_held : (condemned bound : Bool) (survives : ℕ) (o : Option ℕ) → (bound ≡ true → is_some o ≡ true)
     → is_some (settled_level condemned bound survives o) ≡ (bound || (is_some o && not condemned))
 settled_held true true survives None h = (let x = h refl in cc)

@@ -5,7 +5,7 @@ use Rattle.std.specs.Prelude.{is_some}
 use Rattle.std.proofs.lemmas.Bool.{cases_Bool, and_parts, eqb-true}
 use Rattle.lisp_graph.specs.declared.world.AreaRule.{AreaRule}
 use Rattle.lisp_meaning.specs.machine.Charges.{account}
-use Rattle.lisp_meaning.specs.invariants.ChargesIn.{charge_in, charges_in, spare_in, spares_in, is_cell}
+use Rattle.lisp_meaning.specs.invariants.ChargesIn.{charge_in, charges_in, spare_in, spares_in, is_cell, is_of_husk, husk_word_in}
 use Rattle.lisp_meaning.specs.reading.Classes.{Class, class_at, is_old_at, in_class, in_old_class, classes, of_class}
 use Rattle.lisp_meaning.specs.invariants.Fits.{Roled}
 use Rattle.lisp_meaning.specs.reading.Image.{Image, word, region, is_free, used_words, Standing, Live, Old, Free, is_live, is_old}
@@ -18,6 +18,7 @@ use Rattle.lisp_graph.specs.Totals.{total, if_true}
 use Rattle.lisp_graph.proofs.Totals.{total-cong, total-add}
 use Rattle.lisp_meaning.proofs.Charges.{total-none}
 use Rattle.lisp_meaning.proofs.Accounts.{charges_same}
+use Rattle.lisp_meaning.proofs.Husks.{husks_stay}
 use Rattle.lisp_meaning.proofs.Ground.{condemned}
 use Rattle.lisp_meaning.proofs.Stores.{restored}
 use Rattle.lisp_meaning.proofs.Flipped.{room_at_flip, live_after_flip, after_live}
@@ -40,6 +41,28 @@ class_doomed test c e t = ap (λ (b : Bool). if b && test c.area c.level then re
 
 class_spared : (test : ℕ → ℕ → Bool) (c : Class) → c.standing ≡ Live → test c.area c.level ≡ false → condemned_class test c ≡ c
 class_spared test c e t = ap (λ (b : Bool). if b && test c.area c.level then record c { standing = Old } else c) (ap is_live e) ∙ ap (λ (b : Bool). if b then record c { standing = Old } else c) t
+
+-- a class that is live after it was live before, and the same
+still_live : (test : ℕ → ℕ → Bool) (c : Class) → is_live (condemned_class test c).standing ≡ true → condemned_class test c ≡ c
+still_live test c l = go (cases_Bool (is_live c.standing && test c.area c.level))
+  where
+    go : ((is_live c.standing && test c.area c.level) ≡ true) ⊎ ((is_live c.standing && test c.area c.level) ≡ false) → condemned_class test c ≡ c
+    go (inl e) = let z = ap (λ (b : Bool). is_live (if b then record c { standing = Old } else c).standing) e in cc
+    go (inr e) = ap (λ (b : Bool). if b then record c { standing = Old } else c) e
+
+-- and is none that is condemned
+none_live : (test : ℕ → ℕ → Bool) (x y n : ℕ) (c : Class) → test x y ≡ true → in_class x y n (condemned_class test c) ≡ false
+none_live test x y n c t = go (cases_Bool (is_live c.standing && test c.area c.level)) (cases_Bool (in_class x y n c))
+  where
+    go : ((is_live c.standing && test c.area c.level) ≡ true) ⊎ ((is_live c.standing && test c.area c.level) ≡ false) → (in_class x y n c ≡ true) ⊎ (in_class x y n c ≡ false) → in_class x y n (condemned_class test c) ≡ false
+    go (inl e) f = ap (λ (b : Bool). in_class x y n (if b then record c { standing = Old } else c)) e
+    go (inr e) (inr f) = ap (λ (b : Bool). in_class x y n (if b then record c { standing = Old } else c)) e ∙ f
+    go (inr e) (inl f) =
+        let p = and_parts (is_live c.standing) (nat_eq c.area x && nat_eq c.level y) f in
+        let q = and_parts (nat_eq c.area x) (nat_eq c.level y) p.1 in
+        let u : test c.area c.level ≡ true = ap (λ (i : ℕ). test i c.level) (eqb-true c.area x q.0) ∙ ap (test x) (eqb-true c.level y q.1) ∙ t in
+        let v : (is_live c.standing && test c.area c.level) ≡ true = ap (λ (b : Bool). b && test c.area c.level) p.0 ∙ u in
+        cc
 
 no_more : (b : Bool) → (b && false) ≡ false
 no_more true = refl
@@ -162,6 +185,28 @@ module _ (g g' : Image) (k : RoleMap) (top : ℕ) (areas : List AreaRule) (s : S
       let P : (ℕ → Class) → Type 0 = λ C. charges_in s k.at C (in_class x y) ≡ if_true (not (test x y)) (charges_in s k.at (classes g) (in_class x y)) in
       subst P (sym same_classes) (live_after_flip s k.at (classes g) test aim.condemned (suc top) at_home condemns x y)
 
+  -- the words of husks in condemned classes are old
+  husks_after : (x y i : ℕ) → total (husk_word_in k (classes g') x y) i ≤ if_true (not (test x y)) (g.live_husks x y)
+  husks_after x y i = go (cases_Bool (test x y))
+    where
+      became : (a : ℕ) → class_at (classes g') a ≡ condemned_class test (class_at (classes g) a)
+      became a = t.classes_old (Rattle.lisp_meaning.specs.reading.Classes.region_of a)
+
+      zero_one : (b : Bool) → if_true (b && false) 1 ≡ 0
+      zero_one b = ap (λ (c : Bool). if_true c 1) (no_more b)
+
+      go : (test x y ≡ true) ⊎ (test x y ≡ false) → total (husk_word_in k (classes g') x y) i ≤ if_true (not (test x y)) (g.live_husks x y)
+      go (inl e) =
+          let z = total-none (husk_word_in k (classes g') x y) i (λ a l.
+          ap (λ (c : Class). if_true (is_of_husk (k.role a) && in_class x y a c) 1) (became a)
+          ∙ ap (λ (b : Bool). if_true (is_of_husk (k.role a) && b) 1) (none_live test x y a (class_at (classes g) a) e) ∙ zero_one (is_of_husk (k.role a))) in
+          omega arith
+      go (inr e) =
+          let a = husks_stay (classes g) (classes g') k k (record { was = λ a h l. (h, became a ∙ still_live test (class_at (classes g) a) (sym (ap (λ (c : Class). is_live c.standing) (became a)) ∙ l)) }) x y i in
+          let b = h.room_husks x y i in
+          let c : if_true (not (test x y)) (g.live_husks x y) ≡ g.live_husks x y = ap (λ (b : Bool). if_true (not b) (g.live_husks x y)) e in
+          omega arith
+
   room : (b : Bool) (used spares charge husk : ℕ) → used + spares ≤ charge + husk → if_true b used + if_true b spares ≤ if_true b charge + if_true b husk
   room true used spares charge husk l = l
   room false used spares charge husk l = omega arith
@@ -195,6 +240,7 @@ module _ (g g' : Image) (k : RoleMap) (top : ℕ) (areas : List AreaRule) (s : S
     quota = λ a l. (let x = h.quota a l in let y = account_flipped top areas s husks aim test husks_live gone a in omega arith);
     room_live = λ x y. (let a = room (not (test x y)) (used_words g (of_class x y)) (spares_in s k (classes g) (in_class x y)) (g.live_charge x y) (g.live_husks x y) (h.room_live x y) in
         let b = t.live_words x y in let c = t.live_charge x y in let d = t.live_husks x y in let q = spares_after x y in omega arith);
+    room_husks = λ x y i. (let a = husks_after x y i in let e = t.live_husks x y in omega arith);
     room_old = λ x. (let a = room_at_flip s k.at (classes g) test aim.condemned (suc top) at_home condemns x (λ y. used_words g (of_class x y)) (λ y. spares_in s k (classes g) (in_class x y)) (λ y. g.live_charge x y) (s.husks x)
         (λ y. (let r = h.room_live x y in let q = h.live_husks x y in omega arith)) (λ y. h.live_charges x y) in
         let b = t.old_words x in let c = gone x in omega arith);

@@ -1,4 +1,4 @@
--- When no word of a region that stays has an old address, the old regions may be cleared: the names that stand there go.
+-- When no word of a region that stays has an old address, the old regions may be cleared: the names in them are freed.
 use Rattle.std.proofs.Common.{arith, ◌≡◌, ℕ, suc, ◌+◌, ◌≤◌, ◌⊎◌, inl, inr, Bool, true, false, refl, sym, ◌∙◌, ap, subst, Option, Some, if◌then◌else◌}
 use Rattle.std.proofs.lemmas.Bool.{cases_Bool}
 use Rattle.lisp_graph.specs.declared.object.Object.{Object}
@@ -156,7 +156,7 @@ module _ (W : ℕ → Parts) (regions : ℕ → Class) (k : RoleMap) (s s' : Sto
   young kind a n (inl e) h = absurd (no_names kind n (sym (ap (names_as kind) (ap (λ (b : Bool). if b then Blank else k.role a) e)) ∙ h))
   young kind a n (inr e) h = R.young kind a n (sym (ap (names_as kind) (role_stays a e)) ∙ h)
 
-  -- what is left stands for what is left
+  -- the remaining words fit the roles of the remaining names
   pub drop : Roled (cleared regions W) (freed regions) (dropped regions k) s'
   drop = record {
     fits = λ a. fits a (cases_Bool (is_old_at regions a));

@@ -84,7 +84,7 @@ nils_inside K count = refers_each K (replicate count V.Nil) (λ i n l e. nil_ins
 abbrev pub HasNew : Graph → (ℕ → Bool) → Effect → Type 0
 HasNew g K e = (n : ℕ) → length g.objects ≤ n → n < length e.graph.objects → K n ≡ true
 
--- the set is closed after an effect, where it has the new names
+-- the set is closed after an effect, if it has the new names
 abbrev pub ClosedAfter : Graph → (ℕ → Bool) → Effect → Type 0
 ClosedAfter g K e = HasNew g K e → Closed e.graph K
 

@@ -1,4 +1,4 @@
--- What the words are for gives the final address of each reference, after at most one GC-FORWARD and eleven HEADER-FORWARDs.
+-- The roles of words give the final address of each reference, after at most one GC-FORWARD and eleven HEADER-FORWARDs.
 use Rattle.std.proofs.Common.{◌≡◌, ℕ, zero, suc, ◌+◌, ◌≤◌, ◌⊎◌, inl, inr, Bool, true, false, refl, sym, ◌∙◌, ap, subst, arith, Some, None}
 use Rattle.lisp_meaning.specs.reading.Classes.{Class, class_at, is_old_at, is_live_at}
 use Rattle.lisp_meaning.specs.invariants.Fits.{Roled}
@@ -57,7 +57,7 @@ module _ (g : Image) (regions : ℕ → Class) (k : RoleMap) (s : Store) (R : Ro
       at_most true = omega arith
       at_most false = omega arith
 
-  -- a reference tells whether the object is a cons or a block
+  -- the kind of a reference is that of its object
   pub kind_named : (a : ℕ) → names_as kind (k.role a) ≡ Some n → kind_of (object s n).body ≡ kind
   unfolding Reaches
   kind_named a named =

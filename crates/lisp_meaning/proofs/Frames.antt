@@ -1,4 +1,4 @@
--- What a change of some objects leaves of all others.
+-- A change of some objects leaves all others unchanged.
 use Rattle.std.proofs.Common.{◌≡◌, ℕ, suc, ◌+◌, ◌^◌, ◌≤◌, ◌⊎◌, inl, inr, Bool, false, refl, sym, ◌∙◌, ap, subst, arith, Option, Some, None}
 use Rattle.lisp_graph.specs.declared.object.Object.{Object}
 use Rattle.lisp_graph.specs.declared.object.Value.{Value}
@@ -68,7 +68,7 @@ pub record Frame (k k' : RoleMap) (s s' : Store) (exempt : ℕ → Bool) : Type 
   pub parts : (c m : ℕ) → owner (k.role c) ≡ Some m → exempt m ≡ false → k'.role c ≡ k.role c
   pub relaid : (c m : ℕ) (kind : Kind) → k.role c ≡ Relaid kind m → k'.role c ≡ Relaid kind m
   pub husks : (c first : ℕ) → k.role c ≡ HuskWord first → k'.role c ≡ HuskWord first
-  -- a cell that stands next to a cell is the one that stood there
+  -- a word that is a cell by the later map was the same cell, or no reference to a cons there had a name
   pub cells : (c m i : ℕ) → k'.role c ≡ Cell m i → (k.role c ≡ Cell m i) ⊎ (names_as AsCons (k.role c) ≡ None)
   pub ages : (kind : Kind) (c m : ℕ) → names_as kind (k.role c) ≡ Some m → k'.age c ≡ k.age c
   pub used : (m : ℕ) → in_use s m → in_use s' m

@@ -19,7 +19,7 @@ none_scratch : (kind : Kind) (m : ℕ) → names_as kind Scratch ≡ Some m → 
 none_scratch AsCons m e = cc
 none_scratch AsBlock m e = cc
 
--- The class of a region where every word is blank may be any
+-- The class of a region may be any if each of its words is blank
 
 module _ (W : ℕ → Parts) (regions regions' : ℕ → Class) (k : RoleMap) (s : Store) (R : Roled W regions k s)
     (same : (a : ℕ) → (k.role a ≡ Blank → ⊥) → class_at regions' a ≡ class_at regions a) where
@@ -57,7 +57,7 @@ module _ (W : ℕ → Parts) (regions regions' : ℕ → Class) (k : RoleMap) (s
   pub reclassed : Roled W regions' k s
   reclassed = record { fits = λ a. reclass a (W a) (k.role a) refl (R.fits a); begins = R.begins; young = R.young }
 
--- Words are written where all is blank
+-- Blank words are written
 
 module _ (W W' : ℕ → Parts) (regions : ℕ → Class) (k : RoleMap) (s : Store) (R : Roled W regions k s) (b count : ℕ)
     (blank : (a : ℕ) → b ≤ a → a < b + count → k.role a ≡ Blank) (words : (a : ℕ) → ((b ≤ a) × (a < b + count) → ⊥) → W' a ≡ W a) where
@@ -93,7 +93,7 @@ module _ (W W' : ℕ → Parts) (regions : ℕ → Class) (k : RoleMap) (s : Sto
   pub written_frame : Frame k (scratched k b count) s s (λ m. false)
   written_frame = frame W W' regions k (scratched k b count) s s (λ a. (b ≤ a) × (a < b + count)) (λ m. false) (between_which b count) patch
 
--- Where no region is old, classes may become old, each as a whole
+-- If no region is old, classes may become old, each as a whole
 
 module _ (W : ℕ → Parts) (regions : ℕ → Class) (k : RoleMap) (s : Store) (R : Roled W regions k s)
     (none : (a : ℕ) → is_old_at regions a ≡ false) (after : Class → Class) where

@@ -1,17 +1,17 @@
--- An object laid anew, in any shapes, from the invariant to the invariant.
-use Rattle.std.proofs.Common.{◌≡◌, ℕ, suc, ◌+◌, ◌<◌, ◌≤◌, ◌⊎◌, inl, inr, Bool, true, false, ◌==◌, if◌then◌else◌, refl, sym, ◌∙◌, ap, arith, Some, List, length}
+-- An object that is relocated, in any shapes, from the invariant to the invariant.
+use Rattle.std.proofs.Common.{◌≡◌, ℕ, suc, ◌+◌, ◌-◌, ◌<◌, ◌≤◌, ◌⊎◌, inl, inr, Bool, true, false, ◌==◌, if◌then◌else◌, refl, sym, ◌∙◌, ap, arith, Some, List, length}
 use Rattle.std.proofs.lemmas.Bool.{cases_Bool}
 use Rattle.lisp_graph.specs.store_word.Words.{Parts}
 use Rattle.lisp_graph.specs.declared.world.AreaRule.{AreaRule}
 use Rattle.lisp_graph.specs.Totals.{if_true}
 use Rattle.lisp_meaning.specs.machine.State.{rule_of, survivor, Condemned, Store, object}
 use Rattle.lisp_meaning.specs.machine.Charges.{account}
-use Rattle.lisp_meaning.specs.reading.Image.{Image, word, region, Live, Old}
-use Rattle.lisp_meaning.specs.reading.Classes.{class_at, region_of, classes, in_old}
+use Rattle.lisp_meaning.specs.reading.Image.{Image, word, region, is_free, Live, Old}
+use Rattle.lisp_meaning.specs.reading.Classes.{Class, class_at, region_of, classes, in_old}
 use Rattle.lisp_meaning.specs.reading.Marks.{Marks}
-use Rattle.lisp_meaning.specs.invariants.Roles.{Role, HuskWord, Relaid, RoleMap, Refines}
+use Rattle.lisp_meaning.specs.invariants.Roles.{Kind, AsCons, Role, HuskWord, Relaid, RoleMap, Refines}
 use Rattle.lisp_meaning.specs.invariants.Fits.{Roled}
-use Rattle.lisp_meaning.specs.invariants.ChargesIn.{is_cell, charges_in}
+use Rattle.lisp_meaning.specs.invariants.ChargesIn.{is_cell, charges_in, is_of_husk}
 use Rattle.lisp_meaning.specs.invariants.Invariant.{MemoryInvariant}
 use Rattle.lisp_meaning.specs.invariants.Laid.{Shape, size, kind_in, role_in, scratched, relaid_to}
 use Rattle.lisp_meaning.specs.invariants.Placed.{Placed, Recharged}
@@ -20,11 +20,12 @@ use Rattle.lisp_meaning.proofs.Frames.{Frame}
 use Rattle.lisp_meaning.proofs.Laying.{role_new}
 use Rattle.lisp_meaning.proofs.Standing.{Standing, positive}
 use Rattle.lisp_meaning.proofs.Placing.{frame_then, ground_frame}
-use Rattle.lisp_meaning.proofs.Glue.{laid_roles}
+use Rattle.lisp_meaning.proofs.Husks.{husks_relaid}
+use Rattle.lisp_meaning.proofs.Glue.{laid_roles, laid_where}
 use Rattle.lisp_meaning.proofs.ObjectMoved.{PlacedRoles, placed_roles}
 use Rattle.lisp_meaning.proofs.Relaying.{Relays, kept_relaid, relaid_old}
 
--- the level of what stands in a live region: its held level, or, condemned and moved, its survivor's
+-- the level of an object in a live region: its held level or, if it is condemned and has moved, its survivor's
 pub live_level : (g : Image) (k : RoleMap) (top : ℕ) (areas : List AreaRule) (s : Store) (aim : Condemned) → MemoryInvariant g k top areas s aim → (n level : ℕ) → s.held n ≡ Some level → (region g (k.at n)).standing ≡ Live
     → (region g (k.at n)).level ≡ (if aim.condemned n then survivor top aim.what level else level)
 live_level g k top areas s aim h n level held live = go (cases_Bool (aim.condemned n))
@@ -61,11 +62,42 @@ module _ (g g1 : Image) (k : RoleMap) (top : ℕ) (areas : List AreaRule) (s s' 
   whole : Frame k (relaid_to k n a old b new) s s' (λ m. m == n)
   whole = frame_then k (scratched k b (size new)) (relaid_to k n a old b new) s s s' (λ m. m == n) (ground_frame g g1 k top areas s aim h b (size new) area level p) f
 
-  pub kept_laid_anew : MemoryInvariant (record g1 { words = ws }) (relaid_to k n a old b new) top areas s' aim
-  kept_laid_anew = kept_relaid g g1 k (relaid_to k n a old b new) top areas s s' aim h n b (size new) area level husk p c ws marks r (ap (class_at (classes g)) st.place ∙ there) roled whole
+  -- the old words become a husk, or the one old word of a cell a forward, and then there is none
+  abbrev pub Husk : Type 0
+  Husk = (husk ≡ size old) ⊎ ((kind_in old ≡ AsCons) × (size old ≡ 1) × (husk ≡ 0))
+
+  which : Husk → (i : ℕ) → is_of_husk ((relaid_to k n a old b new).role i) ≡ true → ((relaid_to k n a old b new).role i ≡ k.role i) ⊎ ((a ≤ i) × (i < a + husk))
+  which husk_is i e =
+      go husk_is (laid_where k n a (size old) b new (Relaid (kind_in old) n) (HuskWord a) (suc (k.age a)) roles.only roles.inside roles.outside (λ z. cc) (λ z. cc) (λ z. cc) (λ z. cc) i e)
+    where
+      go : Husk → ((relaid_to k n a old b new).role i ≡ k.role i)
+          ⊎ ((i ≡ a) × (0 < size old) × ((relaid_to k n a old b new).role i ≡ Relaid (kind_in old) n)) ⊎ ((a < i) × (i < a + size old) × ((relaid_to k n a old b new).role i ≡ HuskWord a))
+          → ((relaid_to k n a old b new).role i ≡ k.role i) ⊎ ((a ≤ i) × (i < a + husk))
+      go w (inl r) = inl r
+      go (inl w) (inr (inl x)) = let u = x.0 in let v = x.1 in inr (omega arith, omega arith)
+      go (inl w) (inr (inr x)) = let u = x.0 in let v = x.1 in inr (omega arith, omega arith)
+      go (inr w) (inr (inl x)) = let y = ap is_of_husk x.2 ∙ ap (λ (q : Kind). is_of_husk (Relaid q n)) w.0 in cc
+      go (inr w) (inr (inr x)) = let u = x.0 in let v = x.1 in let q = w.1 in absurd (omega arith)
+
+  -- they are in the object's class
+  near : Husk → (i : ℕ) → (a ≤ i) × (i < a + husk) → class_at (classes g1) i ≡ record { area = area; level = level; standing = Live }
+  near husk_is i x = go husk_is
+    where
+      inside : husk ≤ size old → class_at (classes g1) i ≡ record { area = area; level = level; standing = Live }
+      inside few =
+          let l = x.0 in let y = x.1 in
+          ap (classes g1) (ap region_of (let z : i ≡ a + (i - a) = omega arith in z) ∙ st.region (i - a) (omega arith)) ∙ p.class a (ap (λ (q : Class). is_free q.standing) there) ∙ there
+
+      go : Husk → class_at (classes g1) i ≡ record { area = area; level = level; standing = Live }
+      go (inl w) = inside (omega arith)
+      go (inr w) = let z = w.2 in inside (omega arith)
+
+  pub kept_laid_anew : Husk → MemoryInvariant (record g1 { words = ws }) (relaid_to k n a old b new) top areas s' aim
+  kept_laid_anew husk_is = kept_relaid g g1 k (relaid_to k n a old b new) top areas s s' aim h n b (size new) area level husk p c ws marks r (ap (class_at (classes g)) st.place ∙ there) roled whole
       (laid_roles k n a (size old) b new (Relaid (kind_in old) n) (HuskWord a) (suc (k.age a)) roles.only roles.inside roles.outside (λ z. cc) (λ z. cc) (λ z. cc) (λ z. cc))
       (λ m ne. put_at-other k.at n b m ne) (ap region_of at_new) quota
       (let x = ap (λ (y : Role). if_true (is_cell y) 2) role_there in let z = ap (λ (y : Role). if_true (is_cell y) 2) role_here in let w = pays in omega arith)
+      (husks_relaid g g1 k (relaid_to k n a old b new) b (size new) area level h.covered p a husk (object s n).charge (object s' n).charge c (which husk_is) (near husk_is) h.room_husks)
 
   pub laid_anew_old : charges_in s' (relaid_to k n a old b new).at (classes g1) in_old ≡ charges_in s k.at (classes g) in_old
   laid_anew_old = relaid_old g g1 k (relaid_to k n a old b new) top areas s s' aim h n b (size new) area level husk p c ws marks r (ap (class_at (classes g)) st.place ∙ there) roled whole

@@ -1,4 +1,4 @@
--- What a reference means where an object was laid.
+-- What a reference to an object means at the place to which the object was written.
 use Rattle.std.proofs.Common.{◌≡◌, ℕ, ◌+◌, ◌-◌, ◌<◌, Bool, ◌==◌, if◌then◌else◌, ◌∙◌, ap, arith, Some}
 use Rattle.lisp_meaning.specs.invariants.Laid.{Shape, size, kind_in, role_in, between, laid, run_laid}
 use Rattle.lisp_meaning.specs.invariants.Roles.{Kind, AsCons, Role, Cell, names_as, RoleMap}

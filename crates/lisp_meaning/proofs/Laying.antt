@@ -80,7 +80,7 @@ OldWord a gone c = (a ≤ c) × (c < a + gone)
 abbrev pub NewWord : ℕ → Shape → ℕ → Type 0
 NewWord b shape c = (b ≤ c) × (c < b + size shape)
 
--- the one object n is laid anew, or for the first time where gone is 0
+-- the one object n is relocated, or is laid out for the first time if gone is 0
 pub record Laying (W W' : ℕ → Parts) (regions : ℕ → Class) (k : RoleMap) (s s' : Store) (n a gone b : ℕ) (shape : Shape) (first rest : Role) (age : ℕ) : Type 0 where
   -- these are the words of n
   pub all : (c : ℕ) → owner (k.role c) ≡ Some n → (a ≤ c) × (c < a + gone)
@@ -108,7 +108,7 @@ pub record Laying (W W' : ℕ → Parts) (regions : ℕ → Class) (k : RoleMap)
   pub fits_rest : Frame k (laid k n a gone b shape first rest age) s s' (λ m. m == n) → (j : ℕ) → 0 < j → j < gone
       → Fits regions (laid k n a gone b shape first rest age) s' (a + j) (W' (a + j)) rest
 
--- where n's new words are, no word of n was
+-- at the addresses of n's new words there was no word of n
 module _ (k : RoleMap) (n a gone b : ℕ) (shape : Shape) (first rest : Role) (age : ℕ)
     (only : (j : ℕ) → j < gone → owner (k.role (a + j)) ≡ Some n) (scratch : (j : ℕ) → j < size shape → k.role (b + j) ≡ Scratch) where
   pub was_scratch : (c : ℕ) → NewWord b shape c → k.role c ≡ Scratch

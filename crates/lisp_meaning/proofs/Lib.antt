@@ -36,8 +36,10 @@ pub mod Transported
 pub mod ObjectMoved
 pub mod Changes
 pub mod Reading
+pub mod HuskWords
 pub mod Adequacy
 pub mod Placing
+pub mod Husks
 pub mod ObjectMade
 pub mod Relaying
 pub mod LaidAnew

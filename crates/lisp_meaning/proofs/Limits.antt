@@ -1,4 +1,4 @@
--- Worlds and commands within the limits of a machine bring no name that dangles.
+-- Worlds and commands within the limits of a machine introduce no name that dangles.
 use Rattle.std.proofs.Common.{◌≡◌, ℕ, ◌<◌, ◌⊎◌, inl, inr, true, refl, arith, List, length, get_or, nat_lt}
 use Rattle.std.specs.List.{All}
 use Rattle.std.proofs.lemmas.Bool.{or_cases, eqb-true, lt-ltb, ltb-true}

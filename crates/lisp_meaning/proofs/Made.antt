@@ -40,7 +40,7 @@ where_sum : (t : Bool) (f : ℕ → ℕ) (n : ℕ) → total (λ i. if_true t (f
 where_sum true f n = refl
 where_sum false f n = total-none (λ i. 0) n (λ m l. refl)
 
--- so much more is charged to the area where objects are made
+-- the area in which objects are made is charged this much more
 module _ (s : Store) (made : List Object) (level top area : ℕ) (aim : Condemned) (below : (n : ℕ) → in_use s n → n < length s.objects)
     (areas_are : (i : ℕ) → i < length made → (object_at made i).area ≡ area) where
   counted_in : (a m : ℕ) → ℕ

@@ -1,4 +1,4 @@
--- New objects in words that are written and not yet used: a pair, a block, a run of cells.
+-- New objects in words that are written and not yet used: a pair, a block, a compact run of cells.
 use Rattle.std.proofs.Common.{◌≡◌, ℕ, zero, suc, ◌+◌, ◌-◌, ◌<◌, ◌≤◌, ◌⊎◌, inl, inr, Bool, true, ◌==◌, if◌then◌else◌, refl, sym, ◌∙◌, ap, subst, arith, Some}
 use Rattle.std.proofs.lemmas.Bool.{cases_lt}
 use Rattle.lisp_graph.specs.declared.object.Value.TheVariants as V
@@ -101,7 +101,7 @@ module _ (W : ℕ → Parts) (regions : ℕ → Class) (k : RoleMap) (s s' : Sto
     pub make_block_frame : Frame k (laid k n 0 0 b (ABlock count) Waste Waste 0) s s' (λ m. m == n)
     make_block_frame = make_frame (ABlock count) kind scratch_all block_new
 
--- A run: so many new names from one on, in so many words from b on
+-- A compact run: `count` new names, from one on, in `count` words from b on
 
 module _ (W : ℕ → Parts) (regions : ℕ → Class) (k : RoleMap) (s s' : Store) (R : Roled W regions k s) (from b count : ℕ) (few : count ≤ 1024)
     (new : (j : ℕ) → j < count → in_use s (from + j) → ⊥) (used : (j : ℕ) → j < count → in_use s' (from + j))

@@ -1,4 +1,4 @@
--- The images that stand for nothing, and those beside them.
+-- The images that represent no state, and the right ones beside them.
 use Rattle.std.proofs.Common.{subst, ◌≡◌, ◌==◌, ℕ, zero, suc, ◌+◌, ◌*◌, ◌/◌, ◌<◌, ◌≤◌, ◌⊎◌, inl, inr, Bool, true, false, ◌&&◌, if◌then◌else◌, refl, sym, ap, arith, [], ◌∷◌, Option, Some, None, is_some, IsTrue}
 use Rattle.std.specs.Prelude.{nat_lt, get_or}
 use Rattle.std.proofs.lemmas.Bool.{eqb-true, ltb-true}
@@ -7,6 +7,7 @@ use Rattle.lisp_graph.specs.declared.object.Value.TheVariants as V
 use Rattle.lisp_graph.specs.declared.command.Condemn.{Condemn}
 use Rattle.lisp_graph.specs.declared.command.Condemn.TheVariants.{Full, Chosen}
 use Rattle.lisp_graph.specs.Totals.{total, if_true}
+use Rattle.lisp_meaning.specs.machine.Maps.{some_below}
 use Rattle.lisp_meaning.specs.machine.State.{no_aim, survivor, object, in_use}
 use Rattle.lisp_meaning.specs.reading.Image.{Live, Old, no_region, Image, word, region, is_live, is_old, is_free, old_at, is_used}
 use Rattle.lisp_meaning.specs.reading.Classes.{of_class}
@@ -17,7 +18,7 @@ use Rattle.lisp_meaning.specs.reading.Marks.{Marks}
 use Rattle.lisp_meaning.specs.reading.Stands.{Classes, Fresh, IsScanned, Room, Work}
 use Rattle.lisp_meaning.specs.examples.Worked.{image, nothing}
 use Rattle.lisp_meaning.specs.examples.Misread as E
-use Rattle.lisp_meaning.specs.examples.Misread.{neighbours, two_objects, husks_alone, chain, five_below, marked_by, referring_to, scanning, used_region, one_pair, pair_in, condemning, owing, running}
+use Rattle.lisp_meaning.specs.examples.Misread.{neighbours, two_objects, words_in, block_after_husk, husk_of, husks_alone, chain, five_below, marked_by, referring_to, scanning, used_region, one_pair, pair_in, condemning, owing, running}
 
 -- Objects
 
@@ -87,6 +88,7 @@ more : Room (chain 2049) husks_alone no_aim (λ n. n)
 unfolding total
 more = record {
   live = λ area level. few (of_class area level (used_region Live 0 1)) 2049 (omega arith);
+  husks = λ area level. (let x : 0 ≤ 4096 = omega arith in x);
   old = λ area. (let x : 0 ≤ 0 = omega arith in x);
   chains = λ i l free last. chains i l last;
   above = λ a e. refl;
@@ -107,10 +109,15 @@ one : (b : Bool) → if_true b 1 + 0 + 0 ≤ 4096
 one true = omega arith
 one false = omega arith
 
+one_word : (b : Bool) → if_true (b && true) 1 + 0 ≤ 4096
+one_word true = omega arith
+one_word false = omega arith
+
 below : Room (five_below 1) husks_alone no_aim (λ n. n)
-unfolding total
+unfolding total some_below
 below = record {
   live = λ area level. one (of_class area level (used_region Live 0 1));
+  husks = λ area level. one_word (of_class area level (used_region Live 0 1));
   old = λ area. (let x : 0 ≤ 0 = omega arith in x);
   chains = λ i l free last. absurd (cc);
   above = λ a e. above a e;
@@ -125,6 +132,46 @@ null_above = record {
   below = below;
   above = λ r. (let e = ap (λ (w : Parts). w.content) (r.above 0 refl) in absurd (cc));
 }
+
+room_four : (b : Bool) → if_true b 10 + 0 + 2 * (if_true (b && false) 1 + (if_true (b && false) 1 + (if_true (b && false) 1 + 0))) ≤ if_true b 3 + (if_true b 3 + (if_true b 2 + 0)) + 4
+room_four true = omega arith
+room_four false = omega arith
+
+husks_four : (b : Bool)
+    → if_true (b && false) 1 + (if_true (b && false) 1 + (if_true (b && false) 1 + (if_true (b && false) 1 + (if_true (b && false) 1 + (if_true (b && false) 1
+    + (if_true (b && true) 1 + (if_true (b && true) 1 + (if_true (b && true) 1 + (if_true (b && true) 1 + 0))))))))) ≤ 4
+husks_four true = omega arith
+husks_four false = omega arith
+
+four_words : Room (words_in block_after_husk (used_region Live 0 10 ∷ [])) (husk_of 4) no_aim (λ n. 4 + 2 * n)
+unfolding total some_below
+four_words = record {
+  live = λ area level. room_four (of_class area level (used_region Live 0 10));
+  husks = λ area level. husks_four (of_class area level (used_region Live 0 10));
+  old = λ area. (let x : 0 ≤ 0 = omega arith in x);
+  chains = λ i l free last. absurd (cc);
+  above = λ a e. above a e;
+}
+  where
+    above : (a : ℕ) → is_used (words_in block_after_husk (used_region Live 0 10 ∷ [])) a ≡ false → word (words_in block_after_husk (used_region Live 0 10 ∷ [])) a ≡ null_word
+    above zero e = absurd (cc)
+    above (suc zero) e = refl
+    above (suc (suc zero)) e = refl
+    above (suc (suc (suc zero))) e = refl
+    above (suc (suc (suc (suc zero)))) e = absurd (cc)
+    above (suc (suc (suc (suc (suc zero))))) e = absurd (cc)
+    above (suc (suc (suc (suc (suc (suc zero)))))) e = absurd (cc)
+    above (suc (suc (suc (suc (suc (suc (suc zero))))))) e = absurd (cc)
+    above (suc (suc (suc (suc (suc (suc (suc (suc zero)))))))) e = absurd (cc)
+    above (suc (suc (suc (suc (suc (suc (suc (suc (suc zero))))))))) e = absurd (cc)
+    above (suc (suc (suc (suc (suc (suc (suc (suc (suc (suc a)))))))))) e = refl
+
+three_words : Room (words_in block_after_husk (used_region Live 0 10 ∷ [])) (husk_of 3) no_aim (λ n. 4 + 2 * n) → ⊥
+unfolding total some_below
+three_words r = let x : 4 ≤ 3 = r.husks 0 0 in absurd (omega arith)
+
+pub husks_are_few : E.HusksAreFew
+husks_are_few = record { four = four_words; three = three_words }
 
 -- Marks
 
@@ -203,7 +250,7 @@ not_and : (b : Bool) → (b && false) ≡ true → ⊥
 not_and true e = cc
 not_and false e = cc
 
--- nothing is left: an address of a live region is none of an old one
+-- nothing remains to be scanned: an address of a live region is none of an old one
 none_left : (b : Bool) → (b && false) ≡ false
 none_left true = refl
 none_left false = refl

@@ -14,7 +14,7 @@ use Rattle.lisp_meaning.proofs.Patches.{begins_owner}
 use Rattle.lisp_meaning.proofs.Accounts.{spares_changed}
 use Rattle.lisp_meaning.proofs.Charges.{charges_leave, charges_enter, charges_stay}
 
--- so much charge, and so many words that cells may need, went from one class to another
+-- this much charge, and this many words that cells may need, moved from one class to another
 pub record Moves (regions : ℕ → Class) (k k' : RoleMap) (s : Store) (old new : Class) (charge spare : ℕ) : Type 0 where
   pub leave : (passes : ℕ → Class → Bool) → ((m : ℕ) → passes m old ≡ true) → ((m : ℕ) → passes m new ≡ false) → charges_in s k'.at regions passes + charge ≡ charges_in s k.at regions passes
   pub enter : (passes : ℕ → Class → Bool) → ((m : ℕ) → passes m old ≡ false) → ((m : ℕ) → passes m new ≡ true) → charges_in s k'.at regions passes ≡ charges_in s k.at regions passes + charge

@@ -1,4 +1,4 @@
--- The next unit, and whether something is left.
+-- The next unit, and whether a unit remains to be scanned.
 use Rattle.std.proofs.Common.{◌≡◌, ℕ, zero, suc, ◌<◌, ◌⊎◌, inl, inr, Bool, true, false, ◌&&◌, refl, sym, ◌∙◌, ap, arith, Option, Some, None, length}
 use Rattle.std.proofs.lemmas.Bool.{cases_eq, and_parts}
 use Rattle.lisp_meaning.specs.reading.Image.{Image}

@@ -9,7 +9,7 @@ use Rattle.lisp_graph.specs.Totals.{total, if_true}
 use Rattle.lisp_graph.proofs.Totals.{total-cong, total-suc}
 use Rattle.lisp_meaning.specs.machine.Changes.{with_made}
 use Rattle.lisp_meaning.specs.machine.Charges.{account, charges, per_area}
-use Rattle.lisp_meaning.specs.invariants.ChargesIn.{charges_in, spare_in, spares_in, is_cell}
+use Rattle.lisp_meaning.specs.invariants.ChargesIn.{charges_in, spare_in, spares_in, is_cell, is_of_husk}
 use Rattle.lisp_meaning.specs.reading.Classes.{Class, class_at, region_of, in_class, in_old_class, classes, of_class, in_old}
 use Rattle.lisp_meaning.specs.invariants.Fits.{Roled}
 use Rattle.lisp_meaning.specs.reading.Image.{Image, word, region, is_free, is_used, used_words, Live, Old}
@@ -26,6 +26,7 @@ use Rattle.lisp_meaning.proofs.Patches.{begins_owner}
 use Rattle.lisp_meaning.proofs.Laying.{other_is, between_which, role_new, role_else}
 use Rattle.lisp_meaning.proofs.Standing.{positive, owner_in}
 use Rattle.lisp_meaning.proofs.Charges.{charges_new, charges_new_else}
+use Rattle.lisp_meaning.proofs.Husks.{owned_no_husk, husks_placed}
 use Rattle.lisp_meaning.proofs.Changes.{made_size, made_new, made_same, held_old, held_new, made_used}
 use Rattle.lisp_meaning.proofs.Placing.{frame_then, scratch_role, other_role, ground_frame, class_else, charges_before_at, two_numbers, class_yes, class_no}
 
@@ -306,6 +307,13 @@ module _ (g g' : Image) (k : RoleMap) (top : ℕ) (areas : List AreaRule) (s : S
   still_used : (m : ℕ) → in_use s m → in_use (with_made s (o ∷ []) level) m
   still_used m u = ap is_some (held_same m (λ (z : m ≡ length s.objects). let x = h.names m u in omega arith)) ∙ u
 
+  no_husk : (a : ℕ) → is_of_husk ((newly_laid k (length s.objects) b shape).role a) ≡ true → (newly_laid k (length s.objects) b shape).role a ≡ k.role a
+  no_husk a e = go (between_which b (size shape) a)
+    where
+      go : ((b ≤ a) × (a < b + size shape)) ⊎ ((b ≤ a) × (a < b + size shape) → ⊥) → (newly_laid k (length s.objects) b shape).role a ≡ k.role a
+      go (inl x) = let z = owned_no_husk ((newly_laid k (length s.objects) b shape).role a) (length s.objects) (new_owner a x) in cc
+      go (inr x) = role_out a x
+
   -- the whole invariant
   pub kept_made : MemoryInvariant g' (newly_laid k (length s.objects) b shape) top areas (with_made s (o ∷ []) level) aim
   kept_made = record {
@@ -322,12 +330,13 @@ module _ (g g' : Image) (k : RoleMap) (top : ℕ) (areas : List AreaRule) (s : S
     old_husks = λ x. total-cong (g'.old_husks x) (g.old_husks x) (suc top) (λ y l. c.old_husks x y) ∙ h.old_husks x;
     quota = quota;
     room_live = λ x y. room_live x y (two_numbers x y area level (cases_eq x area) (cases_eq y level));
+    room_husks = husks_placed g g' k (newly_laid k (length s.objects) b shape) b (size shape) area level h.covered p no_husk c.live_husks h.room_husks;
     room_old = λ x. (let a = h.room_old x in let u = p.used_old x in let d = doomed_sum x in omega arith);
     chains = p.chains;
     marks = marks;
   }
 
-  -- what stands old stays
+  -- what is in old regions stays
   pub kept_made_old : charges_in (with_made s (o ∷ []) level) (newly_laid k (length s.objects) b shape).at (classes g') in_old ≡ charges_in s k.at (classes g) in_old
   kept_made_old = sum_without in_old refl
 

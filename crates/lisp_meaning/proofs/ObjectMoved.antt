@@ -12,7 +12,7 @@ use Rattle.lisp_meaning.specs.reading.Classes.{Class, class_at, is_old_at, is_li
 use Rattle.lisp_meaning.specs.reading.Marks.{Marks}
 use Rattle.lisp_meaning.specs.invariants.Roles.{Role, Scratch, Waste, Head, Moved, owner, RoleMap}
 use Rattle.lisp_meaning.specs.invariants.Fits.{Roled}
-use Rattle.lisp_meaning.specs.invariants.ChargesIn.{is_cell}
+use Rattle.lisp_meaning.specs.invariants.ChargesIn.{is_cell, is_of_husk}
 use Rattle.lisp_meaning.specs.invariants.Invariant.{MemoryInvariant}
 use Rattle.lisp_meaning.specs.invariants.Laid.{Shape, ABlock, size, kind_in, role_in, scratched, moved_to}
 use Rattle.lisp_meaning.proofs.Later.{LessOld}
@@ -23,7 +23,7 @@ use Rattle.lisp_meaning.proofs.Laying.{role_new}
 use Rattle.lisp_meaning.proofs.Standing.{Standing, positive, owner_in, block_fits, stands_block}
 use Rattle.lisp_meaning.proofs.Flip.{flip_block, flip_block_frame}
 use Rattle.lisp_meaning.proofs.Placing.{frame_then, opened, ground, scratch_role, other_role, ground_frame, class_else}
-use Rattle.lisp_meaning.proofs.Glue.{laid_roles}
+use Rattle.lisp_meaning.proofs.Glue.{laid_roles, laid_where}
 use Rattle.lisp_meaning.proofs.Moves.{Moves, moves_then, moves_written, moves_one, moves_as}
 use Rattle.lisp_meaning.proofs.Transported.{Carried, kept_moved, less_old}
 
@@ -31,7 +31,7 @@ use Rattle.lisp_meaning.proofs.Transported.{Carried, kept_moved, less_old}
 
 module _ (g : Image) (k : RoleMap) (top : ℕ) (areas : List AreaRule) (s : Store) (aim : Condemned) (h : MemoryInvariant g k top areas s aim) (n a area from : ℕ)
     (used : in_use s n) (place : k.at n ≡ a) (there : class_at (classes g) a ≡ record { area = area; level = from; standing = Old }) where
-  -- only condemned objects stand in old regions
+  -- only condemned objects are in old regions
   pub old_condemned : aim.condemned n ≡ true
   old_condemned = go (cases_Bool (aim.condemned n)) (s.held n) refl used
     where
@@ -46,7 +46,7 @@ module _ (g : Image) (k : RoleMap) (top : ℕ) (areas : List AreaRule) (s : Stor
   pub old_area : (object s n).area ≡ area
   old_area = sym (h.classes_of.area n used) ∙ ap (λ (i : ℕ). (region g i).area) place ∙ ap (λ (c : Class). c.area) there
 
--- a word that belongs to an object isn't where words are placed
+-- a word that belongs to an object isn't among the words that are placed
 pub not_placed : (g g1 : Image) (k : RoleMap) (top : ℕ) (areas : List AreaRule) (s : Store) (aim : Condemned) → MemoryInvariant g k top areas s aim → (b count area level : ℕ) → Placed g g1 b count area level
     → (c n : ℕ) → owner (k.role c) ≡ Some n → (b ≤ c) × (c < b + count) → ⊥
 not_placed g g1 k top areas s aim h b count area level p c n o x = let z = ap owner (h.covered.unused c (p.unused c x.0 x.1)) in cc
@@ -115,11 +115,22 @@ module _ (g g1 : Image) (k : RoleMap) (top : ℕ) (areas : List AreaRule) (s : S
       (moves_one (word g1) (classes g1) (scratched k b (size new)) (moved_to k n a old b new) s n _ _ (ground g g1 k top areas s aim h b (size new) area level p) f (h.names n used) used
       (λ m ne. put_at-other k.at n b m ne) was_old (ap (class_at (classes g1)) at_new ∙ p.class_there)))
 
+  no_husk : (i : ℕ) → is_of_husk ((moved_to k n a old b new).role i) ≡ true → (moved_to k n a old b new).role i ≡ k.role i
+  no_husk i e =
+      go (laid_where k n a (size old) b new (Moved (kind_in old) n) Waste (k.age a) roles.only roles.inside roles.outside (λ z. cc) (λ z. cc) (λ z. cc) (λ z. cc) i e)
+    where
+      go : ((moved_to k n a old b new).role i ≡ k.role i)
+          ⊎ ((i ≡ a) × (0 < size old) × ((moved_to k n a old b new).role i ≡ Moved (kind_in old) n)) ⊎ ((a < i) × (i < a + size old) × ((moved_to k n a old b new).role i ≡ Waste))
+          → (moved_to k n a old b new).role i ≡ k.role i
+      go (inl r) = r
+      go (inr (inl x)) = let y = ap is_of_husk x.2 in cc
+      go (inr (inr x)) = let y = ap is_of_husk x.2 in cc
+
   -- the invariant after the transport
   pub kept_object_moved : MemoryInvariant (record g1 { words = ws }) (moved_to k n a old b new) top areas s aim
   kept_object_moved = kept_moved g g1 k (moved_to k n a old b new) top areas s aim h b (size new) area level from (object s n).charge (if_true (is_cell (role_in new n 0)) 2) p c ws marks roled
       (laid_roles k n a (size old) b new (Moved (kind_in old) n) Waste (k.age a) roles.only roles.inside roles.outside (λ z. cc) (λ z. cc) (λ z. cc) (λ z. cc))
-      (λ m u. places m (cases_eq m n)) moves survives low pays
+      (λ m u. places m (cases_eq m n)) moves survives low pays no_husk
 
   pub object_less_old : LessOld g (record g1 { words = ws }) k (moved_to k n a old b new) s (object s n).charge
   object_less_old = less_old g g1 k (moved_to k n a old b new) top areas s aim h b (size new) area level from (object s n).charge (if_true (is_cell (role_in new n 0)) 2) p c ws marks roled
@@ -143,7 +154,7 @@ module _ (g g1 : Image) (k : RoleMap) (top : ℕ) (areas : List AreaRule) (s : S
   pub written_there : (j : ℕ) → j < count → (scratched k b count).role (b + j) ≡ Scratch
   written_there j l = scratch_role g g1 k top areas s aim h b count area level p (b + j) (omega arith, omega arith)
 
-  -- a word of an object keeps its role, and is as it was
+  -- a word of an object keeps its role, and is unchanged
   pub still_owned : (i m : ℕ) → owner (k.role i) ≡ Some m → (scratched k b count).role i ≡ k.role i
   still_owned i m o = other_role g g1 k top areas s aim h b count area level p i (not_placed g g1 k top areas s aim h b count area level p i m o)
 

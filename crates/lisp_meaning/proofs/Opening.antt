@@ -16,7 +16,7 @@ use Rattle.lisp_meaning.specs.reading.Image.{Image, word, no_region, Region, is_
 use Rattle.lisp_meaning.specs.reading.Classes.{classes, of_class, old_of, in_class, in_old_class}
 use Rattle.lisp_meaning.specs.invariants.Roles.{Kind, AsCons, AsBlock, Blank, names_as, value_of}
 use Rattle.lisp_meaning.specs.invariants.Fits.{Roled}
-use Rattle.lisp_meaning.specs.invariants.ChargesIn.{charge_in, spare_in}
+use Rattle.lisp_meaning.specs.invariants.ChargesIn.{charge_in, spare_in, husk_word_in}
 use Rattle.lisp_meaning.specs.invariants.Invariant.{MachineInvariant}
 use Rattle.lisp_meaning.specs.keeping.Empty.{IsEmpty, IsBare, blank_map}
 use Rattle.lisp_meaning.proofs.Charges.{total-none}
@@ -75,6 +75,7 @@ module _ (g : Image) (w : World) (e : IsEmpty g (length w.roots)) (b : IsBare w)
       old_husks = λ a. total-none (g.old_husks a) (suc w.space.levels) (λ m l. e.old_husks a m);
       quota = λ a l. (let z = no_account a in omega arith);
       room_live = λ a l. (let x = nothing_used (of_class a l) refl in let y = none (spare_in (opening w).store blank_map (classes g) (in_class a l)) in omega arith);
+      room_husks = λ a l i. (let x = total-none (husk_word_in blank_map (classes g) a l) i (λ m q. refl) in let y = e.live_husks a l in omega arith);
       room_old = λ a. (let x = nothing_used (old_of a) refl in omega arith);
       chains = λ i l h f. (let x = ap (λ (r : Region). is_free r.standing) (e.regions i) in cc);
       marks = record { marked = λ a c h l. absurd (no_address a c h); not_free = λ a c h. absurd (no_address a c h) };

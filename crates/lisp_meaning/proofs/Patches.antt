@@ -1,4 +1,4 @@
--- A change of the map and of some words: what is to be shown at those words, and that all else then fits by itself.
+-- A change of the map and of some words: what has to be shown of those words; then all others fit too.
 use Rattle.std.proofs.Common.{◌≡◌, ℕ, ◌≤◌, ◌⊎◌, inl, inr, Bool, true, false, refl, sym, ◌∙◌, ap, subst, arith, Some, None}
 use Rattle.std.proofs.lemmas.Bool.{cases_Bool}
 use Rattle.lisp_meaning.specs.reading.Classes.{Class}
@@ -9,13 +9,13 @@ use Rattle.lisp_graph.specs.store_word.Words.{Parts}
 use Rattle.lisp_meaning.proofs.Frames.{Alike, Frame, framed}
 
 pub record Patch (W W' : ℕ → Parts) (regions : ℕ → Class) (k k' : RoleMap) (s s' : Store) (touched : ℕ → Type 0) (exempt : ℕ → Bool) : Type 0 where
-  -- all other words are as they were, and are part of no name that is exempt
+  -- all words that aren't touched are unchanged, and are part of no exempt name
   pub words : (a : ℕ) → (touched a → ⊥) → W' a ≡ W a
   pub roles : (a : ℕ) → (touched a → ⊥) → k'.role a ≡ k.role a
   pub ages : (a : ℕ) → (touched a → ⊥) → k'.age a ≡ k.age a
   pub away : (a n : ℕ) → (touched a → ⊥) → owner (k.role a) ≡ Some n → exempt n ≡ false
   pub alike : (a : ℕ) → (touched a → ⊥) → Alike (k.role a) s s'
-  -- the names that aren't exempt stand where they stood
+  -- the names that aren't exempt are at the same addresses
   pub place : (n : ℕ) → exempt n ≡ false → k'.at n ≡ k.at n
   pub used : (n : ℕ) → in_use s n → in_use s' n
   pub kinds : (n : ℕ) → in_use s' n → exempt n ≡ false → in_use s n × (kind_of (object s' n).body ≡ kind_of (object s n).body)

@@ -1,4 +1,4 @@
--- Words placed and written: the ground for an object that is laid there.
+-- Words placed and written: the ground for an object that is laid out there.
 use Rattle.std.specs.Prelude.{List}
 use Rattle.std.proofs.Common.{◌≡◌, ℕ, ◌+◌, ◌<◌, ◌≤◌, ◌⊎◌, inl, inr, Bool, true, false, ◌&&◌, refl, sym, ◌∙◌, ap, arith, Option, Some, None, length, nat_eq}
 use Rattle.std.proofs.lemmas.Bool.{cases_Bool, eqb-true}
@@ -96,7 +96,7 @@ two_numbers x y a b (inl u) (inl v) = inl (u, v)
 two_numbers x y a b (inr u) t = inr (λ z. u z.0)
 two_numbers x y a b (inl u) (inr v) = inr (λ z. v z.1)
 
--- whether the new class is the one that is asked for
+-- whether the new class is the one that is requested
 pub class_yes : (area level x y n : ℕ) → (x ≡ area) × (y ≡ level) → in_class x y n (record { area = area; level = level; standing = Live }) ≡ true
 class_yes area level x y n e = let u = e.0 in let v = e.1 in grind (arith, common_steps)
 

@@ -1,4 +1,4 @@
--- Runs by computation: the machine's choices are given, and what it shows is computed. Each such play is a run.
+-- Runs by computation: the machine's choices are given, and the answers are computed. Each such play is a run.
 use Rattle.std.proofs.Common.{◌≡◌, ℕ, suc, ◌*◌, ◌≤◌, inl, inr, Bool, true, false, not, ◌&&◌, ◌||◌, if◌then◌else◌, refl, ap, arith, List, [], ◌∷◌, length, Option, Some, None, nat_le, nat_lt, nat_eq}
 use Rattle.std.specs.Prelude.{MatchBool}
 use Rattle.std.specs.List.{list_any}
@@ -21,7 +21,7 @@ use Rattle.lisp_meaning.specs.machine.Sound.{Reach, IsAllowed, IsSound}
 use Rattle.lisp_meaning.proofs.Collections.{settled, settled_settles}
 use Rattle.lisp_meaning.proofs.Runs.{silent_sound, does_sound}
 
--- a command with the machine's choices: base pages, whether the collection is over after it, and whether it meets a fault
+-- a command with the machine's choices: base pages, whether the scan is finished after it, and whether it meets a swap error
 pub record Turn : Type 0 where
   pub command : Command
   pub pages : ℕ
@@ -32,7 +32,7 @@ abbrev pub commands_of : List Turn → List Command
 commands_of [] = []
 commands_of (t ∷ ts) = t.command ∷ commands_of ts
 
--- the commands, by number, that end a collection, and those that meet a fault
+-- the commands, by number, that finish a collection, and those that meet a swap error
 pub record Choices : Type 0 where
   pub over : List ℕ
   pub faults : List ℕ
@@ -149,7 +149,7 @@ serve_played s t (C.Put target index from) h e is = absurd cc
 serve_played s t (C.Size of) h e is = absurd cc
 serve_played s t (C.Eq left right) h e is = absurd cc
 
--- a command that meets a fault
+-- a command that meets a swap error
 abbrev pub played_if : State → Turn → Bool → Answer × State
 played_if s t true = (Replied R.Fault, with_over t.over s)
 played_if s t false = played_by s t (effect (graph_of s) t.command)

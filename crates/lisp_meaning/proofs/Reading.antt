@@ -1,4 +1,4 @@
--- From what the words are for to what the memory means: objects stand with their values, and no used word of a live region is stale.
+-- From the roles of words to the reading: objects are stored with their values, and no used word of a live region is stale.
 use Rattle.std.proofs.Common.{◌≡◌, ℕ, suc, ◌+◌, ◌-◌, ◌<◌, ◌≤◌, ◌⊎◌, inl, inr, true, false, refl, sym, ◌∙◌, ap, subst, arith, Option, Some, None, List, length, IsTrue}
 use Rattle.std.proofs.lemmas.Bool.{cases_Bool, cases_lt}
 use Rattle.std.proofs.lemmas.Option.{get_or_from_slice_get}
@@ -98,7 +98,7 @@ module _ (g : Image) (k : RoleMap) (s : Store) (R : Roled (word g) (classes g) k
   means_part : (c : Content) (p : Option Value) (v : Value) → Holds k.role c p → p ≡ Some v → Means g s k.at c v
   means_part c p v h e = means c v (h.2 ∙ ap Some (some_is h.0 v (sym h.1 ∙ e)))
 
-  -- a pair, a cell, a block stand where their roles are
+  -- an object is stored as its role shows: a pair, a cell or a block
   stands_pair : (n : ℕ) (x y : Value) → (object s n).body ≡ Cons x y → k.role (k.at n) ≡ PairHead n → StandsAt g s k.at (k.at n) (object s n)
   stands_pair n x y b e =
       let f = head_fits (word g) (classes g) k s R n (k.at n) e in
@@ -163,12 +163,12 @@ module _ (g : Image) (k : RoleMap) (s : Store) (R : Roled (word g) (classes g) k
   named_at : (n : ℕ) → in_use s n → names_as (kind_of (object s n).body) (k.role (k.at n)) ≡ Some n
   named_at n u = begun (kind_of (object s n).body) (k.role (k.at n)) n (R.begins n u)
 
-  -- two names never stand at one place
+  -- two names are never at one address
   pub distinct : Distinct s k.at
   distinct m n u v e = some_is m n
       (sym (begins_owner (kind_of (object s m).body) (k.role (k.at m)) m (R.begins m u)) ∙ ap (λ (a : ℕ). owner (k.role a)) e ∙ begins_owner (kind_of (object s n).body) (k.role (k.at n)) n (R.begins n v))
 
-  -- how many words stand at a role that begins an object
+  -- how many words an object has that begins at a word with this role
   words_pair : (n : ℕ) → k.role (k.at n) ≡ PairHead n → words_at (word g (k.at n)) ≡ 2
   words_pair n e =
       let f = head_fits (word g) (classes g) k s R n (k.at n) e in
@@ -208,7 +208,7 @@ module _ (g : Image) (k : RoleMap) (s : Store) (R : Roled (word g) (classes g) k
       go AsBlock e = head e (cases_lt a (suc (k.at n)))
 
   -- and each word that an object owns is within it
-  owner_within : (a n : ℕ) → owner (k.role a) ≡ Some n → Within g (k.at n) a
+  pub owner_within : (a n : ℕ) → owner (k.role a) ≡ Some n → Within g (k.at n) a
   owner_within a n o =
       let u = owner_used (classes g) k s a n (word g a) (k.role a) (R.fits a) o in
       go (part_at (word g) (classes g) k s R n (k.at n) a (k.role a) (R.fits a) o) (first (kind_of (object s n).body) (R.begins n u))

@@ -10,7 +10,7 @@ use Rattle.lisp_graph.specs.declared.object.Object.{Object}
 use Rattle.lisp_graph.specs.declared.object.Value.{Value}
 use Rattle.lisp_graph.specs.declared.world.AreaRule.{AreaRule}
 use Rattle.lisp_meaning.specs.machine.Charges.{account, charges, per_area}
-use Rattle.lisp_meaning.specs.invariants.ChargesIn.{charge_in, charges_in, spare_in, spares_in, is_cell}
+use Rattle.lisp_meaning.specs.invariants.ChargesIn.{charge_in, charges_in, spare_in, spares_in, is_cell, is_of_husk}
 use Rattle.lisp_meaning.specs.reading.Classes.{Class, class_at, is_old_at, region_of, in_class, in_old_class, classes}
 use Rattle.lisp_meaning.specs.machine.Flip.{graph_of}
 use Rattle.lisp_meaning.specs.invariants.Fits.{Roled, Holds, CellCdr}
@@ -28,6 +28,7 @@ use Rattle.lisp_graph.specs.store_word.declared.word.Content.TheVariants.{Null, 
 use Rattle.lisp_graph.specs.Totals.{total, if_true}
 use Rattle.lisp_graph.proofs.Totals.{total-cong, total-le}
 use Rattle.lisp_meaning.proofs.Charges.{total-none}
+use Rattle.lisp_meaning.proofs.Husks.{NoNewHusks, husks_stay}
 use Rattle.lisp_meaning.proofs.Accounts.{charges_same}
 use Rattle.lisp_meaning.proofs.Chains.{named_by}
 use Rattle.lisp_meaning.proofs.Standing.{cell_fits, head_fits, tail_fits, block_fits, field_fits, field_within}
@@ -103,7 +104,7 @@ held_closed g k s h = record {
 
 -- Reclaim
 
--- what the state does: what stands old goes, what was moved has its survivor's level
+-- what happens to the state: the names in old regions are freed, and what was moved has its survivor's level
 pub record Settled (g : Image) (k : RoleMap) (top : ℕ) (s s' : Store) (aim : Condemned) : Type 0 where
   pub objects : s'.objects ≡ s.objects
   pub husks : (x y : ℕ) → s'.husks x y ≡ s.husks x y
@@ -285,6 +286,14 @@ module _ (g g' : Image) (k : RoleMap) (top : ℕ) (areas : List AreaRule) (s s' 
       less n (inl u) = let e : is_held s' n ≡ is_held s n = u ∙ sym (let v : is_held s n ≡ true = (were n u).0 in v) in let q = ap (λ (b : Bool). if_true (b && per_area s a n) (object s n).charge) e in omega arith
       less n (inr u) = let q = ap (λ (b : Bool). if_true (b && per_area s a n) (object s n).charge) u in omega arith
 
+  no_new : NoNewHusks (classes g) (classes g') k (dropped (classes g) k)
+  no_new = record { was = λ a e l. was a e (cases_Bool (is_old_at (classes g) a)) }
+    where
+      was : (a : ℕ) → is_of_husk ((dropped (classes g) k).role a) ≡ true → (is_old_at (classes g) a ≡ true) ⊎ (is_old_at (classes g) a ≡ false)
+          → (is_of_husk (k.role a) ≡ true) × (class_at (classes g') a ≡ class_at (classes g) a)
+      was a e (inl o) = let x = ap is_of_husk (role_gone a o) in cc
+      was a e (inr o) = (ap is_of_husk (sym (role_stays a o)) ∙ e, class_stays a o)
+
   pub kept_reclaimed : MemoryInvariant g' (dropped (classes g) k) top areas s' no_aim
   kept_reclaimed = record {
     roled = roled;
@@ -304,6 +313,7 @@ module _ (g g' : Image) (k : RoleMap) (top : ℕ) (areas : List AreaRule) (s s' 
     old_husks = λ x. total-none (g'.old_husks x) (suc top) (λ y l. t.old_husks x y);
     quota = λ a l. (let x = h.quota a l in let y = account_less a in omega arith);
     room_live = λ x y. (let a = h.room_live x y in let b = t.live_words x y in let c = t.live_charge x y in let e = t.live_husks x y in let q = spares_same x y in omega arith);
+    room_husks = λ x y i. (let a = husks_stay (classes g) (classes g') k (dropped (classes g) k) no_new x y i in let b = h.room_husks x y i in let c = t.live_husks x y in omega arith);
     room_old = λ x. (let a = t.old_words x in omega arith);
     chains = t.chains;
     marks = t.marks;

@@ -1,4 +1,4 @@
--- Runs that can't be, by computation: all that the machine may choose is tested, as far as it could show so much.
+-- Runs that are impossible, by computation: each choice of the machine is tested, as far as it could give these answers.
 use Rattle.std.proofs.Common.{◌≡◌, ℕ, suc, ◌*◌, ◌<◌, ◌≤◌, ◌⊎◌, inl, inr, Bool, true, false, not, ◌&&◌, ◌||◌, if◌then◌else◌, refl, sym, ◌∙◌, ap, arith, List, [], ◌∷◌, length, Option, Some, None, nat_le, IsTrue, is_some}
 use Rattle.std.specs.Prelude.{MatchBool}
 use Rattle.std.proofs.lemmas.Bool.{and_parts, and_from, or_cases, cases_Bool, le-leb}
@@ -22,7 +22,7 @@ use Rattle.lisp_meaning.proofs.Playing.{implies, may_be_over, is_allowed, allowe
 use Rattle.lisp_meaning.proofs.Runs.{silent_sound, step_sound}
 use Rattle.lisp_meaning.proofs.SomeBelow.{some_below-true}
 
--- Answers that differ, by what is told of them
+-- Answers that differ, by a test
 
 abbrev pub reply_code : Reply → List ℕ
 reply_code R.Fine = 0 ∷ []

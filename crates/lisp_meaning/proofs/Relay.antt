@@ -1,4 +1,4 @@
--- An object is laid anew in its class: RPLACD of a cell, growth of a block. The first of its old words becomes a HEADER-FORWARD.
+-- An object is relocated in its class: RPLACD of a cell, growth of a block. The first of its old words becomes a HEADER-FORWARD.
 use Rattle.std.proofs.Common.{◌≡◌, ℕ, zero, suc, ◌+◌, ◌*◌, ◌-◌, ◌^◌, ◌<◌, ◌≤◌, ◌⊎◌, inl, inr, ◌==◌, refl, sym, ◌∙◌, ap, subst, arith, Some}
 use Rattle.std.proofs.Math.Nat.{pow-suc, pow-le-pow_right}
 use Rattle.std.proofs.lemmas.Bool.{cases_lt}
@@ -85,7 +85,7 @@ module _ (W W' : ℕ → Parts) (regions : ℕ → Class) (k : RoleMap) (s s' : 
       };
     }
 
-    -- the state with the changed object, at its new place; all other words mean what they meant
+    -- the state with the changed object, at its new place; every other word means what it meant
     pub relay : Roled W' regions (laid k n a (size from) b to (Relaid (kind_in from) n) (HuskWord a) (suc (k.age a))) s'
     relay = relaid W W' regions k s s' n a (size from) b to (Relaid (kind_in from) n) (HuskWord a) (suc (k.age a)) R laying
 

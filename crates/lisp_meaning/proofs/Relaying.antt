@@ -1,4 +1,4 @@
--- The invariant after an object was laid anew in its class: RPLACD of a cell, growth of a block.
+-- The invariant after an object was relocated in its class: RPLACD of a cell, growth of a block.
 use Rattle.std.proofs.Common.{◌≡◌, ℕ, suc, ◌+◌, ◌<◌, ◌≤◌, ◌⊎◌, inl, inr, ⊎_elim, Bool, true, false, ◌&&◌, ◌==◌, refl, sym, ◌∙◌, ap, subst, arith, List, length, nat_eq}
 use Rattle.std.specs.Prelude.{is_some}
 use Rattle.std.proofs.lemmas.Bool.{cases_eq}
@@ -17,7 +17,7 @@ use Rattle.lisp_meaning.specs.invariants.Roles.{RoleMap}
 use Rattle.lisp_meaning.specs.invariants.Fits.{Roled}
 use Rattle.lisp_meaning.specs.invariants.ChargesIn.{charges_in, spare_in, spares_in, is_cell}
 use Rattle.lisp_meaning.specs.reading.Stands.{Classes}
-use Rattle.lisp_meaning.specs.invariants.Invariant.{MemoryInvariant}
+use Rattle.lisp_meaning.specs.invariants.Invariant.{HusksFit, MemoryInvariant}
 use Rattle.lisp_meaning.specs.invariants.Placed.{Placed, Recharged}
 use Rattle.lisp_meaning.proofs.Frames.{Frame}
 use Rattle.lisp_meaning.proofs.Charges.{charges_changed, charges_grown, charge_no}
@@ -86,7 +86,7 @@ module _ (s s' : Store) (n area level husk top : ℕ) (aim : Condemned) (r : Rel
       split true p q = refl
       split false p q = (let z : 0 ≡ 0 + 0 = omega arith in z)
 
-  -- and stays within the quota where what is new fits it
+  -- and stays within the quota if the new charge fits it
   pub quota_relaid : (areas : List AreaRule) → ((a : ℕ) → a < length areas → account top s aim a ≤ (rule_of areas a).quota)
       → (area < length areas → account top s aim area + ((object s' n).charge + husk) ≤ (rule_of areas area).quota + (object s n).charge) → (a : ℕ) → a < length areas → account top s' aim a ≤ (rule_of areas a).quota
   quota_relaid areas quota fits a l = go (cases_eq a area)
@@ -116,7 +116,7 @@ module _ (g g1 : Image) (k k' : RoleMap) (top : ℕ) (areas : List AreaRule) (s 
   held_same : (m : ℕ) → is_held s' m ≡ is_held s m
   held_same m = ap is_some (r.held m)
 
-  -- each name stands in the class where it stood
+  -- each name is in the same class as before
   class_same : (m : ℕ) → in_use s m → (m ≡ n) ⊎ (m ≡ n → ⊥) → class_at (classes g1) (k'.at m) ≡ class_at (classes g) (k.at m)
   class_same m u (inl z) =
       let P : ℕ → Type 0 = λ i. class_at (classes g1) (k'.at i) ≡ class_at (classes g) (k.at i) in
@@ -155,7 +155,7 @@ module _ (g g1 : Image) (k k' : RoleMap) (top : ℕ) (areas : List AreaRule) (s 
       let z = charges_before_at g g1 k top areas s aim h b count area level p passes in
       omega arith
 
-  -- what stands old stays
+  -- what is in old regions stays
   pub relaid_old : charges_in s' k'.at (classes g1) in_old ≡ charges_in s k.at (classes g) in_old
   relaid_old = sum_else in_old refl
 
@@ -226,9 +226,9 @@ module _ (g g1 : Image) (k k' : RoleMap) (top : ℕ) (areas : List AreaRule) (s 
       subst P (sym e.0) (subst Q (sym e.1) (let a = c.husks_class in let v = h.live_husks area level in let w = r.husks_here in omega arith))
   husks_now x y (inr ne) = c.husks_else x y ne ∙ h.live_husks x y ∙ sym (r.husks_else x y ne)
 
-  -- the whole invariant, for the changed store
-  pub kept_relaid : MemoryInvariant (record g1 { words = ws }) k' top areas s' aim
-  kept_relaid = record {
+  -- the whole invariant, for the changed store, if the words of husks fit
+  pub kept_relaid : HusksFit g1 k' → MemoryInvariant (record g1 { words = ws }) k' top areas s' aim
+  kept_relaid fit = record {
     roled = roled;
     covered = covered_again g g1 k k' b count area level h.covered p roles ws;
     names = λ m u. (let x = h.names m (sym (held_same m) ∙ u) in let y = r.size in omega arith);
@@ -242,6 +242,7 @@ module _ (g g1 : Image) (k k' : RoleMap) (top : ℕ) (areas : List AreaRule) (s 
     old_husks = λ x. total-cong (g1.old_husks x) (g.old_husks x) (suc top) (λ y l. c.old_husks x y) ∙ h.old_husks x;
     quota = quota;
     room_live = λ x y. room_live x y (two_numbers x y area level (cases_eq x area) (cases_eq y level));
+    room_husks = fit;
     room_old = λ x. (let a = h.room_old x in let u = p.used_old x in let d = doomed_more x in omega arith);
     chains = p.chains;
     marks = marks;

@@ -1,4 +1,4 @@
--- What areas are charged after a collection has settled.
+-- What areas are charged after a collection has ended.
 use Rattle.std.proofs.Common.{◌≡◌, ℕ, suc, ◌+◌, ◌≤◌, ◌⊎◌, inl, inr, Bool, true, false, not, ◌&&◌, ◌||◌, nat_eq, refl, sym, ◌∙◌, ap, arith, List, length, Option, Some, None, is_some}
 use Rattle.std.proofs.lemmas.Bool.{cases_Bool}
 use Rattle.lisp_graph.specs.store_word.declared.space.Space.{Space}
@@ -54,7 +54,7 @@ module _ (old : State) (aim : Condemned) (new : State) (h : Settles old aim new)
           stays (inr y) = both (is_held old.store n) (aim.condemned n) (aim.bound n) (ap is_some x) (inr y.1)
 
   module _ (area : ℕ) where
-    -- the charges of the names that are held, over the objects as they were
+    -- the charges of the names that are held, over the unchanged objects
     abbrev held_charge : ℕ → ℕ
     held_charge n = if_true (is_held new.store n && per_area old.store area n) (object old.store n).charge
 

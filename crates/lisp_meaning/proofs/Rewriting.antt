@@ -1,4 +1,4 @@
--- Changes of objects that stand keep the invariant.
+-- Changes of objects at their places keep the invariant.
 use Rattle.std.proofs.Common.{◌≡◌, ℕ, Bool, suc, ◌+◌, ◌⊎◌, inl, inr, ◌&&◌, refl, sym, ◌∙◌, ap, arith, Option, Some, None, List, length, set, ◌<◌, ◌≤◌}
 use Rattle.std.specs.Prelude.{is_some, unwrap_or, slice_set, if◌then◌else◌}
 use Rattle.std.proofs.lemmas.Bool.{cases_lt, lt-leb}
@@ -111,7 +111,7 @@ resettled g ws k top areas s aim a value h had w =
     after_word g ws k top areas s s aim (record { size = refl; held = λ m. refl; area = λ m. refl; charge = λ m. refl; husks = λ x y. refl })
     (kept_settled g k top areas s aim h a ws w.marks w.others w.code value had w.value_is)
 
--- Objects laid anew
+-- Objects that are relocated
 
 pub cell_relaid : CellRelaid
 cell_relaid g g1 ws k top areas s aim a b n area level car cdr new h st cell body w first first_code second second_code =

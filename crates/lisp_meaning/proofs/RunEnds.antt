@@ -1,4 +1,4 @@
--- The three ways in which a run that moves may end: with a cell coded nil, before a forward, with a pair.
+-- The three ways in which a compact run that moves may end: with a cell coded nil, before a forward, with a pair.
 use Rattle.std.proofs.Common.{◌≡◌, ℕ, zero, suc, ◌+◌, ◌*◌, ◌<◌, ◌≤◌, ◌⊎◌, inl, inr, true, refl, sym, ◌∙◌, ap, subst, arith, Some, List}
 use Rattle.std.proofs.lemmas.Bool.{cases_eq}
 use Rattle.lisp_graph.specs.store_word.Words.{Parts}
@@ -26,7 +26,7 @@ use Rattle.lisp_meaning.proofs.RunFlips.{gc_forward, nil_begins, nil_frame, last
 use Rattle.lisp_meaning.proofs.RunNames.{follower_near}
 use Rattle.lisp_meaning.proofs.RunMoved.{run_moved}
 
--- The words about a last cell after so many, once all is copied
+-- The words at the last cell, after all words are copied
 
 record LastCell (g g1 : Image) (k : RoleMap) (s : Store) (from to left start width : ℕ) : Type 0 where
   pub was : (i : ℕ) → i ≤ left → IsCell k s (from + i) (word g (from + i)) (name_at k (from + i)) (start + i)
@@ -50,7 +50,7 @@ module _ (g g1 : Image) (k : RoleMap) (top : ℕ) (areas : List AreaRule) (s : S
       ap region_of (let z : from + suc i ≡ suc (from + i) = omega arith in z)
       ∙ follower_near (word g) (classes g) k s h.roled (from + i) (name_at k (from + i)) (start + i) (cells i (omega arith)) (next i (omega arith)) ∙ run_near i (omega arith)
 
-  -- a word of an object keeps its role, and is as it was
+  -- a word of an object keeps its role, and is unchanged
   pub still : (i n : ℕ) → owner (k.role i) ≡ Some n → (scratched k to (left + width)).role i ≡ k.role i
   still i n o = other_role g g1 k top areas s aim h to (left + width) area level p i (not_placed g g1 k top areas s aim h to (left + width) area level p i n o)
 
@@ -104,7 +104,7 @@ forward_there W a b = ap (λ (u : Parts). u.content) (put_at-same W a (gc_forwar
 forward_else : (W : ℕ → Parts) (a b i : ℕ) → (i ≡ a → ⊥) → put_at W a (gc_forward b) i ≡ W i
 forward_else W a b i ne = put_at-other W a (gc_forward b) i ne
 
--- With a cell coded nil: so many cells before it
+-- With a cell coded nil, which `left` cells precede
 
 module _ (g g1 : Image) (k : RoleMap) (top : ℕ) (areas : List AreaRule) (s : Store) (aim : Condemned) (h : MemoryInvariant g k top areas s aim) (from to left start : ℕ) (area level was : ℕ)
     (p : Placed g g1 to (left + 1) area level) (c : Rehomed g g1 area was level (3 * left + 3)) (ws : List Parts) (marks : Marks (record g1 { words = ws }))
@@ -139,7 +139,7 @@ module _ (g g1 : Image) (k : RoleMap) (top : ℕ) (areas : List AreaRule) (s : S
       (ap (λ (u : Parts). u.content) (copy left (omega arith) ∙ sym nil.same)) (ap (λ (u : Parts). u.cdr) nil.same ∙ last) (ap (λ (u : Parts). u.cdr) (copy left (omega arith)) ∙ last))
       forward others survives low (let x = (nil.was left (omega arith)).charge in omega arith)
 
--- Before a forward: the last cell becomes a pair, whose cdr is the list at an address of the name behind it
+-- Before a forward: the last cell becomes a pair, whose cdr is the list at an address of the name after it
 
 module _ (g g1 : Image) (k : RoleMap) (top : ℕ) (areas : List AreaRule) (s : Store) (aim : Condemned) (h : MemoryInvariant g k top areas s aim) (from to left start : ℕ) (area level was : ℕ)
     (p : Placed g g1 to (left + 2) area level) (c : Rehomed g g1 area was level (3 * left + 3)) (ws : List Parts) (marks : Marks (record g1 { words = ws }))
@@ -187,7 +187,7 @@ module _ (g g1 : Image) (k : RoleMap) (top : ℕ) (areas : List AreaRule) (s : S
       (named (suc (from + left)) follower follows) cdr (named target follower final))
       forward others survives low (let x = (ends.was left (omega arith)).charge in omega arith)
 
--- With the pair that follows so many cells
+-- With a pair, which `left` cells precede
 
 module _ (g g1 : Image) (k : RoleMap) (top : ℕ) (areas : List AreaRule) (s : Store) (aim : Condemned) (h : MemoryInvariant g k top areas s aim) (from to left start : ℕ) (area level was : ℕ)
     (p : Placed g g1 to (left + 2) area level) (c : Rehomed g g1 area was level (3 * left + (object s (name_at k (from + left))).charge)) (ws : List Parts) (marks : Marks (record g1 { words = ws }))

@@ -1,4 +1,4 @@
--- Transport of a run, by the flips of its words from the last to the first.
+-- Transport of a compact run, by the flips of its words from the last to the first.
 use Rattle.std.proofs.Common.{◌≡◌, ℕ, zero, suc, ◌+◌, ◌<◌, ◌≤◌, ◌⊎◌, inl, inr, true, false, ◌==◌, sym, ◌∙◌, ap, subst, arith, Some, None}
 use Rattle.std.proofs.lemmas.Bool.{cases_eq}
 use Rattle.lisp_graph.specs.declared.object.Value.TheVariants as V
@@ -25,7 +25,7 @@ module _ (W W' : ℕ → Parts) (regions : ℕ → Class) (k k' : RoleMap) (s : 
     (c : Copied W k from to j start name) (f : Frame k k' s s (λ m. m == name j))
     (at : k.at (name j) ≡ from + j) (scratch : (i : ℕ) → i < j → k'.role (to + i) ≡ Scratch)
     (words : (a : ℕ) → (a ≡ from + j → ⊥) → W' a ≡ W a) (away : (i : ℕ) → i < j → to + i ≡ from + j → ⊥) where
-  -- the names of the run are different, since they stand at different places
+  -- the names of the run are different, since they are at different addresses
   distinct : (i : ℕ) → i < j → (name i == name j) ≡ false
   distinct i l = other_is (name i) (name j) (λ (z : name i ≡ name j).
       let x = (cell_fits W regions k s R (name i) (from + i) (start + i) (c.cell i l)).place in

@@ -1,4 +1,4 @@
--- The whole transport of a run, from the invariant to the invariant: words placed and copied, and each cell's GC-FORWARD written.
+-- The whole transport of a compact run, from the invariant to the invariant: words placed and copied, and each cell's GC-FORWARD written.
 use Rattle.std.proofs.Common.{◌≡◌, ℕ, zero, suc, ◌+◌, ◌*◌, ◌-◌, ◌<◌, ◌≤◌, ◌⊎◌, inl, inr, true, ◌==◌, refl, sym, ◌∙◌, ap, subst, arith, Some, List}
 use Rattle.std.proofs.lemmas.Bool.{cases_eq, cases_lt}
 use Rattle.lisp_graph.specs.store_word.Words.{Parts}
@@ -11,7 +11,7 @@ use Rattle.lisp_meaning.specs.reading.Classes.{class_at, region_of, classes}
 use Rattle.lisp_meaning.specs.reading.Marks.{Marks}
 use Rattle.lisp_meaning.specs.invariants.Roles.{AsCons, Role, Blank, Scratch, Waste, Moved, names_as, owner, RoleMap}
 use Rattle.lisp_meaning.specs.invariants.Fits.{Roled}
-use Rattle.lisp_meaning.specs.invariants.ChargesIn.{is_cell}
+use Rattle.lisp_meaning.specs.invariants.ChargesIn.{is_cell, is_of_husk}
 use Rattle.lisp_meaning.specs.invariants.Invariant.{MemoryInvariant}
 use Rattle.lisp_meaning.specs.invariants.Laid.{Shape, size, role_in, scratched, laid}
 use Rattle.lisp_meaning.specs.invariants.MovingRun.{Moving}
@@ -23,6 +23,7 @@ use Rattle.lisp_meaning.proofs.Laying.{between_which, role_new, role_rest, role_
 use Rattle.lisp_meaning.proofs.Standing.{Standing, positive, owner_in}
 use Rattle.lisp_meaning.proofs.Placing.{opened, ground, scratch_role, other_role, ground_frame, class_else}
 use Rattle.lisp_meaning.proofs.Cover.{NewRoles}
+use Rattle.lisp_meaning.proofs.Husks.{owned_no_husk, named_no_husk}
 use Rattle.lisp_meaning.proofs.Moves.{Moves, moves_then, moves_written, moves_one, moves_as}
 use Rattle.lisp_meaning.proofs.Transported.{Carried, kept_moved, less_old}
 use Rattle.lisp_meaning.proofs.ObjectMoved.{not_placed, old_condemned, old_area}
@@ -50,7 +51,7 @@ forwarded-at (suc j) W from to i l = go (cases_eq i j) (λ (q : i < j). forwarde
 
 module _ (g g1 : Image) (k : RoleMap) (top : ℕ) (areas : List AreaRule) (s : Store) (aim : Condemned) (h : MemoryInvariant g k top areas s aim) (from to left start : ℕ) (name : ℕ → ℕ) (old new : Shape) (area level was : ℕ)
     (p : Placed g g1 to (left + size new) area level) (c : Rehomed g g1 area was level (3 * left + (object s (name left)).charge)) (ws : List Parts) (marks : Marks (record g1 { words = ws }))
-    -- the names of the run, and where they stand
+    -- the names of the run, and their addresses
     (used : (i : ℕ) → i ≤ left → in_use s (name i)) (place : (i : ℕ) → i ≤ left → k.at (name i) ≡ from + i) (near : (i : ℕ) → i ≤ left → region_of (from + i) ≡ region_of from)
     (own : (i : ℕ) → i < left → owner (k.role (from + i)) ≡ Some (name i)) (st : Standing k (name left) (from + left) old)
     (there : class_at (classes g) from ≡ record { area = area; level = was; standing = Old }) (is_bound : (i : ℕ) → i ≤ left → aim.bound (name i) ≡ true)
@@ -196,6 +197,39 @@ module _ (g g1 : Image) (k : RoleMap) (top : ℕ) (areas : List AreaRule) (s : S
       old_at a x (inr y) (inr t) =
           inl (beyond a (λ i w e. y (omega arith, omega arith)) (λ i w e. x (omega arith, omega arith)) ∙ k2_else a (λ z. (let l = z.0 in let q = z.1 in x (omega arith, omega arith))) t ∙ outside a x)
 
+  -- no word becomes a word of a husk
+  no_husk : (a : ℕ) → is_of_husk (d.map.role a) ≡ true → d.map.role a ≡ k.role a
+  unfolding k2
+  no_husk a h = at (between_which to (left + size new) a) (between_which from (suc left) a) (between_which (from + left) (size old) a) (cases_lt (a - to) (suc left))
+    where
+      at : ((to ≤ a) × (a < to + (left + size new))) ⊎ ((to ≤ a) × (a < to + (left + size new)) → ⊥) → ((from ≤ a) × (a < from + suc left)) ⊎ ((from ≤ a) × (a < from + suc left) → ⊥)
+          → ((from + left ≤ a) × (a < from + left + size old)) ⊎ ((from + left ≤ a) × (a < from + left + size old) → ⊥) → (a - to < suc left) ⊎ (suc left ≤ a - to) → d.map.role a ≡ k.role a
+      at (inl x) y t (inl q) =
+          let l = x.0 in
+          let e : a ≡ to + (a - to) = omega arith in
+          let z = named_no_husk (d.map.role a) (name (a - to)) (ap (λ (i : ℕ). names_as AsCons (d.map.role i)) e ∙ d.moving.known.there (a - to) (omega arith) q) in
+          cc
+      at (inl x) y t (inr q) =
+          let l = x.0 in let v = x.1 in
+          let e : a ≡ to + left + (a - to - left) = omega arith in
+          let there : (laid (scratched k to (left + size new)) (name left) (from + left) (size old) (to + left) new (Moved AsCons (name left)) Waste (k.age (from + left))).role a ≡ role_in new (name left) (a - to - left) =
+          ap (laid (scratched k to (left + size new)) (name left) (from + left) (size old) (to + left) new (Moved AsCons (name left)) Waste (k.age (from + left))).role e ∙ k2_new (a - to - left) (omega arith) in
+          let same = beyond a (λ m y w. apart a (name m) (ap (λ (i : ℕ). owner (k.role i)) w ∙ own m y) x) (λ m y w. omega arith) in
+          let z = owned_no_husk (d.map.role a) (name left) (ap owner (same ∙ there) ∙ owner_in new (name left) (a - to - left)) in
+          cc
+      at (inr x) (inl y) t u =
+          let l = y.0 in let q = y.1 in
+          let e : a ≡ from + (a - from) = omega arith in
+          let z = named_no_husk (d.map.role a) (name (a - from)) (ap (λ (i : ℕ). names_as AsCons (d.map.role i)) e ∙ d.moving.known.here (a - from) (omega arith) (omega arith)) in
+          cc
+      at (inr x) (inr y) (inl t) u =
+          let l = t.0 in let q = t.1 in
+          let r = beyond a (λ i w e. y (omega arith, omega arith)) (λ i w e. x (omega arith, omega arith)) ∙ k2_rest a t (λ (e : a ≡ from + left). y (omega arith, omega arith)) in
+          let z = ap is_of_husk r in
+          cc
+      at (inr x) (inr y) (inr t) u =
+          beyond a (λ i w e. y (omega arith, omega arith)) (λ i w e. x (omega arith, omega arith)) ∙ k2_else a (λ z. (let l = z.0 in let q = z.1 in x (omega arith, omega arith))) t ∙ outside a x
+
   carried : (m i : ℕ) → i ≤ left → m ≡ name i → d.map.at m ≡ to + i → Carried g k d.map s aim to area was m
   carried m i l e at =
       let P : ℕ → Type 0 = λ x. d.map.at x ≡ to + i → Carried g k d.map s aim to area was x in
@@ -241,7 +275,7 @@ module _ (g g1 : Image) (k : RoleMap) (top : ℕ) (areas : List AreaRule) (s : S
   run_moved = record {
     map = d.map;
     kept = kept_moved g g1 k d.map top areas s aim h to (left + size new) area level was (3 * left + (object s (name left)).charge) (2 * left + if_true (is_cell (role_in new (name left) 0)) 2) p c ws marks roled
-        roles places moves survives low (let z = pays in omega arith);
+        roles places moves survives low (let z = pays in omega arith) no_husk;
     refines = λ kind a n e. d.refines kind a n (f.refine kind a n ((ground_frame g g1 k top areas s aim h to (left + size new) area level p).refine kind a n e));
     there = λ i l. d.moving.known.there i (omega arith) (omega arith);
     less_old = less_old g g1 k d.map top areas s aim h to (left + size new) area level was (3 * left + (object s (name left)).charge) (2 * left + if_true (is_cell (role_in new (name left) 0)) 2) p c ws marks roled

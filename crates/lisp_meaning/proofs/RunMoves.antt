@@ -1,4 +1,4 @@
--- A run of cells moves, from its last cell to its first: the map after it, and what it did to places, sums and all other words.
+-- A compact run moves, from its last cell to its first: the map after it, and what the move did to places, sums and the remaining words.
 use Rattle.std.proofs.Common.{◌≡◌, ℕ, zero, suc, ◌+◌, ◌*◌, ◌<◌, ◌≤◌, ◌⊎◌, inl, inr, refl, ◌∙◌, ap, arith, length}
 use Rattle.std.proofs.lemmas.Bool.{cases_eq, cases_lt}
 use Rattle.lisp_graph.specs.store_word.Words.{Parts}

@@ -1,4 +1,4 @@
--- What words alone tell of the roles: what stands at a final address, and which cells a run has.
+-- What words alone show of the roles: what is at a final address, and which cells a compact run has.
 use Rattle.std.proofs.Common.{◌≡◌, ℕ, zero, suc, ◌+◌, ◌<◌, ◌⊎◌, inl, inr, Bool, true, not, ◌&&◌, refl, sym, ◌∙◌, ap, subst, arith, Option, Some, None, length}
 use Rattle.std.proofs.lemmas.Bool.{or_cases, or_right, and_parts}
 use Rattle.lisp_graph.specs.store_word.Words.{Parts}
@@ -24,7 +24,7 @@ module _ (W : ℕ → Parts) (regions : ℕ → Class) (k : RoleMap) (s : Store)
   fits_as : (c : ℕ) (r : Role) → k.role c ≡ r → Fits regions k s c (W c) r
   fits_as c r e = let P : Role → Type 0 = λ x. Fits regions k s c (W c) x in subst P e (R.fits c)
 
-  -- a pair or a cell, where a reference to a cons leads and no forward stands
+  -- a pair or a cell, if a reference to a cons leads to a word that is no forward
   pub cons_there : (a n : ℕ) → names_as AsCons (k.role a) ≡ Some n → forward_of (W a).content ≡ None → (k.role a ≡ PairHead n) ⊎ ((i : ℕ) × (k.role a ≡ Cell n i))
   cons_there a n e none = go (k.role a) refl e
     where
@@ -41,7 +41,7 @@ module _ (W : ℕ → Parts) (regions : ℕ → Class) (k : RoleMap) (s : Store)
       go (Relaid AsCons m) z e = relaid m z
       go _ z e = cc
 
-  -- a header, where a reference to a block does
+  -- a header, if a reference to a block does
   pub block_there : (a n : ℕ) → names_as AsBlock (k.role a) ≡ Some n → forward_of (W a).content ≡ None → k.role a ≡ Head n
   block_there a n e none = go (k.role a) refl e
     where
@@ -78,7 +78,7 @@ module _ (W : ℕ → Parts) (regions : ℕ → Class) (k : RoleMap) (s : Store)
       go (inl r) = absurd (code (fits_as a (PairHead n) r).code)
       go (inr r) = r
 
-  -- What follows a cell coded next: the name behind it is its cdr, in the same region, and a cell there has the next place
+  -- What follows a cell coded next: the name after it is its cdr, in the same region, and a cell there has the next place
 
   follower : (a n i : ℕ) → k.role a ≡ Cell n i → (W a).cdr ≡ CdrNext → CellCdr k.role a i (cdr_of (object s n).body) CdrNext
   follower a n i r code = let P : CdrCode → Type 0 = λ c. CellCdr k.role a i (cdr_of (object s n).body) c in subst P code (cell_fits W regions k s R n a i r).cdr
@@ -101,7 +101,7 @@ module _ (W : ℕ → Parts) (regions : ℕ → Class) (k : RoleMap) (s : Store)
 
   -- Runs
 
-  -- so many cells, each coded next but the last; none is a forward
+  -- `count` cells, each coded next except the last; none is a forward
   pub run_cells : (from n start count : ℕ) → k.role from ≡ Cell n start → ((i : ℕ) → suc i < count → (W (from + i)).cdr ≡ CdrNext)
       → ((i : ℕ) → i < count → (forward_of (W (from + i)).content ≡ None) × ((W (from + i)).cdr ≡ CdrNormal → ⊥))
       → (i : ℕ) → i < count → k.role (from + i) ≡ Cell (name_at k (from + i)) (start + i)

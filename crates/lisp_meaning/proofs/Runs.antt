@@ -1,4 +1,4 @@
--- Each step of a run keeps what is held closed, and each command has an answer.
+-- Each transition of a run keeps what is held closed, and each command has an answer.
 use Rattle.std.proofs.Common.{◌≡◌, ℕ, zero, suc, ◌+◌, ◌*◌, ◌<◌, ◌≤◌, ◌⊎◌, inl, inr, Bool, true, false, not, ◌&&◌, ◌||◌, refl, sym, subst, ◌∙◌, ap, arith, List, [], ◌∷◌, length, Option, Some, None, if◌then◌else◌}
 use Rattle.std.specs.Prelude.{is_some, MatchBool, IfSome, slice_get}
 use Rattle.std.proofs.lemmas.Bool.{cases_Bool, cases_lt, or_cases, or_left, or_right, and_from, le-leb, cond_both}
@@ -25,7 +25,7 @@ use Rattle.lisp_meaning.proofs.Collections.{flipped_closed, settles_closed, sett
 
 -- Sound states
 
--- a state after which nothing is owed but by a collection that is over
+-- a state after which only a finished collection can owe nothing
 over_owing : (over : Bool) (p : Phase) → (is_paid p ≡ true → over ≡ true) → IsOwing (with_over_phase over p)
 over_owing over Idle h = tt
 over_owing over (Running c) h = λ f. go (cases_lt c.paid c.owed) f
@@ -146,7 +146,7 @@ does_sound s c a new allowed h d = step_sound d.0 c a new allowed (silent_sound 
 
 -- Each command has an answer.
 
--- over may always be as it was, or as the count demands
+-- `over` may always be unchanged, or as the count demands
 some_end : (s : State) (may : Bool) (after : State) → (is_over s.phase ≡ false → is_paid after.phase ≡ true → may ≡ true) → (over : Bool) × IsOverAfter s may after over
 some_end s may after w = (
   is_over s.phase || is_paid after.phase,

@@ -1,4 +1,4 @@
--- The words of an object that stands somewhere, and the words of one that is laid.
+-- The words of an object at an address, and the words of one that is laid out.
 use Rattle.std.proofs.Common.{◌≡◌, ℕ, zero, suc, ◌+◌, ◌^◌, ◌<◌, ◌≤◌, ◌⊎◌, inl, inr, ◌==◌, refl, sym, ◌∙◌, ap, subst, arith, Option, Some, None, length}
 use Rattle.std.proofs.lemmas.Option.{slice_get_within}
 use Rattle.lisp_graph.specs.declared.object.Body.{Body}
@@ -38,7 +38,7 @@ begins_in (ACell i) n = inr (i, refl)
 begins_in APair n = inl refl
 begins_in (ABlock count) n = refl
 
--- a word that begins an object tells its kind
+-- the kind of an object is that of the word at which it begins
 pub kind_begun : (kind : Kind) (t : Shape) (n : ℕ) → Begins kind (role_in t n 0) n → kind ≡ kind_in t
 kind_begun AsCons (ACell i) n b = refl
 kind_begun AsCons APair n b = refl
@@ -84,7 +84,7 @@ module _ (W : ℕ → Parts) (regions : ℕ → Class) (k : RoleMap) (s : Store)
   pub field_fits : (e : k.role a ≡ Head n) (i : ℕ) → i < (block_fits e).size → IsField k s (suc a + i) (W (suc a + i)) n i
   field_fits e i l = fits_as (suc a + i) (Field n i) ((block_fits e).fields i l)
 
-  -- where a word that is part of n is
+  -- a word that is part of n, by its role
   pub part_at : (c : ℕ) (r : Role) → Fits regions k s c (W c) r → owner r ≡ Some n
       → (k.at n ≡ c) ⊎ ((suc (k.at n) ≡ c) × (k.role (k.at n) ≡ PairHead n)) ⊎ ((i : ℕ) × (suc (k.at n) + i ≡ c) × (k.role (k.at n) ≡ Head n) × ((v : Value) × (field_of (object s n).body i ≡ Some v)))
   part_at c (PairHead m) f o = inl (let z : n ≡ m = cc in ap k.at z ∙ f.place)

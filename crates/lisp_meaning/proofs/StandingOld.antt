@@ -1,4 +1,4 @@
--- The charges that stand old, as a sum over classes.
+-- The charges in old regions, as a sum over classes.
 use Rattle.std.proofs.Common.{◌≡◌, ℕ, ◌+◌, ◌⊎◌, inl, inr, Bool, true, false, ◌&&◌, refl, sym, ◌∙◌, ap, arith, Option, Some, None, List, length}
 use Rattle.std.specs.Prelude.{is_some}
 use Rattle.std.proofs.lemmas.Bool.{cases_Bool}
@@ -13,7 +13,7 @@ use Rattle.lisp_meaning.specs.invariants.ChargesIn.{charge_in, charges_in}
 use Rattle.lisp_meaning.specs.reading.Stands.{standing_old}
 use Rattle.lisp_meaning.specs.invariants.Invariant.{MemoryInvariant}
 
--- what is held and stands old is condemned
+-- what is held and in an old region is condemned
 pub standing_is : (g : Image) (k : RoleMap) (top : ℕ) (areas : List AreaRule) (s : Store) (aim : Condemned) → MemoryInvariant g k top areas s aim → standing_old g s aim k.at ≡ charges_in s k.at (classes g) in_old
 standing_is g k top areas s aim h =
     total-cong (λ n. if_true (aim.condemned n && is_old (region g (k.at n)).standing) (object s n).charge) (charge_in s k.at (classes g) in_old) (length s.objects)
@@ -31,7 +31,7 @@ standing_is g k top areas s aim h =
         let live = ap is_old (h.classes_of.spared n level e c).0 in
         ap (λ (b : Bool). b && is_old (region g (k.at n)).standing) c ∙ sym (ap (λ (b : Bool). is_held s n && b) live ∙ none (is_held s n))
 
--- so the sums over classes tell how much less stands old
+-- so the sums over classes show by how much the charges in old regions fall
 pub standing_less : (g g' : Image) (k k' : RoleMap) (top : ℕ) (areas : List AreaRule) (s s' : Store) (aim : Condemned) (moved : ℕ) → MemoryInvariant g k top areas s aim → MemoryInvariant g' k' top areas s' aim
     → charges_in s' k'.at (classes g') in_old + moved ≡ charges_in s k.at (classes g) in_old → standing_old g' s' aim k'.at + moved ≡ standing_old g s aim k.at
 standing_less g g' k k' top areas s s' aim moved h h' e = let a = standing_is g k top areas s aim h in let b = standing_is g' k' top areas s' aim h' in omega arith

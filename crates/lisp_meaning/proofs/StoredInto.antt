@@ -72,7 +72,7 @@ module _ (g : Image) (k : RoleMap) (top : ℕ) (areas : List AreaRule) (s : Stor
       (ap header_of put ∙ ap (λ (x : ℕ). Some (kind, x)) (length-set fields i new) ∙ sym (ap header_of body))
       (λ j ne. ap (λ (b : Body). field_of b j) put ∙ field_kept fields i new j ne ∙ sym (ap (λ (b : Body). field_of b j) body))) marks
 
--- a word that has a value gets another part with that value: nothing that the memory stands for changes
+-- a word that has a value gets another content with that value: the memory represents the same state
 pub kept_settled : (g : Image) (k : RoleMap) (top : ℕ) (areas : List AreaRule) (s : Store) (aim : Condemned) → MemoryInvariant g k top areas s aim → (a : ℕ) (ws : List Parts) → Marks (record g { words = ws })
     → ((c : ℕ) → (c ≡ a → ⊥) → word (record g { words = ws }) c ≡ word g c) → (word (record g { words = ws }) a).cdr ≡ (word g a).cdr
     → (v : Value) → value_of k.role (word g a).content ≡ Some v → value_of k.role (word (record g { words = ws }) a).content ≡ Some v → MemoryInvariant (record g { words = ws }) k top areas s aim

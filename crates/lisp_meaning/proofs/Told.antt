@@ -1,4 +1,4 @@
--- What it says by itself that a machine stands for a state.
+-- What follows from the reading alone: that a machine represents a state.
 use Rattle.std.proofs.Common.{◌≡◌, ℕ, suc, ◌+◌, ◌*◌, ◌<◌, ◌≤◌, ◌⊎◌, inl, inr, Bool, true, false, ◌&&◌, nat_eq, refl, sym, ◌∙◌, ap, subst, arith, length, get_or}
 use Rattle.std.proofs.lemmas.Bool.{cases_eq, cases_lt, or_cases, eqb-true}
 use Rattle.lisp_graph.specs.store_word.Words.{null_word}

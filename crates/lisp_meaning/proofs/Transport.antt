@@ -114,7 +114,7 @@ not_normal w e z = cc
 not_normal_nil : (w : Parts) → w.cdr ≡ CdrNil → w.cdr ≡ CdrNormal → ⊥
 not_normal_nil w e z = cc
 
--- the cells of a run that stand, by their roles
+-- the cells of a compact run, by their roles
 module _ (g : Image) (k : RoleMap) (top : ℕ) (areas : List AreaRule) (s : Store) (aim : Condemned) (h : MemoryInvariant g k top areas s aim) (a n count : ℕ) (named : names_as AsCons (k.role a) ≡ Some n)
     (here : (i : ℕ) → i < suc count → forward_of (word g (a + i)).content ≡ None) (cell : (i : ℕ) → i < suc count → (word g (a + i)).cdr ≡ CdrNormal → ⊥)
     (next : (i : ℕ) → i < count → (word g (a + i)).cdr ≡ CdrNext) where
@@ -186,7 +186,7 @@ cut_run_moved g g1 ws k top areas registers s aim a b n count target area level 
     (λ i l. w.forwarded i (omega arith)) (λ c out. w.others c (outside a c count out)) refl (survivor_low top aim.what level))
     (let x = f.charge in omega arith)
 
--- so many cells, or none
+-- this many cells, or none
 some_cells : (g : Image) (k : RoleMap) (top : ℕ) (areas : List AreaRule) (s : Store) (aim : Condemned) → MemoryInvariant g k top areas s aim → (a n count : ℕ) → names_as AsCons (k.role a) ≡ Some n → CellsStand g a count
     → (start : ℕ) × ((i : ℕ) → i < count → k.role (a + i) ≡ Cell (name_at k (a + i)) (start + i))
 some_cells g k top areas s aim h a n zero named stand = (0, λ i l. absurd (omega arith))

@@ -2,7 +2,7 @@
 use Rattle.std.proofs.Common.{◌≡◌, ℕ, suc, ◌+◌, ◌<◌, ◌≤◌, ◌⊎◌, inl, inr, ⊎_elim, Bool, true, false, refl, sym, ◌∙◌, ap, subst, arith, Some, List}
 use Rattle.std.proofs.lemmas.Bool.{cases_eq}
 use Rattle.lisp_graph.specs.declared.world.AreaRule.{AreaRule}
-use Rattle.lisp_meaning.specs.invariants.ChargesIn.{charges_in, spares_in}
+use Rattle.lisp_meaning.specs.invariants.ChargesIn.{charges_in, spares_in, is_of_husk}
 use Rattle.lisp_meaning.specs.reading.Classes.{Class, class_at, region_of, in_class, in_old_class, in_old, classes, of_class}
 use Rattle.lisp_meaning.specs.invariants.Fits.{Roled}
 use Rattle.lisp_meaning.specs.reading.Image.{Image, word, region, used_words, Live, Old}
@@ -16,6 +16,7 @@ use Rattle.lisp_meaning.specs.machine.State.{Store, Condemned, object, in_use, s
 use Rattle.lisp_graph.specs.store_word.Words.{Parts}
 use Rattle.lisp_graph.proofs.Totals.{total-cong}
 use Rattle.lisp_meaning.proofs.Cover.{NewRoles, covered_again}
+use Rattle.lisp_meaning.proofs.Husks.{husks_placed}
 use Rattle.lisp_meaning.proofs.Moves.{Moves}
 use Rattle.lisp_meaning.proofs.Placing.{class_else, charges_before_at, spares_before_at, two_numbers, class_yes, class_no}
 
@@ -112,9 +113,9 @@ module _ (g g1 : Image) (k k' : RoleMap) (top : ℕ) (areas : List AreaRule) (s 
       let w = moves.spares_stay (in_class x y) (λ m. refl) (λ m. class_no area level x y m ne) in
       let r = spares_before_at g g1 k top areas s aim h b count area level p (in_class x y) in omega arith
 
-  -- the whole invariant, for the same store
-  pub kept_moved : MemoryInvariant (record g1 { words = ws }) k' top areas s aim
-  kept_moved = record {
+  -- the whole invariant, for the same store, if no word became one of a husk
+  pub kept_moved : ((a : ℕ) → is_of_husk (k'.role a) ≡ true → k'.role a ≡ k.role a) → MemoryInvariant (record g1 { words = ws }) k' top areas s aim
+  kept_moved no_husk = record {
     roled = roled;
     covered = covered_again g g1 k k' b count area level h.covered p roles ws;
     names = h.names;
@@ -128,11 +129,12 @@ module _ (g g1 : Image) (k k' : RoleMap) (top : ℕ) (areas : List AreaRule) (s 
     old_husks = λ x. total-cong (g1.old_husks x) (g.old_husks x) (suc top) (λ y l. c.old_husks x y) ∙ h.old_husks x;
     quota = h.quota;
     room_live = λ x y. room_live x y (two_numbers x y area level (cases_eq x area) (cases_eq y level));
+    room_husks = husks_placed g g1 k k' b count area level h.covered p no_husk c.live_husks h.room_husks;
     room_old = λ x. (let a = h.room_old x in let u = p.used_old x in omega arith);
     chains = p.chains;
     marks = marks;
   }
 
-  -- so much charge stands no more in old regions
+  -- the charge in old regions falls by this much
   pub less_old : LessOld g (record g1 { words = ws }) k k' s charge
   less_old = record { less = (let a = moves.leave in_old (λ m. refl) (λ m. refl) in let v = before in_old in omega arith) }

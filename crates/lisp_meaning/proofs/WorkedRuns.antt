@@ -26,7 +26,7 @@ shows w x commands answers whole may is = (
       (subst (λ (xs : List Answer). Run (opening w) (commands_of (turns x 0 commands)) xs (plays (opening w) (turns x 0 commands)).1) is (plays_run (opening w) (turns x 0 commands) (opening_sound w whole) may)),
 )
 
--- the collections are over after these commands
+-- the collections are finished after these commands
 abbrev pub ending : List ℕ → Choices
 ending over = record { over = over; faults = [] }
 

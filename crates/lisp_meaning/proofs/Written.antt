@@ -69,6 +69,7 @@ kept_written g k top areas s s' aim ws h c roled marks = record {
   old_husks = h.old_husks;
   quota = λ a l. (let x = h.quota a l in let y = account_same s s' c top aim a in omega arith);
   room_live = λ x y. (let a = h.room_live x y in let b = spares_same s s' c k (classes g) (in_class x y) in omega arith);
+  room_husks = h.room_husks;
   room_old = λ x. (let a = h.room_old x in
       let b = sums_same s s' c (λ n. aim.condemned n && per_area s x n) (λ n. aim.condemned n && per_area s' x n) (λ n. ap (λ (i : ℕ). aim.condemned n && nat_eq i x) (c.area n)) in omega arith);
   chains = h.chains;

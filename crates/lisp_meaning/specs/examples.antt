@@ -1,4 +1,4 @@
--- Runs that must be allowed, runs that must be refused, and images that must be.
+-- Runs that must be possible, runs that must be impossible, and memory images that must represent nothing.
 pub mod Worked
 pub mod Refused
 pub mod Misread

@@ -1,4 +1,4 @@
--- What each word of a memory is for: the invariant that every step keeps, and from which its reading follows.
+-- What each word of a memory is for: the invariant that every transition keeps, and that implies the reading.
 pub mod Roles
 pub mod Fits
 pub mod ChargesIn

@@ -1,4 +1,4 @@
--- What each change of a memory has to keep, so that the invariant holds behind it.
+-- What each change of a memory has to keep, so that the invariant holds after it.
 pub mod TableChanges
 pub mod After
 pub mod Allocation

@@ -1,4 +1,4 @@
--- The definition of a run: states, steps, flips, and what a program may see of them.
+-- The definition of a run: states, transitions, flips, and what a program may see of them.
 pub mod Maps
 pub mod State
 pub mod Changes

@@ -1,4 +1,4 @@
--- The definition of what a memory stands for.
+-- The reading (the representation relation): which state a memory represents.
 pub mod Image
 pub mod Classes
 pub mod Forwards

@@ -1,8 +1,8 @@
-//! What a run of commands means, and what it means that a machine's memory stands for a state of it.
+//! What a run of commands means, and what it means that a machine's memory represents a state.
 //!
 //! The layers above cite the definitions in specs/: begin with `State`, then `Step` and `Run` (machine/); for memory with `Stands`
-//! (reading/). These are to be believed. What keeps them stands apart: `Roles` and `Invariant` (invariants/), and what each change has to
-//! keep (keeping/). The functions are laws: their bodies are empty, their clauses say what holds. docs/MEANING.md has each definition in
+//! (reading/). These a reader has to believe. The invariant that implies them is apart: `Roles` and `Invariant` (invariants/), and what each
+//! change has to keep (keeping/). The functions are laws: their bodies are empty, their clauses are the laws. docs/MEANING.md has each definition in
 //! plain words.
 #![tactic(auto)]
 

@@ -1,5 +1,5 @@
-//! Does what its words ask, from standard input to standard output: it replays commands, runs made ones, or answers what is asked of a
-//! file. Swap is a device in memory. An argument that isn't UTF-8 is a usage error, and memory that runs out while the arguments are read is
+//! Does what its arguments request, from standard input to standard output: it replays commands, runs a generated input, or answers about a
+//! file. The swap device is in memory. An argument that isn't UTF-8 is a usage error; if memory runs out while the arguments are read, it is
 //! reported as in a run.
 #![tactic(auto)]
 
@@ -9,7 +9,7 @@ use replay_run::{Machine, run_lispm};
 use std::process::ExitCode;
 use std::{env, io};
 
-/// The arguments after the program's name.
+/// The arguments of the program.
 fn read_arguments(rt: &HostRuntime) -> io::Result<Vec<String>> {
     let mut words = Vec::new(rt.alloc());
     for word in env::args(rt)?.skip(1) {
@@ -18,7 +18,7 @@ fn read_arguments(rt: &HostRuntime) -> io::Result<Vec<String>> {
     Ok(words)
 }
 
-/// What is reported if they can't be read: one of them isn't UTF-8, or memory ran out.
+/// What is reported if the arguments can't be read: one of them isn't UTF-8, or memory ran out.
 fn argument_trouble(fault: &io::Error) -> RunError {
     match fault.kind() {
         io::ErrorKind::OutOfMemory => RunError::Memory,

@@ -1,19 +1,13 @@
 //! Runs over saved bands, from standard input to standard output, on a disk in memory that has no bands at first. An argument that isn't UTF-8
-//! is a usage error as any other argument is, and memory that runs out while the arguments are read is reported as in a run.
+//! is a usage error, as any other argument is; if memory runs out while the arguments are read, it is reported as in a run.
 #![tactic(auto)]
 
-use band_run::{BandMemory, RunError, report, run_bands};
+use band_run::{RunError, new_disk, report, run_bands};
 use outer_ports::{SinkWrite, SourceRead};
 use std::process::ExitCode;
 use std::{env, io};
 
-/// A store without bands: the header, and a gate that isn't open.
-const EMPTY: &[u8; 9] = b"LISPBND1\0";
-
-/// How many bytes the disk has room for.
-const ROOM: u32 = 16_777_216;
-
-/// The arguments after the program's name.
+/// The arguments of the program.
 fn read_arguments(rt: &HostRuntime) -> io::Result<Vec<String>> {
     let mut words = Vec::new(rt.alloc());
     for word in env::args(rt)?.skip(1) {
@@ -22,7 +16,7 @@ fn read_arguments(rt: &HostRuntime) -> io::Result<Vec<String>> {
     Ok(words)
 }
 
-/// What is reported if they can't be read: one of them isn't UTF-8, or memory ran out.
+/// What is reported if the arguments can't be read: one of them isn't UTF-8, or memory ran out.
 fn argument_trouble(fault: &io::Error) -> RunError {
     match fault.kind() {
         io::ErrorKind::OutOfMemory => RunError::Memory,
@@ -33,7 +27,7 @@ fn argument_trouble(fault: &io::Error) -> RunError {
 fn main(rt: HostRuntime) -> ExitCode {
     let mut source = SourceRead::new(rt.reader());
     let mut sink = SinkWrite::new(io::writer(&rt));
-    let mut disk = match BandMemory::new(rt.alloc(), EMPTY, ROOM, 0, 0) {
+    let mut disk = match new_disk(rt.alloc()) {
         Ok(disk) => disk,
         Err(_) => return ExitCode::from(report(&mut sink, &RunError::Memory).code()),
     };

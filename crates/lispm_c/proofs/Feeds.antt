@@ -7,7 +7,7 @@ or_not : (a b : Bool) → a || not b ≡ not (not a && b)
 or_not true b = refl
 or_not false b = refl
 
--- some byte is a line feed, unless none is
+-- some byte is a line feed if and only if the bytes aren't free of line feeds
 pub any_feed : (xs : List ℕ) → list_any (λ x. x == 10) xs ≡ not (no_feed xs)
 any_feed [] = refl
 any_feed (x ∷ xs) = ap (λ b. (x == 10) || b) (any_feed xs) ∙ or_not (x == 10) (no_feed xs)

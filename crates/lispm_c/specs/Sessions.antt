@@ -8,12 +8,12 @@ use Rattle.byte_run.specs.declared.session.ByteSession.{ByteSession}
 use Rattle.byte_run.specs.Numbers.{late_number, number_of}
 use Rattle.lispm_c.specs.Handed.{IsHanded}
 
--- a session that was opened was fed nothing; or memory ran out, and the seat is empty
+-- a new session, which was fed nothing; or memory ran out, and the seat is empty
 abbrev pub IsOpened : Option ByteSession → ℕ → Type 0
 IsOpened (Some s) result = Does [] [] s.session × (s.session.state ≡ Open) × (s.session.answer ≡ []) × (result ≡ 0)
 IsOpened None result = result ≡ 5
 
--- A line was fed: whatever the session had done before, it has done that and this line, and its answer is handed out with its status.
+-- A line was fed: what the session has done is now what it had done before, followed by this line; its answer is handed out with its status.
 pub record IsFed (old new : Seen) (text room room' : List ℕ) (needed result : ℕ) : Type 0 where
   pub does : (fed written : List ℕ) → Does fed written old → Does (fed ++ fed_of text) (written ++ new.answer) new
   pub on : new.state ≢ Ended Done
@@ -29,7 +29,7 @@ pub record IsEnded (old new : Seen) (room room' : List ℕ) (needed result : ℕ
   pub write : new.state ≢ Ended WriteFailed
   pub handed : IsHanded room room' needed result new.answer (number_of new.state)
 
--- a call on a session that has ended changes nothing: it has no bytes, and the status that the end left
+-- a call on a session that has ended changes nothing: the answer is empty, and the status is that of a late call
 abbrev pub IsLate : Seen → Seen → List ℕ → List ℕ → ℕ → ℕ → Type 0
 IsLate old new room room' needed result = (new ≡ old) × IsHanded room room' needed result [] (late_number old.state)
 

@@ -1,4 +1,4 @@
--- What a slot owns: nothing where it is empty, and else what a `Box<ByteSession>` owns.
+-- What a slot owns: nothing if it is empty, otherwise what a `Box<ByteSession>` owns.
 use base.Fml.{Fml, ftrue}
 use denote.RawPtr.{Ptr}
 use Rattle.std.specs.Prelude.{Option, Some, None}

@@ -4,7 +4,7 @@
 //! code of this repository, proved by hand.
 #![tactic(auto)]
 
-ghost use Rattle.std.specs.Prelude.{◌≡◌, ◌⊎◌, ℕ, List, [], Some, None, IfSome, not, true, false};
+ghost use Rattle.std.specs.Prelude.{◌≡◌, ◌⊎◌, ℕ, List, [], Some, None, IfSome, IsSome, not, true, false};
 ghost use Rattle.line_input.specs.Reader.{no_feed};
 ghost use Rattle.byte_run.specs.declared.session.ByteSession.{ByteSession};
 ghost use Rattle.byte_run.specs.Answered.{IsAnswer, IsShown, RanOut};
@@ -36,7 +36,7 @@ pub extern "C" fn lispm_raw_version() -> u32
     4_000
 }
 
-/// All that `lispm` does by its arguments, each followed by a NUL byte: its status, and what it writes.
+/// Does everything that `lispm` does with these arguments, each followed by a NUL byte: returns its status, and hands out what it writes.
 #[unsafe(no_mangle)]
 pub extern "C" fn lispm_raw_main(
     alloc: Global,
@@ -52,7 +52,7 @@ pub extern "C" fn lispm_raw_main(
     put(ran.status, ran.bytes.as_slice(), b"", output, needed)
 }
 
-/// All that `lispm_inside` does by its arguments.
+/// Does everything that `lispm_inside` does with these arguments.
 #[unsafe(no_mangle)]
 pub extern "C" fn lispm_raw_inside(
     alloc: Global,
@@ -68,7 +68,7 @@ pub extern "C" fn lispm_raw_inside(
     put(ran.status, ran.bytes.as_slice(), b"", output, needed)
 }
 
-/// Opens a session in a seat, in place of the one that it had: 0, or 5 and an empty seat if memory ran out.
+/// Opens a session in a seat, in place of the one that it had: returns 0, or 5 if memory ran out; then the seat is empty.
 #[unsafe(no_mangle)]
 pub extern "C" fn lispm_raw_open(alloc: Global, seat: &mut Seat) -> u8
     ensures { IsOpened seat.new.slot.held result }
@@ -87,7 +87,7 @@ pub extern "C" fn lispm_raw_open(alloc: Global, seat: &mut Seat) -> u8
     }
 }
 
-/// Feeds the session of a seat the next line, and hands out the answer.
+/// Feeds the next line to the session of a seat, and hands out the answer.
 #[unsafe(no_mangle)]
 pub extern "C" fn lispm_raw_line(
     alloc: Global,
@@ -98,6 +98,7 @@ pub extern "C" fn lispm_raw_line(
 ) -> u8
     ensures feed { no_feed text.now ≡ false → (seat.new.slot.held ≡ seat.old.slot.held) × IsHanded output.old output.new needed.new result [] 11 }
     ensures empty { no_feed text.now ≡ true → seat.old.slot.held ≡ None → (seat.new.slot.held ≡ None) × IsHanded output.old output.new needed.new result [] 9 }
+    ensures kept { no_feed text.now ≡ true → IsSome seat.old.slot.held → IsSome seat.new.slot.held }
     ensures feeds { (session : ByteSession) → no_feed text.now ≡ true → seat.old.slot.held ≡ Some session
         → IfSome seat.new.slot.held (λ after. Feeds session.session.state session.session after.session text.now output.old output.new needed.new result) }
 {
@@ -112,7 +113,7 @@ pub extern "C" fn lispm_raw_line(
     status
 }
 
-/// Hands out the answer to the latest line once more, with the status that it had. A session that hasn't been fed a line has no bytes and 0.
+/// Hands out the answer to the latest line once more, with the status that it had. A session that hasn't been fed a line has an empty answer and status 0.
 #[unsafe(no_mangle)]
 pub extern "C" fn lispm_raw_again(
     alloc: Global,
@@ -134,7 +135,7 @@ pub extern "C" fn lispm_raw_again(
     status
 }
 
-/// Ends the session of a seat, where its input ends, and hands out what is written then.
+/// Ends the session of a seat, as the end of its input does, and hands out what is written then.
 #[unsafe(no_mangle)]
 pub extern "C" fn lispm_raw_end(
     alloc: Global,
@@ -143,6 +144,7 @@ pub extern "C" fn lispm_raw_end(
     needed: &mut usize,
 ) -> u8
     ensures empty { seat.old.slot.held ≡ None → (seat.new.slot.held ≡ None) × IsHanded output.old output.new needed.new result [] 9 }
+    ensures kept { IsSome seat.old.slot.held → IsSome seat.new.slot.held }
     ensures ends { (session : ByteSession) → seat.old.slot.held ≡ Some session
         → IfSome seat.new.slot.held (λ after. Ends session.session.state session.session after.session output.old output.new needed.new result) }
 {
@@ -160,7 +162,7 @@ pub extern "C" fn lispm_raw_end(
     status
 }
 
-/// Frees the session of a seat, if it has one. The seat is empty then.
+/// Frees the session of a seat, if it has one. Then the seat is empty.
 #[unsafe(no_mangle)]
 pub extern "C" fn lispm_raw_close(alloc: Global, seat: &mut Seat)
     ensures { seat.new.slot.held ≡ None }
@@ -175,7 +177,7 @@ fn has_feed(text: &[u8]) -> bool
     text.contains(&b'\n')
 }
 
-/// Feeds a session a line without a line feed, if the session is open, and hands out the answer.
+/// Feeds a line, whose text has no line feed, to a session, if the session is open, and hands out the answer.
 fn feed(
     alloc: Global,
     session: &mut ByteSession,

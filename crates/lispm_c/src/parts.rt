@@ -1,11 +1,11 @@
-//! A box in its parts.
+//! The parts of a box.
 ghost use Rattle.std.specs.Prelude.{◌≡◌};
 ghost use Rattle.std.specs.Box.Ownership.{box_owns};
 
 use std::alloc::Allocator;
 use std::marker::Model;
 
-/// Where a box's value lies, and the allocator that it came from. It owns what the box owned.
+/// The address of a box's value, and the allocator that allocated it. It owns what the box owned.
 pub struct Parts<T, A: Allocator> {
     pub(crate) at: *mut T,
     pub(crate) from: A,

@@ -2,11 +2,11 @@
 ghost use Rattle.std.specs.Prelude.{◌+◌, ◌++◌, ◌<◌, ◌^◌, [], length};
 ghost use Rattle.lispm_c.specs.Handed.{IsHanded};
 
-/// The status of a call whose room is too small for the answer.
+/// The status of a call whose buffer is too small for the answer.
 const SMALL: u8 = 10;
 
-/// Hands an answer in two pieces to C: copies it to the caller's room if it fits, and says how many bytes it has. The result is the status,
-/// or 10 if it doesn't fit; then the room is unchanged.
+/// Hands an answer in two pieces to C: copies it to the caller's buffer if it fits, and reports how many bytes it has. The result is the status,
+/// or 10 if the answer doesn't fit; then the buffer is unchanged.
 pub(crate) fn put(
     status: u8,
     first: &[u8],

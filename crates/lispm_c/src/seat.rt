@@ -7,7 +7,7 @@ use byte_run::ByteSession;
 use std::alloc::Global;
 use std::mem;
 
-/// A seat. C gives zeroed memory for it, and never changes it.
+/// A seat. C provides zeroed memory for it, and never changes that memory.
 #[repr(C)]
 #[derive(Drop)]
 pub struct Seat {
@@ -44,7 +44,7 @@ impl Seat {
         Some(self.slot.into_parts(alloc).into_box())
     }
 
-    /// Takes the session out, where there is one, and leaves the seat empty.
+    /// Takes the session out, if there is one, so that the seat is empty.
     pub fn take(&mut self, alloc: Global) -> Option<Box<ByteSession>>
         ensures taken { option_map (λ session. session.value) result ≡ self.old.slot.held }
         ensures empty { self.new.slot.held ≡ None }
@@ -52,7 +52,7 @@ impl Seat {
         mem::replace(self, Seat::empty()).into_session(alloc)
     }
 
-    /// Puts a session in. One that sat there goes.
+    /// Puts a session in. If there was one, it is freed.
     pub fn put(&mut self, alloc: Global, session: Box<ByteSession>)
         ensures { self.new.slot.held ≡ Some session.value }
     {

@@ -10,7 +10,7 @@ use std::alloc::Global;
 use std::marker::Model;
 use std::ptr;
 
-/// Where a session lies, or none. C never reads or writes it.
+/// The address of a session, or none. C never reads or writes it.
 #[repr(C)]
 #[derive(Drop)]
 pub struct Slot {
@@ -24,7 +24,7 @@ impl Model for Slot {
 }
 
 impl Slot {
-    /// A slot with no session.
+    /// A slot without a session.
     pub fn empty() -> Slot
         ensures { result.held ≡ None }
     {
@@ -33,7 +33,7 @@ impl Slot {
         }
     }
 
-    /// A slot with the session of these parts.
+    /// A slot with the session that has these parts.
     pub fn of(parts: Parts<ByteSession, Global>) -> Slot
         ensures { result.held ≡ Some parts.value }
     {

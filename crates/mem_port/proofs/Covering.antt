@@ -55,7 +55,7 @@ covers_after a b c at count word x y = record {
   unmarked = λ page none old. y.unmarked page (x.unmarked page none) (λ e i low. ap (λ (ls : List ℕ). level_of_word ls (word i)) x.levels ∙ old e i low);
 }
 
--- the same words, said otherwise
+-- the same words, stated otherwise
 pub covers_alike : (a b : Store) (at count : ℕ) (word word' : ℕ → Parts) → ((i : ℕ) → i < count → word i ≡ word' i) → Covers a b at count word → Covers a b at count word'
 covers_alike a b at count word word' same x = record {
   words = record { size = x.words.size; here = λ i low. x.words.here i low ∙ same i low; others = x.words.others };

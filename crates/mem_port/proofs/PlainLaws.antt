@@ -32,7 +32,7 @@ tag_at-set_same tags page other tag h e = rw e (ap (λ o. unwrap_or o false) (ge
 pub tag_at-set_other : (tags : List Bool) (page other : ℕ) (tag : Bool) → other ≢ page → tag_at (slice_set tags page tag) other ≡ tag_at tags other
 tag_at-set_other tags page other tag ne = ap (λ o. unwrap_or o false) (get-set_other tags page other tag ne)
 
--- what a store makes of a plain memory
+-- the result of a store to a plain memory
 abbrev pub stored : Plain → ℕ → Parts → Bool → ℕ → Plain
 stored p at word tag taken = record { words = slice_set p.words at word; levels = p.levels; tags = slice_set p.tags (at / 256) tag; top = p.top; taken = taken }
 
@@ -49,7 +49,7 @@ or_ephemeral : (tag : Bool) (level : ℕ) → 0 < level → (tag || nat_lt 0 lev
 or_ephemeral true level h = refl
 or_ephemeral false level h = grind (arith, nat_tests)
 
--- another word leaves the tag
+-- another word doesn't change the tag
 or_zero : (tag : Bool) (level : ℕ) → level ≡ 0 → (tag || nat_lt 0 level) ≡ tag
 or_zero true level h = refl
 or_zero false level h = grind (arith, nat_tests)
@@ -113,7 +113,7 @@ plain_stores p at word tag taken h within is =
 abbrev pub page_words : List Parts → ℕ → List Parts
 page_words words page = slice_range words (256 * page) (256 * page + 256)
 
--- a tag that stays exactly where a word of the page has an address of level 1 or more remarks the page
+-- a tag that stays if and only if a word of the page has an address of level 1 or more remarks the page
 pub plain_remark : (p : Plain) (page : ℕ) (tag : Bool) → page < length p.tags → (IsTrue tag ↔ (IsTrue (tag_at p.tags page) × HasEphemeral (page_words p.words page) p.levels)) → Remarks (plain_store p) (plain_store (record p { tags = slice_set p.tags page tag })) page
 plain_remark p page tag inside is = record {
   words = refl;

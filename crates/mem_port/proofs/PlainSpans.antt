@@ -9,7 +9,7 @@ use Rattle.mem_port.specs.Store.{level_of_word, Overwrites, Covers}
 use Rattle.mem_port.specs.Tags.{HasEphemeral, HasYoung}
 use Rattle.mem_port.specs.Plain.{Plain, IsPlain, plain_store, tag_at}
 
--- many words of one page are written, which is tagged where it was or one of them has an address of level 1 or more
+-- many words of one page are written, which is tagged if it was or one of them has an address of level 1 or more
 pub record CoversPlain (p : Plain) (words : List Parts) (at count : ℕ) (word : ℕ → Parts) (tag : Bool) : Type 0 where
   pub some : 0 < count
   pub inside : at + count ≤ length p.words
@@ -17,7 +17,7 @@ pub record CoversPlain (p : Plain) (words : List Parts) (at count : ℕ) (word :
   pub written : Overwrites p.words words at count word
   pub tagged : IsTrue tag ↔ (IsTrue (tag_at p.tags (at / 256)) ⊎ HasYoung p.levels count word)
 
--- what they make of it
+-- the result of that
 abbrev pub covered : Plain → List Parts → ℕ → Bool → ℕ → Plain
 covered p words at tag taken = record { words = words; levels = p.levels; tags = slice_set p.tags (at / 256) tag; top = p.top; taken = taken }
 

@@ -52,7 +52,7 @@ listed_inside pages first second end size h is one two k d low =
           rw (listed_at pages first second end k d h is below ∙ there) (omega (arith, page_within second j low'))
     ]
 
--- where each listed page is held, both spans are
+-- if each listed page is held, both spans are
 pub front_held : (held : ℕ → Type 0) (pages : List ℕ) (first second : Span) (end : ℕ) → ListsSpans pages first second → end ≡ page_count first + page_count second → ((k d : ℕ) → k < length (take end pages) → held (slice_index_or (take end pages) k d)) → HoldsSpan held first
 front_held held pages first second end h is all at low high =
     let k : ℕ = at / 256 - first.at / 256 in

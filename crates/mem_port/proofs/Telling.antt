@@ -1,4 +1,4 @@
--- What calls one after another tell of faults, of words taken and of resident pages.
+-- What consecutive calls report of swap errors, of memory accesses and of resident pages.
 use Rattle.std.proofs.Common.{◌≡◌, ℕ, Bool, true, false, Result, Ok, Err, OnOk, OnErr, length, refl, sym, ◌∙◌, ap, arith}
 use Rattle.std.proofs.lemmas.Bool.{false≢true}
 use Rattle.std.proofs.lemmas.List.{length-set}
@@ -6,7 +6,7 @@ use Rattle.store_word.specs.Words.{Parts}
 use Rattle.mem_port.specs.Store.{Store, Stores, StoresNothing}
 use Rattle.mem_port.specs.View.{MemoryView, Quiet, Tells, TellsIf}
 
--- A call that met no fault
+-- A call that met no swap error
 
 pub answered : {T E : Type 0} {v v' : MemoryView} {n n' : ℕ} (x : T) → Tells {T = T} {E = E} v v' n n' (Ok x) → Quiet v v' n n'
 answered x tells = record { faults = tells.cause.quiet; honest = tells.honest; room = tells.room.answered }
@@ -32,7 +32,7 @@ quiet-twice p q = record {
   room = (let a = p.room in let b = q.room in omega arith);
 }
 
--- and one that met a fault after them
+-- and one that met a swap error after them
 pub quiet-then_fault : {T E : Type 0} {v v' v'' : MemoryView} {n n' n'' : ℕ} (e : E) → Quiet v v' n n' → Tells {T = T} {E = E} v' v'' n' n'' (Err e) → (faulted : Bool) → faulted ≡ true → TellsIf v v'' n n'' faulted
 quiet-then_fault e q tells faulted is = record {
   later = (let a = q.faults in let b = tells.cause.later in omega arith);
@@ -43,14 +43,14 @@ quiet-then_fault e q tells faulted is = record {
   gone = (let a = q.room in let b = tells.room.failed in omega arith);
 }
 
--- A read or a write, whatever it answers
+-- A read or a write, whatever it returns
 
--- what follows from either answer
+-- what follows from either result
 pub on-either : {T E P Q N : Type 0} (r : Result T E) → OnOk r P → OnErr r Q → (P → N) → (Q → N) → N
 on-either (Ok x) ok err f g = f ok
 on-either (Err e) ok err f g = g err
 
--- a write leaves the size
+-- a write doesn't change the size
 pub size-kept : {T E : Type 0} (m m' : Store) (at : ℕ) (w : Parts) (r : Result T E) → OnOk r (Stores m m' at w) → OnErr r (StoresNothing m m') → length m'.words ≡ length m.words
 size-kept m m' at w (Ok x) stored none = ap length stored.words ∙ length-set m.words at w
 size-kept m m' at w (Err e) stored none = ap length none.words

@@ -1,8 +1,8 @@
--- Words that follow one another, and their pages.
+-- Consecutive words, and their pages.
 use Rattle.std.specs.Prelude.{ℕ, ◌≡◌, ◌==◌, ◌+◌, ◌-◌, ◌/◌, ◌<◌, ◌≤◌, List, length, slice_index, if◌then◌else◌}
 use Rattle.mem_port.specs.declared.spans.Span.{Span}
 
--- on how many pages the words stand: from the page of the first word to that of the last
+-- on how many pages the words are: from the page of the first word to that of the last
 abbrev pub page_count : Span → ℕ
 page_count span = if span.words == 0 then 0 else (span.at + span.words - 1) / 256 - span.at / 256 + 1
 

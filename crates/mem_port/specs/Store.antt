@@ -14,7 +14,7 @@ pub record Store : Type 0 where
 abbrev pub level_at : List ℕ → ℕ → ℕ
 level_at levels at = slice_index levels (at / 4096)
 
--- the level of an address, or 0 where there is none
+-- the level of an address, or 0 if there is none
 abbrev pub level_of_address : List ℕ → Option ℕ → ℕ
 level_of_address levels None = 0
 level_of_address levels (Some at) = level_at levels at
@@ -27,7 +27,7 @@ level_of_word levels word = level_of_address levels (address_of word.content)
 abbrev pub MarksHold : Store → Type 0
 MarksHold s = (at : ℕ) (word : Parts) → slice_get s.words at ≡ Some word → 0 < level_of_word s.levels word → HasLevel (s.marks (at / 256)) (level_of_word s.levels word)
 
--- what always holds of a memory of so many pages
+-- what always holds of a memory of this number of pages
 pub record IsSound (s : Store) (pages : ℕ) : Type 0 where
   pub size : length s.words ≡ 256 * pages
   pub few : pages ≤ 16384
@@ -50,27 +50,27 @@ pub record StoresNothing (old new : Store) : Type 0 where
   pub top : new.top ≡ old.top
   pub unmarked : (page : ℕ) → old.marks page ≡ 0 → new.marks page ≡ 0
 
--- one word is stored, and no page without marks gets any but its own, by an address of level 1 or more
+-- one word is stored, and no page without marks gets any except its own, from an address of level 1 or more
 pub record Stores (old new : Store) (at : ℕ) (word : Parts) : Type 0 where
   pub words : new.words ≡ slice_set old.words at word
   pub levels : new.levels ≡ old.levels
   pub top : new.top ≡ old.top
   pub unmarked : (page : ℕ) → old.marks page ≡ 0 → (page ≡ at / 256 → level_of_word old.levels word ≡ 0) → new.marks page ≡ 0
 
--- so many words from a place on are these, and the others are as they were
+-- `count` words from a place on are these, and the others are unchanged
 pub record Overwrites (old new : List Parts) (at count : ℕ) (word : ℕ → Parts) : Type 0 where
   pub size : length new ≡ length old
   pub here : (i : ℕ) → i < count → slice_index_or new (at + i) null_word ≡ word i
   pub others : (a : ℕ) → ((at ≤ a) × (a < at + count) → ⊥) → slice_index_or new a null_word ≡ slice_index_or old a null_word
 
--- so many words of one page are stored, and no page without marks gets any but theirs, by an address of level 1 or more
+-- `count` words of one page are stored, and no page without marks gets any except theirs, from an address of level 1 or more
 pub record Covers (old new : Store) (at count : ℕ) (word : ℕ → Parts) : Type 0 where
   pub words : Overwrites old.words new.words at count word
   pub levels : new.levels ≡ old.levels
   pub top : new.top ≡ old.top
   pub unmarked : (page : ℕ) → old.marks page ≡ 0 → (page ≡ at / 256 → (i : ℕ) → i < count → level_of_word old.levels (word i) ≡ 0) → new.marks page ≡ 0
 
--- the words of one region are NULL, and its pages have no marks; the rest stays
+-- the words of one region are NULL, and its pages have no marks; the rest is unchanged
 pub record Clears (old new : Store) (region : ℕ) : Type 0 where
   pub size : length new.words ≡ length old.words
   pub null : (at : ℕ) → at / 4096 ≡ region → at < length old.words → slice_get new.words at ≡ Some null_word
@@ -80,7 +80,7 @@ pub record Clears (old new : Store) (region : ℕ) : Type 0 where
   pub unmarked : (page : ℕ) → page / 16 ≡ region → new.marks page ≡ 0
   pub marks : (page : ℕ) → page / 16 ≢ region → new.marks page ≡ old.marks page
 
--- the words of a region are NULL, and none of its addresses stands in a word
+-- the words of a region are NULL, and none of its addresses is in a word
 pub record IsUnused (s : Store) (region : ℕ) : Type 0 where
   pub null : (at : ℕ) → at / 4096 ≡ region → at < length s.words → slice_get s.words at ≡ Some null_word
   pub unnamed : (at to : ℕ) (word : Parts) → slice_get s.words at ≡ Some word → address_of word.content ≡ Some to → to / 4096 ≢ region
@@ -89,7 +89,7 @@ pub record IsUnused (s : Store) (region : ℕ) : Type 0 where
 abbrev pub IsClean : Store → ℕ → Type 0
 IsClean s page = (at : ℕ) (word : Parts) → at / 256 ≡ page → slice_get s.words at ≡ Some word → level_of_word s.levels word ≡ 0
 
--- the marks of one page are dropped where it is clean; the rest stays
+-- the marks of one page are dropped if it is clean; the rest is unchanged
 pub record Remarks (old new : Store) (page : ℕ) : Type 0 where
   pub words : new.words ≡ old.words
   pub levels : new.levels ≡ old.levels

@@ -1,7 +1,7 @@
 -- What a memory has on its swap device.
 use Rattle.std.specs.Prelude.{ℕ, List, []}
 
--- the pages on the swap device, ascending, and how many page calls of each kind were made, those that failed counted
+-- the pages on the swap device, ascending, and how many page calls of each kind were made, including those that failed
 pub record Swaps : Type 0 where
   pub out : List ℕ
   pub writes : ℕ

@@ -3,7 +3,7 @@ use Rattle.std.specs.Prelude.{ℕ, ◌≡◌, ◌-◌, ◌<◌, ◌^◌, List, S
 use Rattle.store_word.specs.Words.{Parts}
 use Rattle.mem_port.specs.Store.{level_of_word}
 
--- the marks that a tag stands for: every level up to the greatest, or none
+-- the marks that a tag represents: every level up to the greatest, or none
 abbrev pub marks_of_tag : ℕ → Bool → ℕ
 marks_of_tag top tag = if tag then 2 ^ top - 1 else 0
 

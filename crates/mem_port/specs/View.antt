@@ -5,7 +5,7 @@ use Rattle.mem_port.specs.Frames.{LeavesRoom}
 use Rattle.mem_port.specs.Store.{Store}
 use Rattle.mem_port.specs.declared.memory.Memory.{Ghosts}
 
--- its words and marks, how often it failed, how many words were taken of it, and how many of its pages are resident
+-- its words and marks, the number of swap errors and of memory accesses, and how many of its pages are resident
 pub record MemoryView : Type 0 where
   pub store : Store
   pub faults : ℕ
@@ -16,18 +16,18 @@ module _ {M : Type 0} (g : Ghosts M) where
   abbrev pub shown : M → MemoryView
   shown it = record { store = g.seen it; faults = g.faults it; taken = g.taken it; resident = length (g.resident it) }
 
--- a call tells each fault, counts each word that it took as a step, and lets no page go but for another one
+-- a call reports each swap error, counts each of its memory accesses, and evicts no page except for another one
 pub record Tells {T E : Type 0} (old new : MemoryView) (steps steps' : ℕ) (result : Result T E) : Type 0 where
   pub cause : TellsFaults old.faults new.faults result
   pub honest : new.taken + steps ≡ old.taken + steps'
   pub room : LeavesRoom old.resident new.resident result
 
--- the same of a call that may free regions, whose pages are resident no more
+-- the same for a call that may free regions, whose pages are no longer resident
 pub record TellsFreeing {T E : Type 0} (old new : MemoryView) (steps steps' : ℕ) (result : Result T E) : Type 0 where
   pub cause : TellsFaults old.faults new.faults result
   pub honest : new.taken + steps ≡ old.taken + steps'
 
--- the same of a call whose answer says in its own way whether it met a fault
+-- the same for a call whose result says in its own way whether it met a swap error
 pub record TellsIf (old new : MemoryView) (steps steps' : ℕ) (faulted : Bool) : Type 0 where
   pub later : old.faults ≤ new.faults
   pub failed : faulted ≡ true → old.faults < new.faults
@@ -36,7 +36,7 @@ pub record TellsIf (old new : MemoryView) (steps steps' : ℕ) (faulted : Bool) 
   pub room : faulted ≡ false → old.resident ≤ new.resident
   pub gone : old.resident ≤ new.resident + 1
 
--- what calls that met no fault leave: the count of faults, the words taken told as steps, and no fewer resident pages
+-- what calls that met no swap error leave: the same count of swap errors, the memory accesses counted, and no fewer resident pages
 pub record Quiet (old new : MemoryView) (steps steps' : ℕ) : Type 0 where
   pub faults : new.faults ≡ old.faults
   pub honest : new.taken + steps ≡ old.taken + steps'

@@ -1,4 +1,4 @@
-//! The contract of a memory, which stands under every layer of the heap.
+//! The contract of a memory, on which every layer of the heap is built.
 ghost use Rattle.std.specs.Prelude.{◌≡◌, ◌≢◌, ◌+◌, ◌*◌, ◌/◌, ◌<◌, ◌≤◌, ℕ, List, length, slice_get, slice_set, IsOk, IfOk, OnOk, OnErr, IsTrue, ◌↔◌, IfSome, IfNone, All, drop, min, ◌⊎◌, ◌%◌, slice_index_or};
 ghost use Rattle.mem_port.specs.Store.{Store, level_at, level_of_word, IsSound, IsFresh, StoresNothing, Stores, Clears, IsUnused, Remarks, Covers};
 ghost use Rattle.mem_port.specs.Swaps.{Swaps};
@@ -17,12 +17,12 @@ pub const HOLD_LIMIT: usize = 24;
 ///
 /// An address counts words from 0: it is on page `at / 256`, in region `at / 4096`. Each region has
 /// a level, 0 to 6. Each page has marks: a set of levels with the level of each address of level 1
-/// or more that stands on the page, and maybe more. Marks come to a page without any only where
-/// such an address is stored into it.
+/// or more that is stored on the page, and maybe more. A page without marks gets them only when
+/// such an address is stored on it.
 ///
-/// A page that is held is used without a fault. Pages are held together by `hold`, and stay held
+/// Using a held page causes no swap error. Pages are held together by `hold`, and stay held
 /// until a page is read or written that isn't held, others are held, their region is cleared, or
-/// pages are evicted. A fault changes no word. No call takes memory.
+/// pages are evicted. A swap error changes no word. No call takes memory.
 pub trait Memory {
     /// Its words, the level of each region, the marks of each page, and the greatest level.
     ghost seen: { Self → Store };
@@ -33,10 +33,10 @@ pub trait Memory {
     /// The resident pages, the least recently used first.
     ghost resident: { Self → List ℕ };
 
-    /// How many faults there were.
+    /// How many swap errors there were.
     ghost faults: { Self → ℕ };
 
-    /// How many words were taken: one a read or a write, one for each page that is held, two for each
+    /// How many memory accesses were made: one for each read or write, one for each page that is held, two for each
     /// word that is copied, and one for each that is filled.
     ghost taken: { Self → ℕ };
 
@@ -44,13 +44,13 @@ pub trait Memory {
     ghost swaps: { Self → Swaps };
 
     /// The number of pages, 16 for each region and at most 16,384. What always holds of a memory is
-    /// known wherever this is asked: its sizes, the range of its levels, and that the marks of each
+    /// known when this is called: its sizes, the range of its levels, and that the marks of each
     /// page have the levels of the addresses on it.
     fn pages(&self) -> u32
         ensures { IsSound (seen self.now) result };
 
-    /// The word at an address. It is one step. A fault comes only where the page isn't held, and
-    /// the count of faults rises.
+    /// The word at an address. It takes one memory access. A swap error occurs only if the page isn't held,
+    /// and raises the count of swap errors.
     fn read<L: Ledger>(&mut self, at: u32, steps: &mut Steps<L>) -> Result<Word, SwapFault>
         requires { at < length (seen self.old).words }
         ensures value { IfOk result (λ word. slice_get (seen self.old).words at ≡ Some word) }
@@ -62,8 +62,8 @@ pub trait Memory {
         ensures taken { taken self.new ≡ taken self.old + 1 }
         ensures cost { steps.new ≡ steps.old + 1 };
 
-    /// Stores a word at an address. It is one step. A fault comes only where the page isn't held,
-    /// stores nothing, and the count of faults rises.
+    /// Stores a word at an address. It takes one memory access. A swap error occurs only if the page isn't held,
+    /// stores nothing, and raises the count of swap errors.
     fn write<L: Ledger>(
         &mut self,
         at: u32,
@@ -81,7 +81,7 @@ pub trait Memory {
         ensures cost { steps.new ≡ steps.old + 1 };
 
     /// Holds up to 24 pages together, in the order of the list, whatever was held before. Each page
-    /// is one step. A fault stores nothing, and the count of faults rises.
+    /// takes one memory access. On a swap error nothing is stored, and the count of swap errors rises.
     fn hold<L: Ledger>(&mut self, pages: &[u32], steps: &mut Steps<L>) -> Result<(), SwapFault>
         requires few { length pages.now ≤ HOLD_LIMIT }
         requires inside { All (λ page. 256 * page < length (seen self.old).words) pages.now }
@@ -92,9 +92,9 @@ pub trait Memory {
         ensures taken { taken self.new ≡ taken self.old + length pages.now }
         ensures cost { steps.new ≡ steps.old + length pages.now };
 
-    /// Copies so many words, at least one, of a held page to a held page, where they overlap no old
-    /// ones. The page of the first is used, and then the page that they are copied to. No fault
-    /// comes. It is two steps a word.
+    /// Copies `count` words, at least one, from a held page to a held page; they may not overlap the old
+    /// ones. The page of the first is used, and then the page that they are copied to. No swap error
+    /// occurs. It takes two memory accesses a word.
     fn copy_on<L: Ledger>(&mut self, from: u32, to: u32, count: u32, steps: &mut Steps<L>)
         requires some { 0 < count }
         requires from_inside { from + count ≤ length (seen self.old).words }
@@ -110,15 +110,15 @@ pub trait Memory {
         // The words are copied.
         ensures copied { Covers (seen self.old) (seen self.new) to count (λ i. slice_index_or (seen self.old).words (from + i) null_word) }
 
-        // The pages, faults and the cost.
+        // The pages, swap errors and the cost.
         ensures kept { (page : ℕ) → held self.old page → held self.new page }
         ensures resident { length (resident self.new) ≡ length (resident self.old) }
         ensures faults { faults self.new ≡ faults self.old }
         ensures taken { taken self.new ≡ taken self.old + 2 * count }
         ensures cost { steps.new ≡ steps.old + 2 * count };
 
-    /// Writes one word to so many addresses, at least one, of a held page. No fault comes. It is a
-    /// step a word.
+    /// Writes one word to `count` addresses, at least one, of a held page. No swap error occurs. It takes one
+    /// memory access a word.
     fn fill_on<L: Ledger>(&mut self, at: u32, count: u32, word: Word, steps: &mut Steps<L>)
         requires some { 0 < count }
         requires inside { at + count ≤ length (seen self.old).words }
@@ -141,7 +141,7 @@ pub trait Memory {
         ensures taken { taken self.new ≡ taken self.old };
 
     /// Sets the level, at most the greatest level, of a region whose words are NULL and whose
-    /// addresses stand in no word.
+    /// addresses are in no word.
     fn set_level(&mut self, region: u32, level: u8)
         requires inside { region < length (seen self.old).levels }
         requires low { level ≤ (seen self.old).top }
@@ -162,15 +162,15 @@ pub trait Memory {
         requires { 256 * page < length (seen self.now).words }
         ensures { IsTrue result ↔ Meets ((seen self.now).marks page) levels.0 };
 
-    /// The lowest page, from this one on, whose marks have one of these levels. It is None exactly
-    /// where there is no such page.
+    /// The lowest page, from this one on, whose marks have one of these levels. It is None if and only
+    /// if there is no such page.
     fn next_marked(&self, from: u32, levels: Levels) -> Option<u32>
         ensures found { IfSome result (λ page. (from ≤ page) × (256 * page < length (seen self.now).words) × Meets ((seen self.now).marks page) levels.0) }
         ensures lowest { IfSome result (λ page. (other : ℕ) → from ≤ other → other < page → ¬ Meets ((seen self.now).marks other) levels.0) }
         ensures none { IfNone result ((other : ℕ) → from ≤ other → 256 * other < length (seen self.now).words
             → ¬ Meets ((seen self.now).marks other) levels.0) };
 
-    /// Drops the marks of a page on which no address of level 1 or more is left.
+    /// Drops the marks of a page if no address of level 1 or more is on it.
     fn remark(&mut self, page: u32)
         requires { 256 * page < length (seen self.old).words }
         ensures exact { Remarks (seen self.old) (seen self.new) page }
@@ -179,9 +179,9 @@ pub trait Memory {
         ensures faults { faults self.new ≡ faults self.old }
         ensures taken { taken self.new ≡ taken self.old };
 
-    /// Evicts this many resident pages, or all where there are fewer, the least recently used
-    /// first, and answers how many. No page need be held after it. Where it faults, which raises
-    /// the count of faults, some of these pages may be evicted.
+    /// Evicts this many resident pages, or all if there are fewer, the least recently used
+    /// first, and returns how many. Afterwards a page that was held may no longer be. If it fails, which raises
+    /// the count of swap errors, some of these pages may be evicted.
     fn evict_oldest(&mut self, count: u32) -> Result<u32, SwapFault>
         ensures evicted { OnOk result (resident self.new ≡ drop (min count (length (resident self.old))) (resident self.old)) }
         ensures count { IfOk result (λ evicted. evicted ≡ min count (length (resident self.old))) }
@@ -198,7 +198,7 @@ pub fn known<M: Memory>(mem: &M)
     let _pages = mem.pages();
 }
 
-/// What the marks say of the addresses on a page: where they have none of these levels, no word on
+/// What the marks say about the addresses on a page: if they have none of these levels, no word on
 /// the page has an address of one.
 pub fn marks_tell_levels()
     ensures { (s : Store) (pages page set at : ℕ) (word : Parts) → IsSound s pages → ¬ Meets (s.marks page) set

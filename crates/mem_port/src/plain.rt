@@ -1,5 +1,5 @@
 //! A memory in one vector of words, with a tag for each page. It has no frames, no page of it is
-//! resident, and it never faults.
+//! resident, and no swap error occurs.
 ghost use Rattle.std.specs.Prelude.{◌≡◌, ◌<◌, ◌≤◌, ℕ, length, slice_get, Some, IfOk, ◌+◌, slice_index_or};
 ghost use Rattle.mem_port.specs.Plain.{plain_store};
 ghost use Rattle.mem_port.specs.Store.{IsFresh, Overwrites};
@@ -186,7 +186,7 @@ fn fill_range<T: Copy>(xs: &mut [T], from: usize, to: usize, value: T)
     }
 }
 
-// Copies so many words from one place to another.
+// Copies `count` words from one place to another.
 fn copy_range(words: &mut [Word], from: usize, to: usize, count: usize)
     requires from_inside { from + count ≤ length words.old }
     requires to_inside { to + count ≤ length words.old }

@@ -1,4 +1,4 @@
-//! A tag for each page in place of its marks: set where a page may have an address of level 1 or
+//! A tag for each page in place of its marks: set if the page may have an address of level 1 or
 //! more.
 ghost use Rattle.std.specs.Prelude.{◌||◌, ◌↔◌, ◌⊎◌, IsTrue, ◌≡◌, ◌≤◌, ℕ, nat_lt, slice_index};
 ghost use Rattle.store_word.specs.Sets.{HasLevel, Meets};
@@ -45,14 +45,14 @@ pub fn tag_with(tag: bool, words: &[Word], levels: &[u8]) -> bool
     tag || has_ephemeral(words, levels)
 }
 
-/// Whether a tagged page stays tagged: where one of its words has an address of level 1 or more.
+/// Whether a tagged page stays tagged: if one of its words has an address of level 1 or more.
 pub fn tag_anew(tag: bool, words: &[Word], levels: &[u8]) -> bool
     ensures { IsTrue result ↔ (IsTrue tag × HasEphemeral words.now levels.now) }
 {
     tag && has_ephemeral(words, levels)
 }
 
-/// Whether the marks that a tag stands for have one of these levels; `top` is the greatest level,
+/// Whether the marks that a tag represents have one of these levels; `top` is the greatest level,
 /// at most 6.
 pub fn tag_meets(tag: bool, top: u8, levels: Levels) -> bool
     requires { top ≤ 6 }
@@ -61,7 +61,7 @@ pub fn tag_meets(tag: bool, top: u8, levels: Levels) -> bool
     tag && Levels::up_to(top).intersects(levels)
 }
 
-// The set with one more level, where it is 1 or more.
+// The set with one more level, if it is 1 or more.
 fn with_level(set: Levels, level: u8) -> Levels
     requires { level ≤ 6 }
     ensures { (l : ℕ) → 1 ≤ l → HasLevel result.0 l ↔ (HasLevel set.0 l ⊎ (l ≡ level)) }

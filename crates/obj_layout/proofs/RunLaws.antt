@@ -1,4 +1,4 @@
--- How runs are made, and that there is one at most.
+-- How runs are made, and that at most one begins at an address.
 use Rattle.std.proofs.Common.{ℕ, zero, suc, ◌≡◌, ◌+◌, ◌-◌, ◌<◌, ◌≤◌, List, refl, sym, ap, subst, inl, inr, arith}
 use Rattle.std.proofs.lemmas.Bool.{cases_lt}
 use Rattle.std.specs.Option.{is_some}
@@ -67,7 +67,7 @@ run-longer words at cells ending b first second less = go ending first.last firs
     go Pair last behind = let pair = behind.shape in let single = cell.shape in absurd (cc)
     go (Forwarded to) last behind = let none = ap is_some cell.final.no_forward in let forward = behind.forward in absurd (cc)
 
--- the ends of two runs of as many cells
+-- the ends of two runs with the same number of cells
 ending-same : (words : List Parts) (behind : ℕ) (code : CdrCode) (a b : RunEnd) → code ≡ last_code a → code ≡ last_code b → StandsBehind words behind a → StandsBehind words behind b → a ≡ b
 ending-same words behind code Nil Nil m n x y = refl
 ending-same words behind code Nil Pair m n x y = absurd (cc)
@@ -79,7 +79,7 @@ ending-same words behind code (Forwarded to) Nil m n x y = absurd (cc)
 ending-same words behind code (Forwarded to) Pair m n x y = let none = ap is_some y.final.no_forward in let some = x.forward in absurd (cc)
 ending-same words behind code (Forwarded to) (Forwarded other) m n x y = ap Forwarded (leads-same x.final.2 y.final.2)
 
--- two runs from an address are one
+-- two runs from an address are the same
 pub run-same : (words : List Parts) (at : ℕ) (a b : Run) → IsRun words at a → IsRun words at b → a ≡ b
 run-same words at a b first second =
     elim (cases_lt a.cells b.cells) [

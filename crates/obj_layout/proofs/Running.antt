@@ -1,4 +1,4 @@
--- The cells of a run are found one by one.
+-- The cells of a compact run are found one by one.
 use Rattle.std.proofs.Common.{ℕ, ◌≡◌, ◌≢◌, ◌⊎◌, ◌+◌, ◌-◌, ◌<◌, ◌≤◌, Bool, true, false, not, List, Option, length, Some, slice_get, refl, sym, ◌∙◌, ap, subst, inl, inr, arith}
 use Rattle.std.proofs.lemmas.Bool.{cases_lt}
 use Rattle.std.specs.Option.{is_some}
@@ -35,7 +35,7 @@ pair-code _ CdrNext is = absurd (cc)
 pair-code _ CdrNil is = absurd (cc)
 pair-code _ Second is = absurd (cc)
 
--- a run of at most 1,024 cells, of which so many were found
+-- a compact run of at most 1,024 cells, of which `cells` were found
 pub record Found (words : List Parts) (at cells : ℕ) : Type 0 where
   pub run : Run
   pub few : run.cells ≤ RUN_LIMIT
@@ -47,7 +47,7 @@ pub record Found (words : List Parts) (at cells : ℕ) : Type 0 where
 pub found-one : (words : List Parts) (at : ℕ) → HasRun words at → Found words at 1
 found-one words at (run, few, is) = record { run = run; few = few; is = is; some = omega arith; within = is.some }
 
--- the run with so many cells and this end
+-- the run with this number of cells and this end
 abbrev ended : ℕ → RunEnd → Run
 ended cells ending = record { cells = cells; ending = ending }
 
@@ -76,7 +76,7 @@ either words at cells found =
           inr (run.ending, subst (λ (n : ℕ). IsRun words at (ended n run.ending)) same found.is)
     ]
 
--- these are its cells where the last is coded nil
+-- these are its cells if the last is coded nil
 pub run-nil : {words : List Parts} {at cells : ℕ} {last : Parts} {code : CdrCode} → Found words at cells → word_at words (at + cells - 1) ≡ last → code ≡ last.cdr
     → false ≡ not (sameb the_type code CdrNil) → IsRun words at (ended cells Nil)
 run-nil {words} {at} {cells} {last} {code} found last_is code_is test = go (either words at cells found)
@@ -113,14 +113,14 @@ run-inside {words} {at} {cells} {last} {code} found last_is code_is test = go (e
     go (inr (Pair, is)) = is.behind.final.inside
     go (inr (Forwarded to, is)) = leads-inside is.behind.final.2 is.behind.inside
 
--- the last cell found isn't coded nil, and what was read behind it is this word, a forward or none
+-- the last cell found isn't coded nil, and the next word, which was read, is this one, a forward or not
 pub record Behind (words : List Parts) (at cells : ℕ) (word : Parts) (some : Bool) : Type 0 where
   pub found : Found words at cells
   pub coded : (word_at words (at + cells - 1)).cdr ≢ CdrNil
   pub word_is : word_at words (at + cells) ≡ word
   pub forward : is_some (forward_of (word_at words (at + cells)).content) ≡ some
 
--- what the reads and the tests say
+-- what follows from the reads and the tests
 pub behind-read : {old new : List Parts} {at cells : ℕ} {last word : Parts} {code : CdrCode} {to : Option ℕ} {some : Bool} → Found old at cells
     → word_at old (at + cells - 1) ≡ last → code ≡ last.cdr → true ≡ not (sameb the_type code CdrNil)
     → new ≡ old → slice_get new (at + cells) ≡ Some word → to ≡ forward_of word.content → some ≡ is_some to → Behind old at cells word some
@@ -158,7 +158,7 @@ run-forwarded {words} {at} {cells} {to} {word} behind final last = go (either wo
       behind = record { forward = is.behind.forward; final = final; inside = last.inside };
     }
 
--- it ends before a word coded normal that is no forward
+-- it ends before a word coded normal that isn't a forward
 pub run-pair : {words : List Parts} {at cells : ℕ} {word : Parts} {code : CdrCode} → Behind words at cells word false → code ≡ word.cdr → true ≡ sameb the_type code Normal
     → IsRun words at (ended cells Pair)
 run-pair {words} {at} {cells} {word} {code} behind code_is test = go (either words at cells behind.found)

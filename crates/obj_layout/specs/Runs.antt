@@ -1,4 +1,4 @@
--- Runs of cells.
+-- Compact runs.
 use Rattle.std.specs.Prelude.{ℕ, ◌≡◌, ◌+◌, ◌-◌, ◌<◌, ◌≤◌, List, length, IsSome}
 use Rattle.store_word.specs.Words.{Parts}
 use Rattle.store_word.specs.declared.word.CdrCode.{CdrCode}
@@ -11,17 +11,17 @@ use Rattle.obj_layout.specs.declared.run.Run.{Run}
 use Rattle.obj_layout.specs.Forwards.{word_at, forward_of, Final, IsFinal}
 use Rattle.obj_layout.specs.Shapes.{shape_of}
 
--- a cell stands at an address
+-- a cell is at an address
 pub record IsCell (words : List Parts) (at : ℕ) : Type 0 where
   pub final : IsFinal words at
   pub shape : shape_of (word_at words at) ≡ CellShape
 
--- a pair stands at an address
+-- a pair is at an address
 pub record IsPair (words : List Parts) (at : ℕ) : Type 0 where
   pub final : IsFinal words at
   pub shape : shape_of (word_at words at) ≡ PairShape
 
--- a forward stands at an address, and its final address is this one, in the memory
+-- a forward is at an address, and its final address is this one, in the memory
 pub record IsForwarded (words : List Parts) (at to : ℕ) : Type 0 where
   pub forward : IsSome (forward_of (word_at words at).content)
   pub final : Final words at to
@@ -33,13 +33,13 @@ last_code Nil = CdrNil
 last_code Pair = CdrNext
 last_code (Forwarded to) = CdrNext
 
--- what stands behind a run that ends in this way
+-- what follows a run that ends in this way
 abbrev pub StandsBehind : List Parts → ℕ → RunEnd → Type 0
 StandsBehind words behind Nil = Unit {0}
 StandsBehind words behind Pair = IsPair words behind
 StandsBehind words behind (Forwarded to) = IsForwarded words behind to
 
--- a run begins at an address: cells that are coded next but for the last, and what the code of the last leads to
+-- a run begins at an address: cells that are coded next, except for the last, and what the code of the last leads to
 pub record IsRun (words : List Parts) (at : ℕ) (run : Run) : Type 0 where
   pub some : 1 ≤ run.cells
   pub cells : (i : ℕ) → i < run.cells → IsCell words (at + i)

@@ -9,7 +9,7 @@ use Rattle.obj_layout.specs.declared.shape.Shape.{Shape}
 use Rattle.obj_layout.specs.declared.shape.Shape.TheVariants.{Pair, Cell, BlockOf}
 use Rattle.obj_layout.specs.Forwards.{word_at}
 
--- a cons is a pair where its first word is coded normal
+-- a cons is a pair if its first word is coded normal
 abbrev pub cons_shape : CdrCode → Shape
 cons_shape Normal = Pair
 cons_shape _ = Cell

@@ -1,9 +1,9 @@
-//! What words say of the objects that stand in them: where forwards lead, and an object's shape,
-//! words, charge and run.
+//! How objects are laid out in words: the addresses to which forwards lead, and an object's shape,
+//! words, charge and compact run.
 //!
-//! Every layer that takes an object apart asks here, over any `Memory`. Nothing is stored, and
-//! contracts speak of a list of words alone: a final address (`specs/Forwards.antt`), a shape and a
-//! charge (`specs/Shapes.antt`), a run of cells (`specs/Runs.antt`). Begin with `forwards`.
+//! Every layer that takes an object apart calls this crate, over any `Memory`. Nothing is stored, and
+//! contracts are about a list of words alone: a final address (`specs/Forwards.antt`), a shape and a
+//! charge (`specs/Shapes.antt`), a compact run (`specs/Runs.antt`). Begin with `forwards`.
 #![tactic(auto)]
 
 mod forwards;

@@ -2,7 +2,7 @@
 use Rattle.std.proofs.Common.{◌≡◌, ℕ, ◌+◌, ◌-◌, ◌≤◌, List, ◌++◌, length, take, drop, sym, arith}
 use Rattle.std.proofs.lemmas.List.{take_at, take-append-drop, length-take-le, drop-drop, length-drop}
 
--- what is left from a place on is what was copied, and what is left behind it
+-- the bytes from a position on are those that were copied, followed by the others
 pub drop-taken : (bytes into copy : List ℕ) (at n : ℕ) → copy ≡ take (at + n - at) (drop at bytes) → at + n ≤ length bytes → drop at bytes ≡ take n (copy ++ drop n into) ++ drop (at + n) bytes
 drop-taken bytes into copy at n is fits =
     let e : at + n - at ≡ n = omega arith in

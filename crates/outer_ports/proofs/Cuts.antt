@@ -5,7 +5,7 @@ use Rattle.std.proofs.lemmas.Bool.{cases_Bool}
 use Rattle.std.specs.List.{slice_split, onto_first}
 use Rattle.outer_ports.specs.Lines.{parts_of, whole_lines, begun_line}
 
--- an element before the parts, which goes into the first one
+-- an element in front of the parts; it becomes the first element of the first part
 abbrev with_first : {X : Type 0} → X → List (List X) → List X → List (List X) × List X
 with_first x [] begun = ([], x ∷ begun)
 with_first x (part ∷ parts) begun = ((x ∷ part) ∷ parts, begun)
@@ -18,7 +18,7 @@ onto_begun : {X : Type 0} (x y : X) (whole : List (List X)) (begun : List X) →
 onto_begun x y [] begun = refl
 onto_begun x y (part ∷ parts) begun = refl
 
--- the parts of a text, and of the text with an element more
+-- the parts of a text, and those of the text with one more element in front
 pub record Cuts {X : Type 0} (p : X → Bool) (text : List X) : Type 0 where
   pub whole : List (List X)
   pub begun : List X
@@ -53,7 +53,7 @@ cuts p (x ∷ xs) =
       }
     ]
 
--- all parts but the last are whole lines
+-- all parts except the last are whole lines
 pub whole_lines-is : (text : List ℕ) (whole : List (List ℕ)) (begun : List ℕ) → parts_of text ≡ whole ++ begun ∷ [] → whole_lines text ≡ whole
 whole_lines-is text whole begun is = rw is (take_at whole (begun ∷ []) (length (whole ++ begun ∷ []) - 1) (omega (arith, length_push whole begun)))
 

@@ -8,15 +8,15 @@ use Rattle.std.proofs.lemmas.List.Concat.{flat_map-append}
 use Rattle.std.specs.Prelude.{Option, Some, None, option_map}
 use Rattle.outer_ports.specs.Ports.{Gained, Gave, Wrote, IsCut}
 
--- the same bytes
+-- equal bytes
 pub gained_as : {P Q : List ℕ → Type 0} {a b : List ℕ} → a ≡ b → Gained P Q a → Gained P Q b
 gained_as {P} {Q} e h = subst (λ w. Gained P Q w) e h
 
--- first some bytes, and then others
+-- first these bytes, then those
 pub gained_more : {P Q R : List ℕ → Type 0} {a b : List ℕ} → Gained P Q a → Gained Q R b → Gained P R (a ++ b)
 gained_more {P} {Q} {R} {a} {b} first then = record { each = λ had is. subst R (append_assoc had a b) (then.each (had ++ a) (first.each had is)) }
 
--- first some bytes, and then none
+-- first these bytes, then none
 pub gained_none : {P Q R : List ℕ → Type 0} {a : List ℕ} → Gained P Q a → Gained Q R [] → Gained P R a
 gained_none {P} {Q} {R} {a} first then = gained_as (append-nil a) (gained_more first then)
 
@@ -24,7 +24,7 @@ gained_none {P} {Q} {R} {a} first then = gained_as (append-nil a) (gained_more f
 pub gained_nothing : {P : List ℕ → Type 0} → Gained P P []
 gained_nothing {P} = record { each = λ had is. subst P (sym (append-nil had)) is }
 
--- one more piece of the bytes from a place on
+-- one more piece of the bytes, from position `at` on
 pub gave_more : {P Q R : List ℕ → Type 0} (bytes : List ℕ) (at n : ℕ) → Gained P Q (take at bytes) → Gained Q R (take n (take (length bytes - at) (drop at bytes))) → Gained P R (take (at + n) bytes)
 gave_more {P} {Q} {R} bytes at n first then =
     gained_as (sym (take-add at n bytes)) (gained_more first (gained_as (ap (take n) (take_rest bytes at)) then))
@@ -37,19 +37,19 @@ wrote_front {r = Err e} bytes {n} fits gained ok err = record {
   part = (take n bytes, (drop n bytes, omega (arith, length-drop n bytes), sym (take-append-drop n bytes)), gained);
 }
 
--- a prefix of a text is one of each longer text
+-- a prefix of a text is also a prefix of each longer text
 pub cut_longer : (a front b : List ℕ) → IsCut a front → IsCut (a ++ b) front
 cut_longer a front b cut = (cut.0 ++ b, omega (arith, length-append cut.0 b, cut.1), ap (λ w. w ++ b) cut.2 ∙ append_assoc front cut.0 b)
 
--- a prefix of what comes behind
+-- a prefix of the second text, after all of the first
 pub cut_behind : (b front a : List ℕ) → IsCut b front → IsCut (a ++ b) (a ++ front)
 cut_behind b front a cut = (cut.0, cut.1, ap (λ w. a ++ w) cut.2 ∙ sym (append_assoc a front cut.0))
 
--- parts one after the other, up to the next one
+-- the parts one after another, up to the next one
 pub parts_more : {X : Type 0} (f : X → List ℕ) (parts : List X) (i : ℕ) (d : X) → i < length parts → flat_map f (take (i + 1) parts) ≡ flat_map f (take i parts) ++ f (get_or parts i d)
 parts_more f parts i d below = rw (take_more parts i d below) (sym (flat_map_more f [] (take i parts) (get_or parts i d)))
 
--- all parts, cut before and behind one of them
+-- all parts, split into those before one of them, that one, and those after it
 parts_split : {X : Type 0} (f : X → List ℕ) (parts : List X) (i : ℕ) (d : X) → i < length parts → flat_map f parts ≡ flat_map f (take i parts) ++ (f (get_or parts i d) ++ flat_map f (drop (i + 1) parts))
 parts_split f parts i d below =
     ap (flat_map f) (sym (take-append-drop i parts)) ∙ flat_map-append f (take i parts) (drop i parts) ∙ ap (λ w. flat_map f (take i parts) ++ w) (ap (flat_map f) (drop_more parts i d below))
@@ -68,7 +68,7 @@ pub gave_nothing : (left : Option (List ℕ)) → Gave left left []
 gave_nothing None = refl
 gave_nothing (Some xs) = refl
 
--- a source that gave some bytes, and then others
+-- a source that gave these bytes, and then those
 pub gave_then : (first mid last : Option (List ℕ)) (a b : List ℕ) → Gave first mid a → Gave mid last b → Gave first last (a ++ b)
 gave_then first mid None a b h k = h ∙ ap (option_map (λ rest. a ++ rest)) k
 gave_then first mid (Some xs) a b h k = h ∙ ap (option_map (λ rest. a ++ rest)) k ∙ ap Some (sym (append_assoc a b xs))

@@ -23,7 +23,7 @@ address_inside slots words at low = let n : at < 256 * length slots = omega (ari
 pub slot_inside : {slots : List (Option ℕ)} {words : List Parts} (page slot : ℕ) → IsSlotted slots words → slot_of slots page ≡ Some slot → 256 * slot + 256 ≤ length words
 slot_inside page slot i e = omega (arith, i.size, i.inside page slot e)
 
--- the slot that was read at a page
+-- the slot that was read for a page
 pub has_slot : (slots : List (Option ℕ)) (page : ℕ) (read slot : Option ℕ) → page < length slots → read ≡ get_or slots page read → read ≡ slot → slot_of slots page ≡ slot
 has_slot slots page read slot inside at is = get_or_default slots page None read inside ∙ sym at ∙ is
 
@@ -60,7 +60,7 @@ words_fresh n =
     (length-replicate (256 * n) null_word ∙ ap (λ i. 256 * i) (sym size))
     (λ k low. same_at (256 * n) k null_word ∙ ap (λ (o : Option ℕ). word_in [] o (k % 256)) (sym (same_at n (k / 256) None))))
 
--- one page has other words
+-- one page gets other contents
 fills : (slots slots' : List (Option ℕ)) (words words' from : List Parts) (page : ℕ) → length slots' ≡ length slots → page < length slots → length from ≡ 256
     → ((k : ℕ) → k < 256 → word_in words' (slot_of slots' page) k ≡ get_or from k null_word)
     → ((other k : ℕ) → k < 256 → other ≢ page → word_in words' (slot_of slots' other) k ≡ word_in words (slot_of slots other) k)
@@ -83,11 +83,11 @@ fills slots slots' words words' from page same inside size here others =
       above = λ i high. apart i (let n : page < i / 256 = omega (arith, high) in λ e. omega (arith, n, e));
     }
 
--- a word that stands in the same place of both lists
+-- a word at the same position in both lists
 same_word : (xs ys : List Parts) (i : ℕ) → slice_get xs i ≡ slice_get ys i → get_or xs i null_word ≡ get_or ys i null_word
 same_word xs ys i e = sym (unwrap_or-slice_get xs i null_word) ∙ ap (λ o. unwrap_or o null_word) e ∙ unwrap_or-slice_get ys i null_word
 
--- a write of a page that has a slot
+-- a write to a page that has a slot
 kept_word : (words words' from : List Parts) (slot k : ℕ) (o : Option ℕ) → Fills words words' slot from → k < 256 → o ≢ Some slot → word_in words' o k ≡ word_in words o k
 kept_word words words' from slot k None f low out = refl
 kept_word words words' from slot k (Some other) f low out =
@@ -103,7 +103,7 @@ fills_again slots words words' from page slot i has inside size f =
     (λ k low. ap (λ (o : Option ℕ). word_in words' o k) has ∙ (sym (unwrap_or-slice_get words' (256 * slot + k) null_word) ∙ ap (λ o. unwrap_or o null_word) (f.here k low) ∙ unwrap_or-slice_get from k null_word))
     (λ other k low ne. kept_word words words' from slot k (slot_of slots other) f low (λ e. ne (i.own other page slot e has)))
 
--- a write of a page that had none
+-- a write to a page that had no slot
 slot_here : (slots : List (Option ℕ)) (page slot : ℕ) → page < length slots → slot_of (set slots page (Some slot)) page ≡ Some slot
 slot_here slots page slot inside = get_or-set_same slots page (Some slot) None inside
 

@@ -11,18 +11,18 @@ at_first [] ys i below = absurd (omega (arith, below))
 at_first (x ∷ xs) ys zero below = refl
 at_first (x ∷ xs) ys (suc i) below = at_first xs ys i (omega (arith, below))
 
--- an element of the second
+-- an element of the second list
 at_second : {X : Type 0} (xs ys : List X) (n i k : ℕ) → length xs ≡ n → i ≡ n + k → slice_get (xs ++ ys) i ≡ slice_get ys k
 at_second [] ys n i k size at = ap (slice_get ys) (omega (arith, size, at))
 at_second (x ∷ xs) ys n zero k size at = absurd (omega (arith, size, at))
 at_second (x ∷ xs) ys n (suc i) k size at = at_second xs ys (length xs) i k refl (omega (arith, size, at))
 
--- an element behind both of two lists
+-- an element after both lists
 above_page : {X : Type 0} (front page back : List X) (n i : ℕ) → length front ≡ n → length page ≡ 256 → n + 256 ≤ i → slice_get (front ++ (page ++ back)) i ≡ slice_get back (i - (n + 256))
 above_page front page back n i before size above =
     at_second front (page ++ back) n i (i - n) before (omega (arith, above)) ∙ at_second page back 256 (i - n) (i - (n + 256)) size (omega (arith, above))
 
--- other words in the place of a page
+-- other contents in the place of a page
 fills_at : (front page back words : List Parts) (n : ℕ) → length front ≡ 256 * n → length page ≡ 256 → length words ≡ 256 → Fills (front ++ (page ++ back)) (front ++ (words ++ back)) n words
 fills_at front page back words n before size same = record {
   size = omega (arith, length-append front (page ++ back), length-append front (words ++ back), length-append page back, length-append words back);
@@ -31,7 +31,7 @@ fills_at front page back words n before size same = record {
   above = λ i above. above_page front words back (256 * n) i before same above ∙ sym (above_page front page back (256 * n) i before size above);
 }
 
--- a part of the words that was written over
+-- a part of the words that was overwritten
 pub fills_part : (old part words : List Parts) (n k : ℕ) → k ≡ 256 → part ≡ words → length words ≡ 256 → 256 * n + 256 ≤ length old → Fills old (take (256 * n) old ++ (part ++ drop k (drop (256 * n) old))) n words
 fills_part old part words n k size same count inside =
     let front : List Parts = take (256 * n) old in

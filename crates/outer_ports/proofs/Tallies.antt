@@ -1,4 +1,4 @@
--- Counts of lines, byte after byte.
+-- Counts of lines, as bytes arrive one by one.
 use Rattle.std.proofs.Common.{◌≡◌, ℕ, ◌+◌, ◌-◌, ◌^◌, ◌<◌, min, List, [], ◌∷◌, ◌++◌, length, take, Bool, true, false, sym, ap, ◌∙◌, arith, append_assoc, cond, inl, inr}
 use Rattle.std.proofs.lemmas.List.{append-nil, take_all, take-append-le, take-take, length-take-le, length_push}
 use Rattle.std.proofs.lemmas.List.Sums.{sum_by-append}
@@ -11,7 +11,7 @@ use Rattle.outer_ports.specs.Counting.{next_count_if, with_line, with_byte}
 use Rattle.outer_ports.proofs.Cuts.{Cuts, cuts, whole_lines-is, begun_line-is}
 use Rattle.outer_ports.proofs.FirstWords.{begins_with-take}
 
--- a count with a line more
+-- a count after one more line
 next_count_if-min : (holds : Bool) (before now : ℕ) → now ≡ before + cond holds 1 0 → min now (2 ^ 64 - 1) ≡ next_count_if holds (min before (2 ^ 64 - 1))
 next_count_if-min true before now is = omega (arith, is)
 next_count_if-min false before now is = omega (arith, is)
@@ -30,7 +30,7 @@ tally_of-push lines line begun is =
     let fault = at (codes "fault") (omega arith) in
     λ i. record { replies = replies i; exhausted = exhausted i; wrong_type = wrong_type i; reclaimed = reclaimed i; fault = fault i }
 
--- a byte behind the first bytes of a line
+-- a byte after the first bytes of a line
 take-push : (n : ℕ) (line : List ℕ) (byte : ℕ) → take n (line ++ byte ∷ []) ≡ take n (take n line ++ byte ∷ [])
 take-push n line byte = elim (cases_lt n (length line)) [
   | inl below ↦ take-append-le n line (byte ∷ []) (omega (arith, below)) ∙ sym (take-append-le n (take n line) (byte ∷ []) (omega (arith, below, length-take-le n line (omega (arith, below)))) ∙ take-take n n line (omega arith))
@@ -43,7 +43,7 @@ counted tally begun = record { tally = tally; begun = begun }
 counted-same : {tally tally' : Tally} {begun begun' : List ℕ} → tally ≡ tally' → begun ≡ begun' → counted tally begun ≡ counted tally' begun'
 counted-same e f = λ i. record { tally = e i; begun = f i }
 
--- a byte more at the end of a text
+-- one more byte at the end of a text
 counted-more : (text : List ℕ) (byte : ℕ) → counted_of (text ++ byte ∷ []) ≡ with_byte (counted_of text) byte
 counted-more text byte =
     let feed : ℕ → Bool = λ b. b == 10 in
@@ -64,11 +64,11 @@ counted-more text byte =
           ))
     ]
 
--- and more bytes
+-- and several more bytes
 counted-append : (text bytes : List ℕ) → fold with_byte (counted_of text) bytes ≡ counted_of (text ++ bytes)
 counted-append text [] = ap counted_of (sym (append-nil text))
 counted-append text (byte ∷ bytes) = ap (λ c. fold with_byte c bytes) (sym (counted-more text byte)) ∙ counted-append (text ++ byte ∷ []) bytes ∙ ap counted_of (append_assoc text (byte ∷ []) bytes)
 
--- a sink that counts gained these bytes
+-- a counting sink gained these bytes
 pub counted_gained : {before now : Counted} (bytes : List ℕ) → now ≡ fold with_byte before bytes → Gained (λ text. before ≡ counted_of text) (λ text. now ≡ counted_of text) bytes
 counted_gained bytes is = record { each = λ had at. is ∙ ap (λ c. fold with_byte c bytes) at ∙ counted-append had bytes }

@@ -1,7 +1,13 @@
 -- Sources and sinks over readers and writers.
-use Rattle.std.specs.Prelude.{ℕ, List, Option}
+use Rattle.std.specs.Prelude.{ℕ, List, Bool, Option}
 
--- the bytes that a reader has left or a writer holds, where it tells them, and how often it failed
+-- what remains to be read of a reader, if it reports that; and how many calls failed
 pub record Adapted : Type 0 where
   pub told : Option (List ℕ)
   pub faults : ℕ
+
+-- what a writer was given, if it reports that; how many calls failed, and whether the latest did
+pub record AdaptedSink : Type 0 where
+  pub told : Option (List ℕ)
+  pub faults : ℕ
+  pub failed : Bool

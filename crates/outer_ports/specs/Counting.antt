@@ -3,11 +3,11 @@ use Rattle.std.specs.Prelude.{ℕ, ◌+◌, ◌-◌, ◌^◌, min, List, [], ◌
 use Rattle.outer_ports.specs.declared.sinks.tally.Tally.{Tally}
 use Rattle.outer_ports.specs.Lines.{Counted, first_word}
 
--- a count of 64 bits one higher where the test holds
+-- the next 64-bit count if the test holds, otherwise the same count
 abbrev pub next_count_if : Bool → ℕ → ℕ
 next_count_if holds count = min (count + (if holds then 1 else 0)) (2 ^ 64 - 1)
 
--- a line more with this first word
+-- the counts after one more line, which has this first word
 abbrev pub with_word : Tally → List ℕ → Tally
 with_word tally word = record {
   replies = next_count_if true tally.replies;
@@ -17,16 +17,16 @@ with_word tally word = record {
   fault = next_count_if (bytes_eq word (codes "fault")) tally.fault;
 }
 
--- a line more
+-- the counts after one more line
 abbrev pub with_line : Tally → List ℕ → Tally
 with_line tally line = with_word tally (first_word line)
 
--- whether a line begins as one of the four words does
+-- whether a line begins with the first byte of one of the four words
 abbrev pub may_be_counted : List ℕ → Bool
 may_be_counted [] = false
 may_be_counted (byte ∷ bytes) = byte == 101 || byte == 119 || byte == 114 || byte == 102
 
--- a line more with none of the four words
+-- the counts after one more line, which begins with none of the four words
 abbrev pub with_other : Tally → Tally
 with_other tally = record {
   replies = next_count_if true tally.replies;
@@ -36,7 +36,7 @@ with_other tally = record {
   fault = next_count_if false tally.fault;
 }
 
--- a byte more
+-- the counts after one more byte
 abbrev pub with_byte : Counted → ℕ → Counted
 with_byte counted byte =
     if byte == 10 then record { tally = with_line counted.tally counted.begun; begun = [] }

@@ -7,19 +7,19 @@ use Rattle.outer_ports.specs.declared.sinks.tally.Tally.{Tally}
 abbrev pub parts_of : List ℕ → List (List ℕ)
 parts_of text = slice_split (λ byte. byte == 10) text
 
--- all parts but the last
+-- all parts except the last
 abbrev pub whole_lines : List ℕ → List (List ℕ)
 whole_lines text = take (length (parts_of text) - 1) (parts_of text)
 
--- the last part, which is empty behind a line feed
+-- the last part, which is empty after a line feed
 abbrev pub begun_line : List ℕ → List ℕ
 begun_line text = slice_index_or (parts_of text) (length (parts_of text) - 1) []
 
--- what stands before the first space
+-- what precedes the first space
 abbrev pub first_word : List ℕ → List ℕ
 first_word line = before_first (λ byte. byte == 32) line
 
--- how many lines pass the test, in a count of 64 bits that stays at its end
+-- how many lines pass the test, in a 64-bit count, which saturates
 abbrev pub line_count : (List ℕ → Bool) → List (List ℕ) → ℕ
 line_count test lines = min (count_by test lines) (2 ^ 64 - 1)
 
@@ -37,11 +37,11 @@ tally_of lines = record {
   fault = line_count (begins_with (codes "fault")) lines;
 }
 
--- what a sink keeps that only counts: the counts of the whole lines, and the first bytes of the line that has begun
+-- what a counting sink keeps: the counts of the whole lines, and the first bytes of the line that has begun
 pub record Counted : Type 0 where
   pub tally : Tally
   pub begun : List ℕ
 
--- eleven bytes tell whether a line's first word is one of the four
+-- the state of a counting sink that was given this text; eleven bytes decide whether the first word is one of the four
 abbrev pub counted_of : List ℕ → Counted
 counted_of text = record { tally = tally_of (whole_lines text); begun = take 11 (begun_line text) }

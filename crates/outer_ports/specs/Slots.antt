@@ -1,4 +1,4 @@
--- Pages whose words stand in slots of 256 words, one slot after another.
+-- Pages whose words are stored in slots of 256 words, one slot after another.
 use Rattle.std.specs.Prelude.{ℕ, ◌≡◌, ◌+◌, ◌*◌, ◌/◌, ◌%◌, ◌<◌, ◌^◌, List, Option, None, Some, is_some, map, length, count_by, slice_index_or}
 use Rattle.std.specs.List.{range_with_len}
 use Rattle.store_word.specs.Words.{Parts, null_word}
@@ -20,7 +20,7 @@ words_of slots words = map (λ at. word_in words (slot_of slots (at / 256)) (at 
 abbrev pub slots_used : List (Option ℕ) → ℕ
 slots_used slots = count_by is_some slots
 
--- there are words for as many slots as pages have, each page has a slot of its own, and pages are counted in 32 bits
+-- there are words for each slot in use, each page has a slot of its own, and page numbers have 32 bits
 pub record IsSlotted (slots : List (Option ℕ)) (words : List Parts) : Type 0 where
   pub few : length slots < 2 ^ 32
   pub size : length words ≡ 256 * slots_used slots

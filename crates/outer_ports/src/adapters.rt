@@ -1,5 +1,5 @@
-//! Sources and sinks over std's readers and writers. They tell no content.
-ghost use Rattle.std.specs.Prelude.{◌≡◌, ◌<◌, ◌≤◌, None, length, IfOk, OnErr};
+//! Sources and sinks over std's readers and writers. As ports they report no content.
+ghost use Rattle.std.specs.Prelude.{◌≡◌, ◌<◌, ◌≤◌, false, None, length, is_err, IfOk, OnErr};
 ghost use Rattle.std.specs.Io.KnownBytes.{ReadConsumes, WriteAppends};
 ghost use Rattle.outer_ports.specs.Ports.{HasCause, next_count};
 
@@ -9,7 +9,7 @@ use std::io;
 use std::io::{Read, Write};
 use std::marker::Model;
 
-/// The bytes of a reader. As a source it tells nothing. Its count of faults stays at 2^64 - 1.
+/// The bytes of a reader. As a source it doesn't report what remains. Its count of failed calls saturates at 2^64 - 1.
 #[derive(Drop)]
 pub struct SourceRead<R: Read> {
     inner: R,
@@ -25,7 +25,7 @@ impl<R: Read> Model for SourceRead<R> {
 }
 
 impl<R: Read> SourceRead<R> {
-    /// A source over this reader, which didn't fail yet.
+    /// A source over this reader. No call has failed yet.
     pub fn new(inner: R) -> SourceRead<R>
         ensures { result ≡ record { told = R.remaining inner; faults = 0 } }
     {
@@ -48,28 +48,33 @@ impl<R: Read> Source for SourceRead<R> {
     }
 }
 
-/// A writer. As a sink it tells nothing. One that takes 0 bytes of a piece has failed. Its count of
-/// faults stays at 2^64 - 1.
+/// A writer. As a sink it reports no content. A call that takes 0 bytes of a piece has failed. Its count
+/// of failed calls saturates at 2^64 - 1.
 #[derive(Drop)]
 pub struct SinkWrite<W: Write> {
     inner: W,
     faults: u64,
+    failed: bool,
 }
 
 impl<W: Write> Model for SinkWrite<W> {
-    ghost use Rattle.outer_ports.specs.Adapters.{Adapted};
+    ghost use Rattle.outer_ports.specs.Adapters.{AdaptedSink};
 
-    ghost Value = { Adapted };
+    ghost Value = { AdaptedSink };
 
-    ghost view = { λ s. record { told = W.contents s.inner; faults = s.faults } };
+    ghost view = { λ s. record { told = W.contents s.inner; faults = s.faults; failed = s.failed } };
 }
 
 impl<W: Write> SinkWrite<W> {
-    /// A sink over this writer, which didn't fail yet.
+    /// A sink over this writer. No call has failed yet.
     pub fn new(inner: W) -> SinkWrite<W>
-        ensures { result ≡ record { told = W.contents inner; faults = 0 } }
+        ensures { result ≡ record { told = W.contents inner; faults = 0; failed = false } }
     {
-        SinkWrite { inner, faults: 0 }
+        SinkWrite {
+            inner,
+            faults: 0,
+            failed: false,
+        }
     }
 }
 
@@ -78,19 +83,25 @@ impl<W: Write> Sink for SinkWrite<W> {
 
     ghost faults = { λ s. s.faults };
 
+    ghost failed = { λ s. s.failed };
+
     fn give(&mut self, piece: &[u8]) -> Result<usize, SinkFault>
         ensures some { IfOk result (λ n. 0 < n) }
         ensures fits { IfOk result (λ n. n ≤ length piece.now) }
         ensures written { WriteAppends self.old.told self.new.told result piece.now }
         ensures cause { HasCause self.old.faults self.new.faults result }
+        ensures failed { self.new.failed ≡ is_err result }
+        ensures once { OnErr result (self.new.faults ≡ next_count self.old.faults) }
     {
         let outcome = self.inner.write(piece);
-        counted(outcome, 1, SinkFault, &mut self.faults)
+        let answer = counted(outcome, 1, SinkFault, &mut self.faults);
+        self.failed = answer.is_err();
+        answer
     }
 }
 
-// What a reader or a writer answered, where it is at least `least` bytes and no error. All else is a
-// fault, and is counted.
+// The count that a reader or a writer returned, if it is at least `least`. An error or a smaller
+// count is a failed call, and is counted.
 fn counted<E: Drop>(
     outcome: io::Result<usize>,
     least: usize,
@@ -102,6 +113,7 @@ fn counted<E: Drop>(
         (result ≡ Err fault) × (faults.new ≡ next_count faults.old)) }
     ensures fails { OnErr outcome ((result ≡ Err fault) × (faults.new ≡ next_count faults.old)) }
     ensures cause { HasCause faults.old faults.new result }
+    ensures once { OnErr result (faults.new ≡ next_count faults.old) }
 {
     match outcome {
         Ok(count) if count >= least => Ok(count),

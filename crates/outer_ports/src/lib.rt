@@ -1,6 +1,6 @@
-//! Where bytes come from, where they go, and where swapped pages lie: three traits, which see the outside as
-//! lists and count its faults, and their implementations in memory and over std's reader and writer.
-//! Contracts see what a call gave, gained or failed by, in the words of `specs/Ports.antt`. Begin with
+//! The ports to the outside: traits for sources of bytes, sinks of bytes, and swap devices. A contract sees what is outside as
+//! lists, and counts failed calls. The traits are implemented in memory, and over std's reader and writer.
+//! Contracts say what a call gave, gained or failed by, in the definitions of `specs/Ports.antt`. Begin with
 //! `sources`, `sinks` and `swaps`; `sinks::text` writes whole texts.
 #![tactic(auto)]
 

@@ -1,15 +1,16 @@
-//! Calls that were planned to fail.
+//! Calls that are planned to fail.
 ghost use Rattle.std.specs.Prelude.{◌≡◌, ◌≤◌, ◌↔◌, true, false, IsTrue};
 ghost use Rattle.outer_ports.specs.Plans.{FailsNext, Plan, after_call, plan_of};
 
 use std::marker::Model;
 
-/// The numbers of the calls that fail, counted from 1, and how many calls and faults there were.
+/// The numbers of the calls that fail, counted from 1, how many calls there were, how many failed, and whether the latest did.
 #[derive(Drop)]
 pub(crate) struct FaultPlan {
     fails: Vec<u64>,
     calls: u64,
     faults: u64,
+    failed: bool,
 }
 
 impl Model for FaultPlan {
@@ -17,11 +18,11 @@ impl Model for FaultPlan {
 
     ghost Value = { Plan };
 
-    ghost view = { λ p. record { fails = p.fails.items; calls = p.calls; faults = p.faults } };
+    ghost view = { λ p. record { fails = p.fails.items; calls = p.calls; faults = p.faults; failed = p.failed } };
 }
 
 impl FaultPlan {
-    /// No call was made yet.
+    /// The plan before the first call.
     pub(crate) fn new(fails: Vec<u64>) -> FaultPlan
         ensures { result ≡ plan_of fails.items }
     {
@@ -29,10 +30,11 @@ impl FaultPlan {
             fails,
             calls: 0,
             faults: 0,
+            failed: false,
         }
     }
 
-    /// Whether the next call was planned to fail.
+    /// Whether the next call is planned to fail.
     pub(crate) fn fails_next(&self) -> bool
         ensures { IsTrue result ↔ FailsNext self.now }
     {
@@ -48,6 +50,7 @@ impl FaultPlan {
         ensures { self.new ≡ after_call self.old false }
     {
         self.calls = self.calls.saturating_add(1);
+        self.failed = false;
     }
 
     /// Counts a call that failed.
@@ -57,5 +60,6 @@ impl FaultPlan {
     {
         self.calls = self.calls.saturating_add(1);
         self.faults = self.faults.saturating_add(1);
+        self.failed = true;
     }
 }

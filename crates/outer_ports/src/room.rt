@@ -1,7 +1,7 @@
-//! Bytes at the front of a room.
+//! Bytes at the front of a buffer.
 ghost use Rattle.std.specs.Prelude.{◌≡◌, ◌+◌, ◌-◌, ◌≤◌, ◌++◌, length, take, drop};
 
-/// Copies the piece to the place behind the first bytes of the room; what stands before it stays.
+/// Copies the piece into the buffer after its first `len` bytes, which stay unchanged.
 #[inline(always)]
 pub fn copy_at(room: &mut [u8], len: usize, piece: &[u8])
     requires { len + length piece.now ≤ length room.old }
@@ -10,7 +10,7 @@ pub fn copy_at(room: &mut [u8], len: usize, piece: &[u8])
     room[len..len + piece.len()].copy_from_slice(piece);
 }
 
-/// Drops the front of the first bytes of the room, and moves the rest of them to the front.
+/// Drops `front` of the first `len` bytes of the buffer, and moves the others to its front.
 pub(crate) fn drop_front(room: &mut [u8], front: usize, len: usize)
     requires front { front ≤ len }
     requires len { len ≤ length room.old }

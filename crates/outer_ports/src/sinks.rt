@@ -1,4 +1,4 @@
-//! Where bytes go.
+//! Sinks of bytes.
 
 mod buffer;
 mod sink;

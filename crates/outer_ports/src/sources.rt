@@ -1,4 +1,4 @@
-//! Where bytes come from.
+//! Sources of bytes.
 
 mod source;
 mod source_bytes;

@@ -1,4 +1,4 @@
-//! Where swapped pages lie.
+//! Swap devices, which store pages.
 
 mod page_slots;
 mod swap;

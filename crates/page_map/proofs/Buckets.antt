@@ -1,4 +1,4 @@
--- The pages of one bucket, once a page has entered it, left it, or neither.
+-- The pages of one bucket, after a page has entered it, was removed from it, or neither.
 use Rattle.std.proofs.Common.{◌≡◌, ◌≢◌, ℕ, Bool, true, false, List, refl}
 use Rattle.std.specs.Prelude.{Contains}
 use Rattle.index_lists.proofs.Callers.{Contains-without, Contains-without_back, Contains-push_old, Contains-push_new, Contains-push_back, not_in_without}
@@ -32,7 +32,7 @@ other_after true false page q xs ne m = Contains-push_old q page xs m
 other_after false true page q xs ne m = Contains-without page q xs ne m
 other_after false false page q xs ne m = m
 
--- the page itself is there where it isn't empty
+-- the page itself is in its bucket if it isn't empty
 
 pub page_there : (was : Bool) (page : ℕ) (xs : List ℕ) → (was ≡ false → Contains xs page) → Contains (bucket_after was false page xs) page
 page_there true page xs h = Contains-push_new page xs

@@ -33,7 +33,7 @@ pub record IsListed (c d : Chains) (bucket page : ℕ) (was now : Bool) : Type 0
   pub here : list_at d bucket ≡ bucket_after was now page (list_at c bucket)
   pub elsewhere : (k : ℕ) → k ≢ bucket → list_at d k ≡ list_at c k
 
--- what the equation on the lists says of each
+-- what follows for each list from the equation on the lists
 pub listed : (c d : Chains) (bucket page : ℕ) (was now : Bool) → bucket < length c.lists → d ≡ with_list c bucket (bucket_after was now page (list_at c bucket)) → IsListed c d bucket page was now
 listed c d bucket page was now low is = record {
   others = λ k q ne m. elim (cases_eq k bucket) [

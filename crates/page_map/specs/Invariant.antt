@@ -1,4 +1,4 @@
--- The lists and places behind what callers see.
+-- The lists and places that represent what callers see.
 use Rattle.std.specs.Prelude.{ℕ, ◌≡◌, ◌≢◌, ◌+◌, ◌/◌, ◌%◌, ◌≤◌, ◌^◌, List, length, slice_index_or, Contains}
 use Rattle.index_lists.specs.Chains.{Chains, list_at, IsSound}
 use Rattle.page_map.specs.declared.place.PagePlace.{PagePlace}
@@ -9,7 +9,7 @@ use Rattle.page_map.specs.Map.{Map}
 abbrev pub map_of : Chains → List PagePlace → Map
 map_of c places = record { places = places; buckets = c.lists }
 
--- what is kept from call to call
+-- what holds between calls
 pub record PageMapInvariant (c : Chains) (places : List PagePlace) (buckets : ℕ) : Type 0 where
   pub sound : IsSound c
   pub few : length places ≤ 2 ^ 20

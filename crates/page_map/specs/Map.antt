@@ -1,4 +1,4 @@
--- What callers see: where each page is, and the pages of each bucket.
+-- What callers see: the place of each page, and the pages of each bucket.
 use Rattle.std.specs.Prelude.{ℕ, ◌≡◌, ◌≢◌, ◌+◌, ◌/◌, ◌%◌, ◌↔◌, Bool, false, true, eqb, List, [], ◌∷◌, ◌++◌, length, replicate, slice_set, slice_index_or, Contains}
 use Rattle.std.specs.List.{IsDistinct}
 use Rattle.index_lists.specs.Chains.{without}
@@ -10,7 +10,7 @@ pub record Map : Type 0 where
   pub places : List PagePlace
   pub buckets : List (List ℕ)
 
--- so many pages, all empty
+-- this many pages, all empty
 abbrev pub fresh_map : ℕ → Map
 fresh_map pages = record { places = replicate pages Empty; buckets = replicate (1 + pages / 4) [] }
 
@@ -32,7 +32,7 @@ bucket_of m page = page % length m.buckets
 abbrev pub pages_in : Map → ℕ → List ℕ
 pages_in m bucket = slice_index_or m.buckets bucket []
 
--- a page enters its bucket where it was empty (the first test) and is so no longer (the second), and leaves it the other way round
+-- a page enters its bucket if it was empty (the first test) and isn't any longer (the second); if it becomes empty, it is removed
 abbrev pub bucket_after : Bool → Bool → ℕ → List ℕ → List ℕ
 bucket_after true true page pages = pages
 bucket_after true false page pages = pages ++ page ∷ []
@@ -48,7 +48,7 @@ placed m page place =
       buckets = slice_set m.buckets bucket (bucket_after (is_empty (place_at m page)) (is_empty place) page (pages_in m bucket));
     }
 
--- the pages of each bucket are exactly its pages that aren't empty, each once
+-- the pages of each bucket are exactly those of its number that aren't empty, each once
 pub record IsMap (m : Map) : Type 0 where
   pub count : length m.buckets ≡ 1 + length m.places / 4
   pub exact : (bucket page : ℕ)

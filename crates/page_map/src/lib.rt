@@ -1,7 +1,7 @@
-//! Where each page is: empty, in a frame, or swapped out; the pages that aren't empty, in buckets.
+//! The place of each page: empty, in a frame, or swapped out; and buckets of pages that aren't empty.
 //!
 //! Contracts see the place of each page, and the pages of each bucket in order (`specs/Map.antt`):
-//! page p is in the bucket p mod buckets exactly where it isn't empty. Begin with `map`, the calls.
+//! page p is in bucket p mod buckets if and only if it isn't empty. Begin with `map`, the calls.
 #![tactic(auto)]
 
 mod map;

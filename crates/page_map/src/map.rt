@@ -1,5 +1,5 @@
 //! The places and the buckets, and the calls on them.
-ghost use Rattle.std.specs.Prelude.{◌≡◌, ◌≢◌, true, false, ◌+◌, ◌/◌, ◌<◌, ◌≤◌, ◌^◌, ◌↔◌, [], length, Contains, IfOk, IfSome, IsNone};
+ghost use Rattle.std.specs.Prelude.{◌≡◌, ◌≢◌, true, false, ◌+◌, ◌/◌, ◌%◌, ◌<◌, ◌≤◌, ◌^◌, ◌↔◌, [], length, Contains, IfOk, IfSome, IsNone};
 ghost use Rattle.index_lists.specs.Chains.{list_at, first_of, last_of, next_in, with_list, IsFree, IsSound};
 ghost use Rattle.page_map.specs.Map.{fresh_map, place_at, bucket_of, pages_in, bucket_after, placed, IsMap};
 
@@ -8,7 +8,7 @@ use index_lists::{Lists, NoMemory};
 use std::alloc::Global;
 use std::marker::Model;
 
-/// The place of each page. Pages and buckets go by number, from 0.
+/// The place of each page. Pages and buckets are numbered from 0.
 #[derive(Drop)]
 pub struct PageMap {
     lists: Lists,
@@ -27,26 +27,27 @@ impl Model for PageMap {
     ghost invariant = { λ a. PageMapInvariant a.lists a.places.items a.buckets };
 }
 
-// A page enters its bucket, leaves it, or neither.
-fn relist(lists: &mut Lists, bucket: u32, page: u32, was_empty: bool, is_empty: bool)
-    requires bucket { bucket < length lists.old.lists }
+// A page enters its bucket, is removed from it, or neither.
+fn relist(lists: &mut Lists, buckets: u32, page: u32, was_empty: bool, is_empty: bool)
+    requires some { 0 < buckets }
+    requires bucket { page % buckets < length lists.old.lists }
     requires page { page < lists.old.nodes }
     requires enters { was_empty ≡ true → IsFree lists.old page }
-    requires leaves { was_empty ≡ false → Contains (list_at lists.old bucket) page }
+    requires leaves { was_empty ≡ false → Contains (list_at lists.old (page % buckets)) page }
     requires sound { IsSound lists.old }
-    ensures relisted { lists.new ≡ with_list lists.old bucket
-        (bucket_after was_empty is_empty page (list_at lists.old bucket)) }
+    ensures relisted { lists.new ≡ with_list lists.old (page % buckets)
+        (bucket_after was_empty is_empty page (list_at lists.old (page % buckets))) }
     ensures sound { IsSound lists.new }
 {
     match (was_empty, is_empty) {
-        (true, false) => lists.push_back(bucket, page),
+        (true, false) => lists.push_back(page % buckets, page),
         (false, true) => lists.remove(page),
         _ => {}
     }
 }
 
 impl PageMap {
-    /// At most 2^20 pages, all of them empty, in one more than a quarter as many buckets. It takes
+    /// At most 2^20 pages, all of them empty. The number of buckets is 1 + pages / 4. It takes
     /// 20 bytes for each page and 12 for each bucket, and no later call takes memory.
     pub fn new(alloc: Global, pages: u32) -> Result<PageMap, NoMemory>
         requires { pages ≤ 2 ^ 20 }
@@ -63,7 +64,7 @@ impl PageMap {
         })
     }
 
-    /// Where a page is.
+    /// The place of a page.
     pub fn place_of(&self, page: u32) -> PagePlace
         requires { page < length self.now.places }
         ensures place { result ≡ place_at self.now page }
@@ -72,16 +73,21 @@ impl PageMap {
         self.places[page as usize]
     }
 
-    /// A page is now at a place. It enters its bucket, at the end, where it was empty and is so no
-    /// longer, and leaves it the other way round.
+    /// Sets the place of a page. A page that was empty and isn't any longer enters its bucket, at its
+    /// end; one that becomes empty is removed from its bucket.
     pub fn set(&mut self, page: u32, place: PagePlace)
         requires { page < length self.old.places }
         ensures placed { self.new ≡ placed self.old page place }
         ensures sound { IsMap self.new }
     {
-        let bucket = page % self.buckets;
         let was_empty = self.place_of(page).is_empty();
-        relist(&mut self.lists, bucket, page, was_empty, place.is_empty());
+        relist(
+            &mut self.lists,
+            self.buckets,
+            page,
+            was_empty,
+            place.is_empty(),
+        );
         self.places[page as usize] = place;
     }
 
@@ -93,7 +99,7 @@ impl PageMap {
         self.buckets
     }
 
-    /// The first page of a bucket; None where the bucket has no page.
+    /// The first page of a bucket; None if and only if the bucket has no page.
     pub fn first_in(&self, bucket: u32) -> Option<u32>
         requires { bucket < length self.now.buckets }
         ensures first { result ≡ first_of (pages_in self.now bucket) }
@@ -104,7 +110,7 @@ impl PageMap {
         self.lists.front(bucket)
     }
 
-    /// The page after one that isn't empty, in its bucket; None where that is the last.
+    /// The page after one that isn't empty, in its bucket; None if and only if that is the last.
     pub fn after(&self, page: u32) -> Option<u32>
         requires { place_at self.now page ≢ PagePlace.Empty }
         ensures next { result ≡ next_in (pages_in self.now (bucket_of self.now page)) page }

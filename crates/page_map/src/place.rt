@@ -1,8 +1,8 @@
-//! Where a page is.
+//! The place of a page.
 ghost use Rattle.std.specs.Prelude.{◌≡◌};
 ghost use Rattle.page_map.specs.Map.{is_empty as is_empty_place};
 
-/// Where a page of 256 words is.
+/// The place of a page of 256 words.
 #[derive(Clone, Copy, PartialEq, Eq, Debug)]
 pub enum PagePlace {
     /// Nowhere: all its words are NULL.

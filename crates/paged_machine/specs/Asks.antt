@@ -1,11 +1,11 @@
--- What a run asks of whatever runs its commands.
+-- What a run requires of whatever runs its commands.
 use Rattle.std.specs.Prelude.{◌≡◌, Bool, true, false}
 use Rattle.lisp_graph.specs.declared.command.Command.{Command}
 use Rattle.lisp_graph.specs.declared.command.Command.TheVariants as C
 use Rattle.lisp_graph.specs.declared.world.World.{World}
 use Rattle.lisp_heap.specs.lisp_meaning.State.{State}
 
--- a command that is answered by a reply: any but `stats` and `dump`
+-- a command that replies by a `Reply`: any but `stats` and `dump`
 abbrev pub is_replied : Command → Bool
 is_replied C.Stats = false
 is_replied C.Dump = false

@@ -9,18 +9,19 @@ use Rattle.lisp_heap.specs.lisp_meaning.Stands.{Stands as Means}
 use Rattle.lisp_heap.specs.Contents.{Contents}
 use Rattle.lisp_heap.specs.Stands.{Stands, machine_of}
 use Rattle.paged_machine.specs.declared.machine.Stage.{Stage}
-use Rattle.paged_machine.specs.declared.machine.Stage.TheVariants.{Swap, Memory, Heap}
+use Rattle.paged_machine.specs.declared.machine.Stage.TheVariants.{Swap, Memory, Part, Heap}
 
--- whether it holds its swap alone; the contents of its heap, once a world was opened; and how often the swap failed
+-- whether it holds its swap alone; the contents of its heap, once a world was loaded; and how often the swap failed
 pub record Holding : Type 0 where
   pub idle : Bool
   pub heap : Option Contents
   pub faults : ℕ
 
--- what is held: a swap, a memory over it, or a heap over that
+-- what is held: a swap, a memory over it, or a heap over that, into which a world was loaded or wasn't
 abbrev pub held_as : {D : Type 0} → (D → ℕ) → Stage D → Holding
 held_as faults (Swap swap) = record { idle = true; heap = None; faults = faults swap }
 held_as faults (Memory memory) = record { idle = false; heap = None; faults = faults memory.1 }
+held_as faults (Part heap) = record { idle = false; heap = None; faults = heap.faults }
 held_as faults (Heap heap) = record { idle = false; heap = Some heap; faults = heap.faults }
 
 -- nothing is held only while something else is opened
@@ -28,7 +29,7 @@ abbrev pub holding : {D : Type 0} → (D → ℕ) → Option (Stage D) → Holdi
 holding faults None = record { idle = false; heap = None; faults = 0 }
 holding faults (Some stage) = held_as faults stage
 
--- the heap stands for the state
+-- the heap represents the state
 abbrev pub StandsFor : Option Contents → State → Type 0
 StandsFor None s = ⊥
 StandsFor (Some heap) s = Stands heap s
@@ -38,7 +39,7 @@ abbrev pub MeansFor : Option Contents → State → Type 0
 MeansFor None s = ⊥
 MeansFor (Some heap) s = Means (machine_of heap) s
 
--- a command whose registers and areas are among so many, within the limits of its numbers
+-- a command whose registers and areas are below these numbers, within the limits of its other numbers
 abbrev pub CanRun : ℕ → ℕ → Command → Type 0
 CanRun registers areas (C.Set to value) = (to < registers) × IsPlain value
 CanRun registers areas (C.Move to from) = (to < registers) × (from < registers)
@@ -61,7 +62,7 @@ CanRun registers areas (C.PageOut count) = Unit {0}
 CanRun registers areas C.Stats = Unit {0}
 CanRun registers areas C.Dump = Unit {0}
 
--- the machine can be given the command: its heap is open, and has the command's registers and areas
+-- the machine can be given the command: its world was loaded, and its heap has the command's registers and areas
 abbrev pub Takes : Option Contents → Command → Type 0
 Takes None command = ⊥
 Takes (Some heap) command = CanRun (length heap.registers) (length heap.table.kinds) command

@@ -10,7 +10,7 @@ use mem_port::Memory;
 use std::sync::ledger::{Blank, Ledger};
 use store_word::Steps;
 
-/// Runs a command that is answered by a reply: any but `stats` and `dump`. It takes so many words of the memory as its steps say.
+/// Runs a command that replies by a `Reply`: any but `stats` and `dump`. Its memory accesses are those that the memory counts.
 #[inline(always)]
 pub fn run_request<M: Memory, L: Ledger>(
     heap: &mut Heap<M>,
@@ -58,7 +58,7 @@ pub fn run_request<M: Memory, L: Ledger>(
     }
 }
 
-/// The same of a command that is a value of its own.
+/// The same for a command that is a value of its own.
 pub fn run_command<M: Memory, L: Ledger>(
     heap: &mut Heap<M>,
     command: &Command,

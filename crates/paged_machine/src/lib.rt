@@ -1,7 +1,7 @@
 //! What runs the commands of an input, and the machine that does.
 //!
-//! `engine` says what a run asks of whatever runs its commands. `machine` is the one that there is: it holds its swap alone, then a
-//! paged memory over it, then a heap over that. Contracts see what it holds (`specs/Holding.antt`).
+//! `engine` specifies what a run requires of whatever runs its commands. `machine` is the only implementation: it holds its swap
+//! alone, then a paged memory over it, then a heap over that. Contracts see what it holds (`specs/Holding.antt`).
 #![tactic(auto)]
 
 mod commands;

@@ -1,5 +1,5 @@
 //! The machine: a swap, a memory over it, or a heap over that.
-ghost use Rattle.std.specs.Prelude.{◌≡◌, ◌↔◌, ◌≤◌, ◌<◌, true, false, [], option_map, Some, None, IsTrue, IfOk, IfErr, OnOk};
+ghost use Rattle.std.specs.Prelude.{◌≡◌, ◌↔◌, ◌≤◌, ◌<◌, true, false, [], option_map, is_some, Some, None, IsTrue, IfOk, IfErr, OnOk};
 ghost use Rattle.lisp_heap.specs.lisp_meaning.Opening.{opening};
 ghost use Rattle.lisp_heap.specs.heap_load.Faults.{is_fault};
 ghost use Rattle.lisp_heap.specs.area_space.Fresh.{kinds_in};
@@ -28,11 +28,13 @@ use world_text::DumpFault;
 enum Stage<D: Swap> {
     Swap(D),
     Memory(PagedMemory<D>),
+    // Of a world that wasn't loaded, with some of its objects.
+    Part(Heap<PagedMemory<D>>),
     Heap(Heap<PagedMemory<D>>),
 }
 
-/// A machine. It is idle where it holds its swap alone; once a world was opened, it holds a heap over a paged memory over the swap.
-/// Where a world could not be opened, it holds the swap, the memory, or a heap with some of the world's objects.
+/// A machine. It is idle while it holds its swap alone; once a world was opened, it holds a heap over a paged memory over the swap.
+/// If a world could not be opened, it holds the swap, the memory, or a heap with some of the world's objects.
 #[derive(Drop)]
 pub struct Machine<D: Swap> {
     stage: Option<Stage<D>>,
@@ -68,7 +70,7 @@ impl<D: Swap> Machine<D> {
         matches!(self.stage, Some(Stage::Swap(_)))
     }
 
-    /// Its heap, once a world was opened.
+    /// Its heap, once a world was loaded.
     pub fn heap(&self) -> Option<&Heap<PagedMemory<D>>>
         ensures { option_map (λ heap. heap.now) result ≡ self.now.heap }
     {
@@ -90,7 +92,7 @@ fn put<D: Swap>(place: &mut Option<Stage<D>>, stage: Stage<D>)
     }
 }
 
-// A heap for a world's space and areas, over a memory over the swap. Where it is refused, what stands by then comes back: the swap, or the memory.
+// A heap for a world's space and areas, over a memory over the swap. If it is refused, what exists by then is returned: the swap, or the memory.
 fn open_heap<D: Swap>(
     alloc: Global,
     world: &World,
@@ -101,6 +103,7 @@ fn open_heap<D: Swap>(
     ensures kinds { IfOk result (λ heap. heap.table.kinds ≡ kinds_in world.now.areas) }
     ensures faults { IfOk result (λ heap. heap.faults ≡ D.faults swap) }
     ensures back { IfErr result (λ stage. (held_as D.faults stage).faults ≡ D.faults swap) }
+    ensures bare { IfErr result (λ stage. (held_as D.faults stage).heap ≡ None) }
 {
     let memory = match PagedMemory::open(alloc, &world.space, swap) {
         Ok(memory) => memory,
@@ -143,21 +146,28 @@ impl<D: Swap> Engine for Machine<D> {
 
     ghost is_idle = { λ m. m.idle ≡ true };
 
+    ghost loaded = { λ m. is_some m.heap };
+
     ghost faults = { λ m. m.faults };
 
     fn open(&mut self, alloc: Global, world: &World) -> Result<(), LoadFault> {
         match self.stage.take() {
             Some(Stage::Swap(swap)) => match open_heap(alloc, world, swap) {
-                Ok(mut heap) => {
-                    let loaded = load_world::<PagedMemory<D>, Brand>(
-                        alloc,
-                        &mut heap,
-                        world,
-                        Blank::new(1),
-                    );
-                    put(&mut self.stage, Stage::Heap(heap));
-                    loaded
-                }
+                Ok(mut heap) => match load_world::<PagedMemory<D>, Brand>(
+                    alloc,
+                    &mut heap,
+                    world,
+                    Blank::new(1),
+                ) {
+                    Ok(()) => {
+                        put(&mut self.stage, Stage::Heap(heap));
+                        Ok(())
+                    }
+                    Err(fault) => {
+                        put(&mut self.stage, Stage::Part(heap));
+                        Err(fault)
+                    }
+                },
                 Err(stage) => {
                     put(&mut self.stage, stage);
                     Err(LoadFault::NoMemory)
@@ -195,5 +205,10 @@ impl<D: Swap> Engine for Machine<D> {
             }
             _ => unreachable!(),
         }
+    }
+
+    #[inline(always)]
+    fn idle_has_no_world(&self) {
+        let _stage = &self.stage;
     }
 }

@@ -21,7 +21,7 @@ uses_each_push old mid new before between now [] page e u c =
 uses_each_push old mid new before between now (first ∷ pages) page e u c =
     (e.0, e.1, (e.2.0, e.2.1, uses_each_push e.0 mid new e.1 between now pages page e.2.2 u c))
 
--- a fault at a page that is in no frame
+-- a swap error at a page that is in no frame
 pub stops_among : {A E : Type 0} (r : Result A E) (old mid new : Paging) (before between now : Calls) (pages : List ℕ) (done : ℕ) → done < length pages → UsesEach old before mid between (take done pages)
     → (Contains (resident_of mid) (slice_index pages done) → ⊥) → Stops mid new → StopsCalls mid (slice_index pages done) between now → OnErr r (StopsAmong old before new now pages)
 stops_among (Ok x) old mid new before between now pages done low each absent stops calls = tt
@@ -57,7 +57,7 @@ drop_some zero x (y ∷ ys) e = omega arith
 drop_some (suc n) x [] e = absurd (cc)
 drop_some (suc n) x (y ∷ ys) e = let r = drop_some n x ys e in omega arith
 
--- one that goes was there
+-- one that is evicted was there
 pub one_gone : (n x : ℕ) (order old : List ℕ) → order ≡ drop n old → first_of order ≡ Some x → n < length old
 one_gone n x order old is first = drop_some n x old (ap first_of (sym is) ∙ first)
 

@@ -23,7 +23,7 @@ use Rattle.paged_memory.proofs.Places.{placed_here, placed_other, placed_size, f
 use Rattle.paged_memory.proofs.Pools.{resident_place}
 use Rattle.paged_memory.proofs.Words.{words_size, words_get, word_kept, marks_kept, has_both_ways, has_on}
 
--- a page is at no place, and neither a frame nor a row is left of it
+-- a page is at no place, and has neither a frame nor a row
 pub record GoesEmpty (p : Paging) (p' : Paging) (page : ℕ) : Type 0 where
   pub inside : page < size_of p
   pub places : p'.places ≡ placed p.places page Empty
@@ -211,7 +211,7 @@ clears p p' stored region e =
       marks = λ q ne. e.marks q (λ u v. ne (omega arith));
     }
 
--- the resident pages of the other regions stay, in their order
+-- the resident pages of the other regions remain, in their order
 pub stays_ordered : (p p' : Paging) (stored : List Parts) (region : ℕ) → Emptied p stored p' (region * 16) (region * 16 + 16) → resident_of p' ≡ filter (λ page. not (page / 16 == region)) (resident_of p)
 stays_ordered p p' stored region e = e.order ∙ filter_agree (is_outside (region * 16) (region * 16 + 16)) (λ page. not (page / 16 == region)) (λ x. outside_region region x) (resident_of p)
 

@@ -19,7 +19,7 @@ use Rattle.paged_memory.specs.Marking.{lower_of, IsFirst, IsTagged, HasTag}
 use Rattle.paged_memory.proofs.Places.{past_empty, swapped_framed, empty_swapped}
 use Rattle.paged_memory.proofs.Words.{words_size}
 
--- the same kind of page in other words
+-- the same kind of page, described in another way
 pub first_same : (P Q : ℕ → Type 0) (from : ℕ) (o : Option ℕ) → ((page : ℕ) → from ≤ page → P page → Q page) → ((page : ℕ) → from ≤ page → Q page → P page) → IsFirst P from o → IsFirst Q from o
 first_same P Q from None there back f = λ page a q. f page a (back page a q)
 first_same P Q from (Some page) there back f = (f.0, there page f.0 f.1, λ other a b q. f.2 other a b (back other a q))
@@ -90,7 +90,7 @@ tag_marks p stored page h t =
     let place : place_at p.places page ≡ InFrame t.0 = ap (place_at p.places) (sym t.1.1.2) ∙ (h.taken t.0 t.1.1.0).1 in
     ap (marks_in p page) place ∙ ap (marks_of_tag p.top) t.1.1.1
 
--- where no frame's marks have one of these levels, the lowest page with marks is the lowest with a row
+-- if no frame's marks have one of these levels, the lowest page with marks is the lowest with a row
 pub first_marked_row : (p : Paging) (stored : List Parts) (from levels : ℕ) (o : Option ℕ) → IsPaged p stored → ¬ Meets (marks_of_tag p.top true) levels
     → IsFirst (λ page. Meets (set_at p.rows.sets page) levels) from o → IsFirst (λ page. Meets (marks_of p page) levels) from o
 first_marked_row p stored from levels o h off = first_same (λ page. Meets (set_at p.rows.sets page) levels) (λ page. Meets (marks_of p page) levels) from o

@@ -1,4 +1,4 @@
--- A page comes into a frame.
+-- A page is brought into a frame.
 use Rattle.std.proofs.Common.{ℕ, ◌≡◌, ◌≢◌, ◌+◌, ◌*◌, ◌/◌, ◌%◌, ◌<◌, ◌≤◌, ◌↔◌, Bool, false, not, eqb, List, [], ◌∷◌, ◌++◌, Some, length, length-set, slice_get, slice_set, get_or, get_or-set_same, get_or-set_other, refl, sym, ap, subst, ◌∙◌, arith, inl, inr}
 use Rattle.std.specs.Prelude.{Contains, map}
 use Rattle.std.proofs.lemmas.Bool.{cases_eq, cases_lt, cases_Bool, eqb-true, not-false}
@@ -20,7 +20,7 @@ use Rattle.paged_memory.proofs.Lists.{map_agree, Contains-map_back}
 use Rattle.paged_memory.proofs.Places.{placed_here, placed_other, placed_size, frame_same, swapped_framed, empty_framed, empty_swapped}
 use Rattle.paged_memory.proofs.Words.{words_same, get_or_same, word_on, word_kept, marks_kept, has_both_ways, has_on, unmarked}
 
--- a page has taken a free frame, which has its words, and the tag exactly where the page had marks
+-- a page has taken a free frame, which has its words, and the tag if and only if the page had marks
 pub record BringsIn (p : Paging) (stored : List Parts) (p' : Paging) (frame page : ℕ) (tag : Bool) : Type 0 where
   pub free : Contains p.pool.free frame
   pub inside : page < size_of p

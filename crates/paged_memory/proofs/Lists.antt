@@ -71,7 +71,7 @@ contains_or_not q xs = elim (decide xs) [ inl h ↦ inl (contains_from_has q xs 
       | inr ne ↦ (elim (decide ys) [ inl h ↦ inl (λ _. h) | inr off ↦ inr (λ h. off (h ne)) ])
     ]
 
--- what is on a list behind its first element
+-- what is on a list after its first element
 pub contains_rest : (x q : ℕ) (xs : List ℕ) → first_of xs ≡ Some x → Contains xs q → q ≢ x → Contains (drop 1 xs) q
 contains_rest x q [] e m ne = absurd (cc)
 contains_rest x q (y ∷ ys) e m ne =

@@ -26,7 +26,7 @@ next_map_has f n (x ∷ xs) once =
       | inr ne ↦ rw (ne_eqb x n ne, ne_eqb (f x) (f n) (λ e. ne (once x (λ no. absurd (no refl)) e))) (next_map_has f n xs (λ y h. once y (λ _. h)))
     ]
 
--- the page whose frame comes next
+-- the page whose frame is next
 pub next_resident : (p : Paging) (stored : List Parts) (page frame : ℕ) → IsPaged p stored → place_at p.places page ≡ InFrame frame
     → option_map (page_at p.pool) (next_in p.pool.used frame) ≡ next_in (resident_of p) page
 next_resident p stored page frame h e =
@@ -40,7 +40,7 @@ resident_inside p stored page h m =
     let at = Contains-map_back (page_at p.pool) page p.pool.used m in
     subst (λ n. n < length p.places.places) at.1.1 (h.taken at.0 at.1.0).0
 
--- No page is resident twice
+-- No page is resident in two frames
 
 lacks_map : (f : ℕ → ℕ) (n : ℕ) (xs : List ℕ) → Lacks n xs → ((x : ℕ) → Has x xs → f x ≡ f n → x ≡ n) → Lacks (f n) (map f xs)
 lacks_map f n [] l once = tt

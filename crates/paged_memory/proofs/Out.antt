@@ -1,4 +1,4 @@
--- The least recently used page goes out.
+-- The least recently used page is evicted.
 use Rattle.std.proofs.Common.{ℕ, ◌≡◌, ◌≢◌, ◌+◌, ◌*◌, ◌/◌, ◌%◌, ◌<◌, ◌≤◌, ◌↔◌, List, Some, length, length-set, slice_get, slice_set, slice_index, drop, get_or, get_or-set_same, get_or-set_other, refl, sym, ap, subst, ◌∙◌, arith, true, inl, inr}
 use Rattle.std.specs.Prelude.{Contains, map}
 use Rattle.std.proofs.lemmas.Bool.{cases_eq, cases_lt}
@@ -23,7 +23,7 @@ use Rattle.paged_memory.proofs.Lists.{first_map, first_drop}
 use Rattle.paged_memory.proofs.Places.{placed_here, placed_other, placed_size, frame_same, swapped_framed}
 use Rattle.paged_memory.proofs.Words.{words_same, get_or_same, word_framed, word_kept, marks_kept, has_both_ways, has_on, unmarked, set_empty}
 
--- a page in a frame has gone to the device, its levels to the table, and the frame to the free ones
+-- a page in a frame was written to the device, its levels to the table, and its frame is free
 pub record PutsOut (p : Paging) (stored stored' : List Parts) (p' : Paging) (frame page : ℕ) : Type 0 where
   pub used : Contains p.pool.used frame
   pub there : place_at p.places page ≡ InFrame frame

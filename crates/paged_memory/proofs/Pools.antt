@@ -21,7 +21,7 @@ use Rattle.paged_memory.proofs.Words.{words_same, word_on, word_kept, marks_kept
 abbrev pub with_pool : Paging → Pool → Paging
 with_pool p pool = record p { pool = pool }
 
--- the same frames are taken, by the same pages, and have the tag where they need it
+-- the same frames are taken, by the same pages, and have the tag if they need it
 pub record Repools (p : Paging) (stored : List Parts) (pool : Pool) : Type 0 where
   pub sound : IsPool pool
   pub pages : pool.pages ≡ p.pool.pages
@@ -49,7 +49,7 @@ repooled p stored pool h c =
       tagged = c.tagged;
     }
 
--- a resident page is in a frame, and the other way round
+-- a resident page is in a frame, and conversely
 pub resident_place : (p : Paging) (stored : List Parts) (page : ℕ) → IsPaged p stored → Contains (resident_of p) page → (frame : ℕ) × (place_at p.places page ≡ InFrame frame)
 resident_place p stored page h m =
     let at = Contains-map_back (page_at p.pool) page p.pool.used m in

@@ -76,7 +76,7 @@ latest_used frames old new page u =
       ])
     ]
 
--- a resident page that is used again puts no page out
+-- a resident page that is used again causes no eviction
 pub used_kept : (frames : ℕ) (old new : List ℕ) (page : ℕ) → IsUsed frames old new page → Contains old page → (q : ℕ) → Contains old q → Contains new q
 used_kept frames old new page u there q m = subst (λ (v : List ℕ). Contains v q) (sym (u.again there)) (elim (cases_eq q page) [
   | inl e ↦ subst (λ k. Contains (without page old ++ page ∷ []) k) (sym e) (Contains-push_new page (without page old))

@@ -17,7 +17,7 @@ use Rattle.paged_memory.proofs.Pools.{with_pool, repooled}
 use Rattle.paged_memory.proofs.Storing.{frame_in, one_page}
 use Rattle.paged_memory.proofs.Words.{words_size, words_get, words_same, word_framed, word_kept, marks_kept, has_on, set_empty}
 
--- a frame keeps its tag exactly where a word on its page has an address of level 1 or more
+-- a frame keeps its tag if and only if a word on its page has an address of level 1 or more
 pub record Retags (p : Paging) (stored ws : List Parts) (pool : Pool) (frame page : ℕ) (tag : Bool) : Type 0 where
   pub here : place_at p.places page ≡ InFrame frame
   pub inside : page < size_of p
@@ -53,7 +53,7 @@ tag_word : (p : Paging) (stored ws : List Parts) (pool : Pool) (frame page : ℕ
 tag_word p stored ws pool frame page tag c at =
     word_kept p.pool pool stored stored at (place_at p.places (at / 256)) (λ g _. ap (λ (v : Pool). get_or v.words (256 * g + at % 256) null_word) c.retags) (λ _. refl)
 
--- a word of the frame, as it was read
+-- a word of the frame, as read
 tag_read : (p : Paging) (stored ws : List Parts) (pool : Pool) (frame page : ℕ) (tag : Bool) → IsPaged p stored → Retags p stored ws pool frame page tag → (k : ℕ) → k < 256 → slice_get ws k ≡ Some (word_at p stored (256 * page + k))
 tag_read p stored ws pool frame page tag h c k low =
     let frame_low = frame_in p stored page frame h c.here in
@@ -87,7 +87,7 @@ retag_paged p stored ws pool frame page tag h c =
 retag_marks : (p : Paging) (stored ws : List Parts) (pool : Pool) (frame page : ℕ) (tag : Bool) → IsPaged p stored → Retags p stored ws pool frame page tag → marks_of (with_pool p pool) page ≡ marks_of_tag p.top tag
 retag_marks p stored ws pool frame page tag h c = ap (marks_in (with_pool p pool) page) c.here ∙ ap (marks_of_tag p.top) (tag_here p stored ws pool frame page tag h c)
 
--- the marks stay where the tag does
+-- the marks are unchanged if the tag is
 retag_stays : (p : Paging) (stored ws : List Parts) (pool : Pool) (frame page : ℕ) (tag : Bool) → IsPaged p stored → Retags p stored ws pool frame page tag → tag ≡ tag_of p.pool frame → marks_of (with_pool p pool) page ≡ marks_of p page
 retag_stays p stored ws pool frame page tag h c same = retag_marks p stored ws pool frame page tag h c ∙ ap (marks_of_tag p.top) same ∙ sym (ap (marks_in p page) c.here)
 
@@ -132,7 +132,7 @@ retag_dirty p stored ws pool frame page tag h c dirty =
       ])
     ]
 
--- where a page is in no frame, its marks are exact already
+-- if a page is in no frame, its marks are exact already
 clean_at : (p : Paging) (stored : List Parts) (page : ℕ) (place : PagePlace) → IsPaged p stored → place_at p.places page ≡ place → ((g : ℕ) → place ≢ InFrame g) → IsClean (store_of p stored) page → marks_in p page place ≡ 0
 clean_at p stored page Empty h e off clean = refl
 clean_at p stored page (InFrame g) h e off clean = absurd (off g refl)

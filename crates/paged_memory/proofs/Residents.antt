@@ -1,4 +1,4 @@
--- How many pages are resident after a use of a page, and after one that ended in a fault.
+-- How many pages are resident after a use of a page, and after one that ended in a swap error.
 use Rattle.std.proofs.Common.{ℕ, ◌≡◌, ◌+◌, ◌≤◌, List, [], ◌∷◌, ◌++◌, length, drop, ap, arith, inl, inr, length-append}
 use Rattle.std.specs.Prelude.{Bool, eqb}
 use Rattle.std.specs.List.{IsDistinct}
@@ -11,12 +11,12 @@ use Rattle.paged_memory.specs.Order.{IsUsed, Uses}
 use Rattle.paged_memory.proofs.Lists.{contains_or_not}
 use Rattle.paged_memory.proofs.Nexts.{resident_once}
 
--- one page fewer at most, if the first one went out
+-- one page fewer at most, if the first one was evicted
 one_dropped : (xs : List ℕ) → length xs ≤ length (drop 1 xs) + 1
 one_dropped [] = omega arith
 one_dropped (x ∷ xs) = omega arith
 
--- the page that was used stands at the end
+-- the page that was used is the last
 one_more : (xs : List ℕ) (page : ℕ) → length (xs ++ page ∷ []) ≡ length xs + 1
 one_more xs page = simp length-append (omega arith)
 

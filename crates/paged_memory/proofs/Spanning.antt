@@ -25,7 +25,7 @@ use Rattle.paged_memory.proofs.Recents.{used_kept}
 use Rattle.paged_memory.proofs.Storing.{frame_in, one_page}
 use Rattle.paged_memory.proofs.Words.{words_size, get_or_same, word_kept, marks_kept}
 
--- so many words are written into the frame of a page, which has the tag where it had it or one of them has an address of level 1 or more
+-- `count` words are written into the frame of a page, which has the tag if it had it or one of them has an address of level 1 or more
 pub record PutsSpan (p : Paging) (pool : Pool) (frame at count : ℕ) (word : ℕ → Parts) (tag : Bool) : Type 0 where
   pub here : place_at p.places (at / 256) ≡ InFrame frame
   pub page : at % 256 + count ≤ 256
@@ -157,7 +157,7 @@ touch_count p stored pool frame h used is =
     let now : length pool.used ≡ length (without frame p.pool.used ++ frame ∷ []) = ap (λ (v : Pool). length v.used) is in
     length-map pool.used (page_at pool) ∙ (let e : length pool.used ≡ length p.pool.used = omega arith in e) ∙ sym (length-map p.pool.used (page_at p.pool))
 
--- what a use of a resident page leaves as it was
+-- what a use of a resident page leaves unchanged
 pub record Touches (p : Paging) (stored : List Parts) (p' : Paging) (page : ℕ) : Type 0 where
   pub keeps : Keeps p stored p' stored
   pub places : p'.places ≡ p.places
@@ -242,7 +242,7 @@ puts_span p mid pool frame at count word now tag here page fills mid_is now_is e
       tagged = subst (λ (b : Bool). IsTrue tag ↔ (IsTrue b ⊎ HasYoung p.levels count word)) was over;
     }
 
--- a use of a resident page, by what the pager says of it
+-- a use of a resident page, given the result of the pager
 pub used_by : (p p' : Paging) (stored : List Parts) (frame page : ℕ) → IsPaged p stored → place_at p.places page ≡ InFrame frame → p' ≡ with_pool p (with_latest p.pool frame) → IsPool p'.pool → Touches p stored p' page
 used_by p p' stored frame page h here is sound =
     let pool_is : p'.pool ≡ with_latest p.pool frame = ap (λ (v : Paging). v.pool) is in

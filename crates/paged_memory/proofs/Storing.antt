@@ -67,7 +67,7 @@ store_sound p stored pages h is = record {
 abbrev pub stored_pool : Pool → ℕ → ℕ → Parts → Bool → Pool
 stored_pool pool frame offset word tag = record pool { words = slice_set pool.words (256 * frame + offset) word; tags = slice_set pool.tags frame tag }
 
--- a word is stored into the frame of its page, which has the tag where it had it or the word has an address of level 1 or more
+-- a word is stored into the frame of its page, which has the tag if it had it or the word has an address of level 1 or more
 pub record PutsWord (p : Paging) (stored : List Parts) (pool : Pool) (frame at : ℕ) (word : Parts) (tag : Bool) : Type 0 where
   pub here : place_at p.places (at / 256) ≡ InFrame frame
   pub inside : at < 256 * size_of p

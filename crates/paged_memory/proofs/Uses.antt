@@ -14,11 +14,11 @@ use Rattle.paged_memory.proofs.Lists.{contains_rest}
 use Rattle.paged_memory.proofs.Places.{swapped_framed}
 use Rattle.paged_memory.proofs.Pools.{resident_place}
 
--- the page that went out is resident no longer
+-- the page that was evicted is no longer resident
 pub out_absent : (p p' : Paging) (stored' : List Parts) (page : ℕ) → IsPaged p' stored' → GoesOut p p' page → Contains (resident_of p') page → ⊥
 out_absent p p' stored' page h c m = let at = resident_place p' stored' page h m in swapped_framed p'.places page at.0 c.swapped at.1
 
--- and no other page has left
+-- and no other page was evicted
 pub out_left : (p p' : Paging) (page q : ℕ) → GoesOut p p' page → HasLeft p p' q → q ≡ page
 out_left p p' page q c left =
     elim (cases_eq q page) [
@@ -47,7 +47,7 @@ room_stops p p' stored stored' k room = elim room [
   | inr out ↦ record { order = inr (out.0, out.1.1.order); out = out_evicts p p' stored stored' out.1.0 k out.1.1 }
 ]
 
--- a page comes in where a frame is free
+-- a page is brought in while a frame is free
 uses_free : (p p' : Paging) (page frame : ℕ) → length (resident_of p) < frames_of p.pool → frames_of p'.pool ≡ frames_of p.pool → ComesIn p p' page frame → Uses p p' page false
 uses_free p p' page frame free count c = record {
   frames = count;
@@ -57,7 +57,7 @@ uses_free p p' page frame free count c = record {
   others = λ q ne _. c.marks q ne;
 }
 
--- a page comes in where another one went out
+-- a page is brought in after another one was evicted
 uses_full : (p mid p' : Paging) (stored stored' : List Parts) (gone page frame : ℕ) → frames_of p.pool ≤ length (resident_of p) → Keeps p stored mid stored' → GoesOut p mid gone → frames_of p'.pool ≡ frames_of mid.pool
     → (Contains (resident_of p) page → ⊥) → ComesIn mid p' page frame → Uses p p' page false
 uses_full p mid p' stored stored' gone page frame full k out count absent c =
@@ -82,7 +82,7 @@ room_uses p mid p' stored stored' page frame k room count absent c = elim room [
   | inr out ↦ uses_full p mid p' stored stored' out.1.0 page frame out.0 k out.1.1 count absent c
 ]
 
--- where another page went out, this page is where it was
+-- if another page was evicted, the place of this page is unchanged
 pub room_place : (p mid : Paging) (page : ℕ) → HasRoom p mid → (Contains (resident_of p) page → ⊥) → place_at mid.places page ≡ place_at p.places page
 room_place p mid page room absent = elim room [
   | inl free ↦ ap (λ (v : Paging). place_at v.places page) free.1

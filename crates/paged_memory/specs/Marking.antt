@@ -1,4 +1,4 @@
--- The lowest page, from one on, of some kind.
+-- The lowest page of some kind that isn't below a given page.
 use Rattle.std.specs.Prelude.{ℕ, ◌≡◌, ◌<◌, ◌≤◌, true, min, Option, Some, None, Contains}
 use Rattle.frame_pool.specs.Pool.{Pool, page_at, tag_of}
 
@@ -8,7 +8,7 @@ lower_of None two = two
 lower_of (Some a) None = Some a
 lower_of (Some a) (Some b) = Some (min a b)
 
--- the lowest page, from one on, of which P holds; None where there is none
+-- the lowest page, not below `from`, of which P holds; None if there is none
 abbrev pub IsFirst : (ℕ → Type 0) → ℕ → Option ℕ → Type 0
 IsFirst P from None = (page : ℕ) → from ≤ page → P page → ⊥
 IsFirst P from (Some page) = (from ≤ page) × P page × ((other : ℕ) → from ≤ other → other < page → P other → ⊥)

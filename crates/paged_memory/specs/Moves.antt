@@ -21,7 +21,7 @@ pub record Keeps (p : Paging) (stored : List Parts) (p' : Paging) (stored' : Lis
   pub frames : frames_of p'.pool ≡ frames_of p.pool
   pub stays : StoresNothing (store_of p stored) (store_of p' stored')
 
--- the least recently used page has gone out
+-- the least recently used page was evicted
 pub record GoesOut (p p' : Paging) (page : ℕ) : Type 0 where
   pub first : first_of (resident_of p) ≡ Some page
   pub order : resident_of p' ≡ drop 1 (resident_of p)
@@ -29,13 +29,13 @@ pub record GoesOut (p p' : Paging) (page : ℕ) : Type 0 where
   pub places : (q : ℕ) → q ≢ page → place_at p'.places q ≡ place_at p.places q
   pub marks : (q : ℕ) → q ≢ page → marks_of p' q ≡ marks_of p q
 
--- a frame is free: one was, or the least recently used page has gone out
+-- a frame is free: one was, or the least recently used page was evicted
 abbrev pub HasRoom : Paging → Paging → Type 0
 HasRoom p p' =
     ((length (resident_of p) < frames_of p.pool) × (p' ≡ p))
     ⊎ ((frames_of p.pool ≤ length (resident_of p)) × ((page : ℕ) × GoesOut p p' page))
 
--- a page has come into a frame, with the tag exactly where it had marks
+-- a page was brought into a frame, with the tag if and only if it had marks
 pub record ComesIn (p p' : Paging) (page frame : ℕ) : Type 0 where
   pub absent : Contains (resident_of p) page → ⊥
   pub there : place_at p'.places page ≡ InFrame frame
@@ -44,11 +44,11 @@ pub record ComesIn (p p' : Paging) (page frame : ℕ) : Type 0 where
   pub places : (q : ℕ) → q ≢ page → place_at p'.places q ≡ place_at p.places q
   pub marks : (q : ℕ) → q ≢ page → marks_of p' q ≡ marks_of p q
 
--- whether a page is none of those from one up to another
+-- whether a page isn't one of those from one up to another
 abbrev pub is_outside : ℕ → ℕ → ℕ → Bool
 is_outside from to page = not (nat_le from page && nat_lt page to)
 
--- the pages from one up to another are empty, and the others are as they were
+-- the pages from one up to another are empty, and the others are unchanged
 pub record Emptied (p : Paging) (stored : List Parts) (p' : Paging) (from to : ℕ) : Type 0 where
   pub paged : IsPaged p' stored
   pub size : size_of p' ≡ size_of p

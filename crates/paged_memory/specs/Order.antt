@@ -1,4 +1,4 @@
--- What a use of a page, an eviction and a fault do to the order of use, to the places and to the marks.
+-- What a use of a page, an eviction and a swap error do to the order of use, to the places and to the marks.
 use Rattle.std.specs.Prelude.{ℕ, ◌≡◌, ◌≢◌, ◌<◌, ◌≤◌, ◌⊎◌, ◌||◌, Bool, false, not, eqb, nat_le, if◌then◌else◌, List, [], ◌∷◌, ◌++◌, length, slice_index, take, drop, Contains}
 use Rattle.frame_pool.specs.index_lists.Chains.{without}
 use Rattle.mem_port.specs.Tags.{marks_of_tag}
@@ -9,24 +9,24 @@ use Rattle.page_map.specs.Map.{place_at}
 use Rattle.frame_pool.specs.Pool.{frames_of}
 use Rattle.paged_memory.specs.Paging.{Paging, marks_of, resident_of}
 
--- the order once a page was used: a resident page is now the last; another one comes in as the last, and the first goes out where no frame is free
+-- the order once a page was used: a resident page is now the last; another one is added as the last, and the first is evicted if no frame is free
 pub record IsUsed (frames : ℕ) (old new : List ℕ) (page : ℕ) : Type 0 where
   pub again : Contains old page → new ≡ without page old ++ page ∷ []
   pub room : (Contains old page → ⊥) → length old < frames → new ≡ old ++ page ∷ []
   pub full : (Contains old page → ⊥) → frames ≤ length old → new ≡ drop 1 old ++ page ∷ []
 
--- a page has left its frame
+-- a page was removed from its frame
 abbrev pub HasLeft : Paging → Paging → ℕ → Type 0
 HasLeft old new page = Contains (resident_of old) page × (Contains (resident_of new) page → ⊥)
 
--- pages went out: each of them is swapped, and the marks of every other page are as they were
+-- pages were evicted: each of them is swapped, and the marks of every other page are unchanged
 pub record Evicts (old new : Paging) : Type 0 where
   pub frames : frames_of new.pool ≡ frames_of old.pool
   pub gone : (page : ℕ) → HasLeft old new page → place_at new.places page ≡ Swapped
   pub others : (page : ℕ) → (HasLeft old new page → ⊥) → marks_of new page ≡ marks_of old page
 
--- a page was used, and perhaps an address of level 1 or more stored on it: it has the tag exactly where there was one or it had marks; a page that left is
--- swapped, and the marks of every other page are as they were
+-- a page was used, and perhaps an address of level 1 or more stored on it: it has the tag if and only if there was one or it had marks; a page that was evicted is
+-- swapped, and the marks of every other page are unchanged
 pub record Uses (old new : Paging) (page : ℕ) (ephemeral : Bool) : Type 0 where
   pub frames : frames_of new.pool ≡ frames_of old.pool
   pub order : IsUsed (frames_of old.pool) (resident_of old) (resident_of new) page
@@ -48,7 +48,7 @@ calls_from p calls Swapped = with_read (calls_for_room p calls)
 abbrev pub calls_to_use : Paging → ℕ → Calls → Calls
 calls_to_use p page calls = calls_from p calls (place_at p.places page)
 
--- the page calls of a use of a page that ended in a fault: all up to the one that failed
+-- the page calls of a use of a page that ended in a swap error: all up to the one that failed
 abbrev pub StopsCalls : Paging → ℕ → Calls → Calls → Type 0
 StopsCalls p page before now = (now ≡ calls_for_room p before) ⊎ (now ≡ calls_to_use p page before)
 
@@ -58,12 +58,12 @@ UsesEach old before new now [] = (old ≡ new) × (before ≡ now)
 UsesEach old before new now (page ∷ pages) =
     (mid : Paging) × (between : Calls) × (Uses old mid page false × (between ≡ calls_to_use old page before) × UsesEach mid between new now pages)
 
--- a fault ended the use of a page: nothing has moved, or the first page went out where no frame was free
+-- a swap error ended the use of a page: nothing has moved, or the first page was evicted because no frame was free
 pub record Stops (old new : Paging) : Type 0 where
   pub order : (resident_of new ≡ resident_of old) ⊎ ((frames_of old.pool ≤ length (resident_of old)) × (resident_of new ≡ drop 1 (resident_of old)))
   pub out : Evicts old new
 
--- a fault ended the use of one of these pages, which was in no frame
+-- a swap error ended the use of one of these pages, which was in no frame
 abbrev pub StopsAmong : Paging → Calls → Paging → Calls → List ℕ → Type 0
 StopsAmong old before new now pages =
     (done : ℕ) × (mid : Paging) × (between : Calls)

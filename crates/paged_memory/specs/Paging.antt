@@ -40,7 +40,7 @@ size_of p = length p.places.places
 abbrev pub words_of : Paging → List Parts → List Parts
 words_of p stored = map (word_at p stored) (range_with_len 0 (256 * size_of p))
 
--- the marks of a page at a place: every level where its frame has the tag, or its row
+-- the marks of a page at a place: every level if its frame has the tag, or its row
 abbrev pub marks_in : Paging → ℕ → PagePlace → ℕ
 marks_in p page Empty = 0
 marks_in p page (InFrame frame) = marks_of_tag p.top (tag_of p.pool frame)
@@ -50,7 +50,7 @@ marks_in p page Swapped = set_at p.rows.sets page
 abbrev pub marks_of : Paging → ℕ → ℕ
 marks_of p page = marks_in p page (place_at p.places page)
 
--- what it is as a memory
+-- the memory as contracts see it
 abbrev pub store_of : Paging → List Parts → Store
 store_of p stored = record { words = words_of p stored; levels = p.levels; marks = marks_of p; top = p.top }
 
@@ -74,7 +74,7 @@ swaps_of p calls = record { out = swapped_of p; writes = calls.writes; reads = c
 abbrev pub HasWord : (ℕ → Parts) → List ℕ → ℕ → ℕ → Type 0
 HasWord word levels page level = (k : ℕ) × ((k < 256) × (level_of_word levels (word (256 * page + k)) ≡ level))
 
--- what always holds: each taken frame is its page's place and the other way round; a swapped page has a row, which is exactly the set of the levels, 1 or
+-- what always holds: each taken frame is its page's place and conversely; a swapped page has a row, which is exactly the set of the levels, 1 or
 -- more, of the addresses on it, and no other page has one; and the frame of a page with such an address has the tag
 pub record IsPaged (p : Paging) (stored : List Parts) : Type 0 where
   pub size : length stored ≡ 256 * size_of p

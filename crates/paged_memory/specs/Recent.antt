@@ -1,4 +1,4 @@
--- The last pages of the order of use, which stay resident while others come in.
+-- The last pages of the order of use, which stay resident while others are brought in.
 use Rattle.std.specs.Prelude.{ℕ, ◌≡◌, ◌≤◌, List, ◌++◌, length, Contains}
 
 -- a page is among the last n

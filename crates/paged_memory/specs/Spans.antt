@@ -7,12 +7,12 @@ use Rattle.frame_pool.specs.Pool.{Pool, tag_of}
 use Rattle.paged_memory.specs.Paging.{Paging, store_of, resident_of, IsPaged}
 use Rattle.paged_memory.specs.Order.{StoresOn}
 
--- a frame has the tag where it had it, or where one of so many words from an offset on has an address of level 1 or more; nothing else has changed
+-- a frame has the tag if it had it, or if one of the `count` words from an offset on has an address of level 1 or more; nothing else has changed
 pub record TagsSpan (old new : Pool) (levels : List ℕ) (frame offset count : ℕ) (tag : Bool) : Type 0 where
   pub exact : IsTrue tag ↔ (IsTrue (tag_of old frame) ⊎ HasYoung levels count (λ i. slice_index_or old.words (256 * frame + offset + i) null_word))
   pub set : new ≡ record old { tags = slice_set old.tags frame tag }
 
--- so many words are stored on a resident page, with this order of use after it; what always holds is kept
+-- `count` words are stored on a resident page, with this order of use after it; what always holds is kept
 pub record Lays (p : Paging) (stored : List Parts) (p' : Paging) (at count : ℕ) (word : ℕ → Parts) (order : List ℕ) : Type 0 where
   pub paged : IsPaged p' stored
   pub covers : Covers (store_of p stored) (store_of p' stored) at count word

@@ -1,4 +1,4 @@
-//! Pages that are made empty, with no call of the device.
+//! Makes pages empty, with no call of the device.
 ghost use Rattle.std.specs.Prelude.{◌≡◌, ◌+◌, ◌<◌, ℕ, List, length, Contains};
 ghost use Rattle.store_word.specs.Words.{Parts};
 ghost use Rattle.page_map.specs.Map.{place_at};
@@ -10,7 +10,7 @@ impl Pager {
     ghost use Rattle.paged_memory.specs.Paging.{IsPaged};
     ghost use Rattle.paged_memory.specs.Moves.{paging_of, Emptied};
 
-    /// A page is empty: its frame is free, or its row is removed.
+    /// Makes a page empty: its frame is free, or its row is removed.
     pub(crate) fn empty_page(&mut self, page: u32)
         requires inside { page < length self.old.places.places }
         requires rows { length self.old.rows.sets ≡ length self.old.places.places }

@@ -1,7 +1,7 @@
-//! A memory of page frames over a swap device: the trait `Memory` for the heap above, with only so many pages resident.
-//! Contracts see its words, levels and marks by the place of each page (`specs/Paging.antt`), and what a use, an eviction or a
-//! fault does to the order of use and to the marks (`specs/Order.antt`). Begin reading at `PagedMemory` in `paged.rt`; `moves.rt`
-//! has the ways of a page.
+//! A memory of page frames over a swap device: the trait `Memory` for the heap above, with a limited number of pages resident.
+//! Contracts see its words, levels and marks by the place of each page (`specs/Paging.antt`), and what a use, an eviction or a swap
+//! error does to the order of use and to the marks (`specs/Order.antt`). Begin reading at `PagedMemory` in `paged.rt`; `moves.rt`
+//! moves pages between the frames and the device.
 #![tactic(auto)]
 
 mod clearing;

@@ -5,7 +5,7 @@ ghost use Rattle.paged_memory.specs.Marking.{lower_of, IsFirst, IsTagged, HasTag
 
 use frame_pool::FramePool;
 
-/// The lower of two pages, where they are there.
+/// The lower of two pages, of those that there are.
 pub(crate) fn lower(one: Option<u32>, two: Option<u32>) -> Option<u32>
     ensures { result ≡ lower_of one two }
 {
@@ -16,7 +16,7 @@ pub(crate) fn lower(one: Option<u32>, two: Option<u32>) -> Option<u32>
     }
 }
 
-/// The page that a frame is taken by, where it has the tag and the page is from one on.
+/// The page in a frame, if it has the tag and isn't below `from`.
 fn tagged_page(pool: &FramePool, frame: u32, from: u32) -> Option<u32>
     requires { frame < frames_of pool.now }
     ensures { IsFirst (IsTagged pool.now frame) from result }
@@ -30,7 +30,7 @@ fn tagged_page(pool: &FramePool, frame: u32, from: u32) -> Option<u32>
     }
 }
 
-/// The lowest page, from one on, that is in a frame with the tag.
+/// The lowest page, not below `from`, that is in a frame with the tag.
 pub(crate) fn lowest_tagged(pool: &FramePool, frames: u32, from: u32) -> Option<u32>
     requires { frames ≡ frames_of pool.now }
     ensures { IsFirst (HasTag pool.now frames) from result }

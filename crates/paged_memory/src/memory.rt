@@ -1,4 +1,4 @@
-//! The contract of a memory, and beside it what each call does to the order of use, to the places and to the marks.
+//! The contract of a memory, and also what each call does to the order of use, to the places and to the marks.
 ghost use Rattle.std.specs.Prelude.{◌≡◌, ◌≢◌, ◌==◌, ◌+◌, ◌*◌, ◌/◌, ◌<◌, ◌≤◌, ℕ, length, false, filter, not, nat_lt, drop, min, slice_get, slice_set, Some, All, Contains, IsOk, IfOk, OnOk, OnErr, ◌⊎◌, ◌%◌, slice_index_or};
 ghost use Rattle.store_word.specs.Faults.{TellsFaults};
 ghost use Rattle.mem_port.specs.Frames.{LeavesRoom};
@@ -31,8 +31,8 @@ impl<D: Swap> Memory for PagedMemory<D> {
 
     ghost swaps = { λ m. swaps_of m.0 (D.calls m.1) };
 
-    /// The number of pages. What always holds is known here: of the frames, the places and the rows; that no more pages are resident
-    /// than there are frames; and that the words of a swapped page are those that the device holds.
+    /// The number of pages. What always holds is known when this is called: of the frames, the places and the rows; that no more pages
+    /// are resident than there are frames; and that the words of a swapped page are those that the device holds.
     fn pages(&self) -> u32
         ensures sound { IsSound (store_of self.now.0 (D.stored self.now.1)) result }
         ensures paged { IsPaged self.now.0 (D.stored self.now.1) }
@@ -47,7 +47,7 @@ impl<D: Swap> Memory for PagedMemory<D> {
     fn read<L: Ledger>(&mut self, at: u32, steps: &mut Steps<L>) -> Result<Word, SwapFault>
         requires { at < length (words_of self.old.0 (D.stored self.old.1)) }
 
-        // What is answered. Nothing is stored.
+        // What is returned. Nothing is stored.
         ensures value { IfOk result (λ word. slice_get (words_of self.old.0 (D.stored self.old.1)) at ≡ Some word) }
         ensures stays { StoresNothing (store_of self.old.0 (D.stored self.old.1)) (store_of self.new.0 (D.stored self.new.1)) }
 
@@ -58,7 +58,7 @@ impl<D: Swap> Memory for PagedMemory<D> {
         ensures kept { Contains (resident_of self.old.0) (at / 256)
             → (page : ℕ) → Contains (resident_of self.old.0) page → Contains (resident_of self.new.0) page }
 
-        // Faults, the calls of the device, and the cost.
+        // Swap errors, the calls of the device, and the cost.
         ensures cause { TellsFaults (D.faults self.old.1) (D.faults self.new.1) result }
         ensures room { LeavesRoom (length (resident_of self.old.0)) (length (resident_of self.new.0)) result }
         ensures taken { self.new.2 ≡ self.old.2 + 1 }
@@ -84,7 +84,7 @@ impl<D: Swap> Memory for PagedMemory<D> {
     ) -> Result<(), SwapFault>
         requires { at < length (words_of self.old.0 (D.stored self.old.1)) }
 
-        // What is stored, and that a fault stores nothing.
+        // What is stored, and that a swap error stores nothing.
         ensures ok { OnOk result (Stores (store_of self.old.0 (D.stored self.old.1)) (store_of self.new.0 (D.stored self.new.1)) at word) }
         ensures err { OnErr result (StoresNothing (store_of self.old.0 (D.stored self.old.1)) (store_of self.new.0 (D.stored self.new.1))) }
 
@@ -95,7 +95,7 @@ impl<D: Swap> Memory for PagedMemory<D> {
         ensures kept { Contains (resident_of self.old.0) (at / 256)
             → (page : ℕ) → Contains (resident_of self.old.0) page → Contains (resident_of self.new.0) page }
 
-        // Faults, the calls of the device, and the cost.
+        // Swap errors, the calls of the device, and the cost.
         ensures cause { TellsFaults (D.faults self.old.1) (D.faults self.new.1) result }
         ensures room { LeavesRoom (length (resident_of self.old.0)) (length (resident_of self.new.0)) result }
         ensures taken { self.new.2 ≡ self.old.2 + 1 }
@@ -114,7 +114,7 @@ impl<D: Swap> Memory for PagedMemory<D> {
         Ok(())
     }
 
-    /// Uses pages one after another. With 32 frames at least, none of them goes out for another.
+    /// Uses pages one after another. With 32 frames at least, none of them is evicted for another.
     fn hold<L: Ledger>(&mut self, pages: &[u32], steps: &mut Steps<L>) -> Result<(), SwapFault>
         requires few { length pages.now ≤ HOLD_LIMIT }
         requires inside { All (λ page. 256 * page < length (words_of self.old.0 (D.stored self.old.1))) pages.now }
@@ -157,7 +157,7 @@ impl<D: Swap> Memory for PagedMemory<D> {
         ensures kept { (page : ℕ) → Contains (resident_of self.old.0) page → Contains (resident_of self.new.0) page }
         ensures resident { length (resident_of self.new.0) ≡ length (resident_of self.old.0) }
 
-        // The device, faults and the cost.
+        // The device, swap errors and the cost.
         ensures device { self.new.1 ≡ self.old.1 }
         ensures faults { D.faults self.new.1 ≡ D.faults self.old.1 }
         ensures taken { self.new.2 ≡ self.old.2 + 2 * count }
@@ -182,7 +182,7 @@ impl<D: Swap> Memory for PagedMemory<D> {
         ensures kept { (page : ℕ) → Contains (resident_of self.old.0) page → Contains (resident_of self.new.0) page }
         ensures resident { length (resident_of self.new.0) ≡ length (resident_of self.old.0) }
 
-        // The device, faults and the cost.
+        // The device, swap errors and the cost.
         ensures device { self.new.1 ≡ self.old.1 }
         ensures faults { D.faults self.new.1 ≡ D.faults self.old.1 }
         ensures taken { self.new.2 ≡ self.old.2 + count }
@@ -244,7 +244,7 @@ impl<D: Swap> Memory for PagedMemory<D> {
         }
     }
 
-    /// It goes over the frames, and to the next row of the table.
+    /// It searches the frames, and then the table for the next row.
     fn next_marked(&self, from: u32, levels: Levels) -> Option<u32> {
         let swapped = self.pager.rows.next_from(from, levels);
         if !tag_meets(true, self.pager.top, levels) {
@@ -253,7 +253,7 @@ impl<D: Swap> Memory for PagedMemory<D> {
         lower(lowest_tagged(&self.pager.pool, self.frames, from), swapped)
     }
 
-    /// The tag of a page in a frame is set exactly where an address of level 1 or more stands on it.
+    /// The tag of a page in a frame is set if and only if an address of level 1 or more is stored on it.
     fn remark(&mut self, page: u32)
         requires { 256 * page < length (words_of self.old.0 (D.stored self.old.1)) }
         ensures exact { Remarks (store_of self.old.0 (D.stored self.old.1)) (store_of self.new.0 (D.stored self.new.1)) page }

@@ -1,4 +1,4 @@
-//! The ways of a page: out to the device, back from it, and into the order of use. A fault changes no word.
+//! Moves of a page: out to the device, back from it, and to the end of the order of use. A swap error changes no word.
 ghost use Rattle.std.specs.Prelude.{◌≡◌, ◌≢◌, ◌<◌, ◌≤◌, ◌↔◌, ℕ, List, length, true, false, Some, Contains, OnOk, OnErr, IfOk, IsOk, slice_index};
 ghost use Rattle.store_word.specs.Faults.{TellsFaults};
 ghost use Rattle.outer_ports.specs.Pages.{with_read, with_write};
@@ -15,7 +15,7 @@ use outer_ports::Swap;
 use page_map::PagePlace;
 use store_word::{Flags, Levels, SwapFault, Word};
 
-/// Exactly the levels, 1 or more, of the addresses in these words. Where they have no tag there are none, and no word is looked at.
+/// Exactly the levels, 1 or more, of the addresses in these words. If they have no tag there are none, and no word is read.
 fn levels_of(tag: bool, words: &[Word], levels: &[u8]) -> Levels
     requires levels { (region : ℕ) → slice_index levels.now region ≤ 6 }
     requires tagged { (l : ℕ) → 1 ≤ l → HasAddress words.now levels.now l → tag ≡ true }
@@ -33,7 +33,7 @@ impl Pager {
     ghost use Rattle.paged_memory.specs.Order.{Uses, Stops, StopsCalls, calls_for_room, calls_to_use};
     ghost use Rattle.paged_memory.specs.Moves.{paging_of, Keeps, GoesOut, HasRoom, ComesIn};
 
-    /// The least recently used page goes out: its words to the device, and exactly its levels to the table. Its frame is free.
+    /// Evicts the least recently used page: writes its words to the device, and exactly its levels to the table. Its frame is free.
     pub(crate) fn evict<D: Swap>(&mut self, swap: &mut D, frame: u32) -> Result<(), SwapFault>
         requires paged { IsPaged (paging_of self.old) (D.stored swap.old) }
         requires oldest { first_of self.old.pool.used ≡ Some frame }
@@ -56,7 +56,7 @@ impl Pager {
         Ok(())
     }
 
-    /// A swapped page comes into a free frame. The tag is set exactly where its row wasn't empty, and the row is removed.
+    /// Reads a swapped page into a free frame. The tag is set if and only if its row wasn't empty, and the row is removed.
     pub(crate) fn bring_back<D: Swap>(
         &mut self,
         buffer: &mut [Word],
@@ -83,7 +83,7 @@ impl Pager {
         Ok(())
     }
 
-    /// An empty page comes into a free frame, with no call of the device.
+    /// Puts an empty page into a free frame, with no call of the device.
     pub(crate) fn bring_new(&mut self, frame: u32, page: u32)
         requires free { Contains self.old.pool.free frame }
         requires inside { page < length self.old.places.places }
@@ -97,7 +97,7 @@ impl Pager {
         self.places.set(page, PagePlace::InFrame(frame));
     }
 
-    /// A free frame. The least recently used page goes out where there is none.
+    /// A free frame. If there is none, the least recently used page is evicted first.
     pub(crate) fn make_room<D: Swap>(&mut self, swap: &mut D) -> Result<u32, SwapFault>
         requires paged { IsPaged (paging_of self.old) (D.stored swap.old) }
         ensures kept { Keeps (paging_of self.old) (D.stored swap.old) (paging_of self.new) (D.stored swap.new) }
@@ -117,7 +117,7 @@ impl Pager {
         Ok(frame)
     }
 
-    /// A page is used: it is in a frame, the answer, and the most recently used. Where it was that
+    /// Uses a page: it is in the returned frame, and the most recently used. If it was that
     /// already, nothing changes.
     #[inline]
     pub(crate) fn use_page<D: Swap>(
@@ -130,7 +130,7 @@ impl Pager {
         requires inside { page < length self.old.places.places }
         requires buffer { length buffer.old ≡ 256 }
 
-        // The page is in a frame, and the words stay.
+        // The page is in a frame, and the words are unchanged.
         ensures kept { Keeps (paging_of self.old) (D.stored swap.old) (paging_of self.new) (D.stored swap.new) }
         ensures there { IfOk result (λ frame. place_at self.new.places page ≡ PagePlace.InFrame frame) }
 
@@ -139,7 +139,7 @@ impl Pager {
         ensures stops { OnErr result (Stops (paging_of self.old) (paging_of self.new)) }
         ensures sure { Contains (resident_of (paging_of self.old)) page → IsOk result }
 
-        // Faults, and the calls of the device.
+        // Swap errors, and the calls of the device.
         ensures cause { TellsFaults (D.faults swap.old) (D.faults swap.new) result }
         ensures calls { OnOk result (D.calls swap.new ≡ calls_to_use (paging_of self.old) page (D.calls swap.old)) }
         ensures stopped { OnErr result (StopsCalls (paging_of self.old) page (D.calls swap.old) (D.calls swap.new)) }
@@ -156,7 +156,7 @@ impl Pager {
         }
     }
 
-    /// A page is used that is in no frame.
+    /// Uses a page that is in no frame.
     #[inline(never)]
     fn use_absent<D: Swap>(
         &mut self,
@@ -169,7 +169,7 @@ impl Pager {
         requires absent { (frame : ℕ) → place_at self.old.places page ≢ PagePlace.InFrame frame }
         requires buffer { length buffer.old ≡ 256 }
 
-        // The page is in a frame, and the words stay.
+        // The page is in a frame, and the words are unchanged.
         ensures kept { Keeps (paging_of self.old) (D.stored swap.old) (paging_of self.new) (D.stored swap.new) }
         ensures there { IfOk result (λ frame. place_at self.new.places page ≡ PagePlace.InFrame frame) }
 
@@ -178,7 +178,7 @@ impl Pager {
         ensures stops { OnErr result (Stops (paging_of self.old) (paging_of self.new)) }
         ensures sure { Contains (resident_of (paging_of self.old)) page → IsOk result }
 
-        // Faults, and the calls of the device.
+        // Swap errors, and the calls of the device.
         ensures cause { TellsFaults (D.faults swap.old) (D.faults swap.new) result }
         ensures calls { OnOk result (D.calls swap.new ≡ calls_to_use (paging_of self.old) page (D.calls swap.old)) }
         ensures stopped { OnErr result (StopsCalls (paging_of self.old) page (D.calls swap.old) (D.calls swap.new)) }

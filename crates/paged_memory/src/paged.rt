@@ -39,8 +39,8 @@ impl<D: Swap> Model for PagedMemory<D> {
 }
 
 impl<D: Swap> PagedMemory<D> {
-    /// A memory of empty pages over a device that is made ready: at most 1,024 regions, 32 to 4,096 frames, and a greatest level
-    /// of at most 6. If memory runs out it gives the device back as it was. No other call takes memory.
+    /// A memory of empty pages over a device, which is prepared: at most 1,024 regions, 32 to 4,096 frames, and a greatest level
+    /// of at most 6. If memory runs out the device is returned unchanged. No other call takes memory.
     pub fn open(alloc: Global, space: &Space, mut swap: D) -> Result<PagedMemory<D>, Refused<D>>
         requires regions { space.now.regions ≤ 1024 }
         requires frames { 32 ≤ space.now.frames }
@@ -52,7 +52,7 @@ impl<D: Swap> PagedMemory<D> {
         ensures empty { IfOk result (λ m. resident_of m.0 ≡ []) }
         ensures frames { IfOk result (λ m. frames_of m.0.pool ≡ space.now.frames) }
 
-        // The device, made ready or given back.
+        // The device, prepared or returned.
         ensures prepared { IfOk result (λ m. D.stored m.1 ≡ replicate (4096 * space.now.regions) null_word) }
         ensures faults { IfOk result (λ m. D.faults m.1 ≡ D.faults swap) }
         ensures back { IfErr result (λ refused. refused.back ≡ swap) }
@@ -83,7 +83,7 @@ impl<D: Swap> PagedMemory<D> {
         matches!(self.pager.places.place_of(page), PagePlace::InFrame(_))
     }
 
-    /// The least recently used of the pages in frames; None where there is none.
+    /// The least recently used of the pages in frames; None if there is none.
     pub fn oldest(&self) -> Option<u32>
         ensures { result ≡ first_of (resident_of self.now.0) }
     {
@@ -99,7 +99,7 @@ impl<D: Swap> PagedMemory<D> {
         self.frames
     }
 
-    /// The page in a frame that was used next after this one; None where this one was used last.
+    /// The page in a frame that was used next after this one; None if this one was used last.
     pub fn after(&self, page: u32) -> Option<u32>
         requires { Contains (resident_of self.now.0) page }
         ensures { result ≡ next_in (resident_of self.now.0) page }

@@ -1,4 +1,4 @@
-//! What a memory of frames is made of, beside the device.
+//! The parts of a memory of frames, except for the device.
 ghost use Rattle.std.specs.Prelude.{◌≡◌, ◌*◌, ◌≤◌, IfOk, replicate};
 ghost use Rattle.frame_pool.specs.Pool.{fresh_pool, IsPool};
 ghost use Rattle.page_map.specs.Map.{fresh_map};

@@ -1,4 +1,4 @@
-//! Words of a page in a frame that are stored together, with no call of the device.
+//! Stores several words of a page in a frame together, with no call of the device.
 ghost use Rattle.std.specs.Prelude.{◌≡◌, ◌+◌, ◌/◌, ◌%◌, ◌<◌, ◌≤◌, List, Bool, slice_index_or, Contains};
 ghost use Rattle.store_word.specs.Words.{Parts, null_word};
 ghost use Rattle.page_map.specs.Map.{place_at};
@@ -15,7 +15,7 @@ impl Pager {
     ghost use Rattle.paged_memory.specs.Moves.{paging_of};
     ghost use Rattle.paged_memory.specs.Spans.{Lays, TagsSpan};
 
-    // A resident page is used: it is the most recently used. The answer is its frame.
+    // Uses a resident page: it is the most recently used. Returns its frame.
     fn use_resident(&mut self, page: u32) -> u32
         requires paged { (stored : List Parts) × IsPaged (paging_of self.old) stored }
         requires there { Contains (resident_of (paging_of self.old)) page }
@@ -30,7 +30,7 @@ impl Pager {
         frame
     }
 
-    // A frame gets the tag where one of so many words from an offset on has an address of level 1 or more. They are looked at only
+    // Sets the tag of a frame if one of the `count` words from an offset on has an address of level 1 or more. They are read only
     // if it has none.
     fn tag_span(&mut self, frame: u32, offset: u32, count: u32)
         requires frame { frame < frames_of self.old.pool }
@@ -45,7 +45,7 @@ impl Pager {
         self.pool.set_tag(frame, tag);
     }
 
-    /// Copies so many words of a resident page to a resident page.
+    /// Copies `count` words of a resident page to a resident page.
     pub(crate) fn copy_span(&mut self, from: u32, to: u32, count: u32)
         requires paged { (stored : List Parts) × IsPaged (paging_of self.old) stored }
         requires some { 0 < count }
@@ -64,7 +64,7 @@ impl Pager {
         self.tag_span(to_frame, to % 256, count);
     }
 
-    /// Writes one word to so many addresses of a resident page.
+    /// Writes one word to `count` addresses of a resident page.
     pub(crate) fn fill_span(&mut self, at: u32, count: u32, word: Word)
         requires paged { (stored : List Parts) × IsPaged (paging_of self.old) stored }
         requires some { 0 < count }

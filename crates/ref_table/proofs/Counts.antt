@@ -1,4 +1,4 @@
--- How many rows there are once one has changed.
+-- How many rows there are after one has changed.
 use Rattle.std.proofs.Common.{◌≡◌, ◌≢◌, ℕ, suc, zero, ◌+◌, ◌<◌, ◌≤◌, Bool, true, false, not, eqb, if◌then◌else◌, List, ◌∷◌, length, length-set, filter, slice_set, get_or-set_same, get_or-set_other, refl, ap, ◌∙◌, arith, inl, inr}
 use Rattle.std.specs.List.{range_with_len}
 use Rattle.std.proofs.lemmas.Bool.{cases_eq}

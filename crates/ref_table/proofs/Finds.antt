@@ -1,4 +1,4 @@
--- What a search of the tree finds, said of the sets alone.
+-- What a search of the tree finds, stated by the sets alone.
 use Rattle.ref_table.specs.declared.branch.Branch.{Branch}
 use Rattle.std.specs.Prelude.{IfSome, IfNone}
 use Rattle.std.proofs.Common.{◌<◌, ◌≡◌, ℕ, Option, Some, None, ap, ◌∙◌, arith, inl, inr, List, length}

@@ -11,7 +11,7 @@ use Rattle.ref_table.proofs.Heights.{height_insert}
 use Rattle.ref_table.proofs.Orders.{ordered_insert}
 use Rattle.ref_table.proofs.Standing.{root_fork, part_left, part_right}
 
--- a page that goes to the left
+-- a page that goes to the left side
 pub insert_low : (sets : List Levels) (old mid new : List Branch) (at left at' : Option ℕ) (top page depth lo hi : ℕ) (root : Branch) (t : Tree) → at ≡ Some top → root ≡ branch_at old (Some top) → page < top → 0 < depth
     → ((lo hi : ℕ) (t : Tree) → root.left ≡ link t → IsPart sets old lo hi t → height t ≤ depth - 1 → lo ≤ page → page < hi → Builds sets old mid left lo hi (insert page t))
     → Balances sets mid new left top root.right at'

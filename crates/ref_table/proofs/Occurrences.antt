@@ -1,4 +1,4 @@
--- Which pages rotation, insertion and removal leave in a tree.
+-- Which pages are in a tree after rotation, insertion and removal.
 use Rattle.std.proofs.Common.{◌≡◌, ℕ, ◌+◌, ◌<◌, ◌≤◌, Option, Some, None, refl, ap, arith, eqb, if◌then◌else◌}
 use Rattle.std.proofs.lemmas.Bool.{cond_both, ltb-true, ltb-false, eq-eqb, ne_eqb}
 use Rattle.std.specs.Prelude.{nat_lt, nat_le}

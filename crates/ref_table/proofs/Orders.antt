@@ -1,4 +1,4 @@
--- Rotation, insertion and removal leave search trees in order.
+-- Search trees are in order after rotation, insertion and removal.
 use Rattle.std.proofs.Common.{◌≡◌, ℕ, ◌+◌, ◌<◌, ◌≤◌, Option, Some, None, refl, sym, subst, arith}
 use Rattle.std.proofs.lemmas.Bool.{cond_both, ltb-true}
 use Rattle.std.specs.Prelude.{nat_lt, nat_le}

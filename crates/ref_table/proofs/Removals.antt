@@ -12,7 +12,7 @@ use Rattle.ref_table.proofs.Occurrences.{one}
 use Rattle.ref_table.proofs.Orders.{ordered_wider, ordered_rest, ordered_first, ordered_removed}
 use Rattle.ref_table.proofs.Standing.{root_fork, stands_within, builds_after, builds_same, part_left, part_right}
 
--- the first page is on the left
+-- the first page is on the left side
 pub rest_low : (sets : List Levels) (old mid new : List Branch) (at left at' : Option ℕ) (top one depth lo hi : ℕ) (root : Branch) (t : Tree) → at ≡ Some top → root ≡ branch_at old (Some top) → root.left ≡ Some one → 0 < depth
     → ((lo hi : ℕ) (t : Tree) → root.left ≡ link t → IsPart sets old lo hi t → height t ≤ depth - 1 → Builds sets old mid left lo hi (rest t))
     → Balances sets mid new left top root.right at'
@@ -67,7 +67,7 @@ merge_some sets old mid new left right right' at page depth lo mi hi l r e f g l
       right_low = omega arith;
     }))
 
--- a page that is taken out on the left
+-- a page that is removed on the left side
 pub remove_low : (sets : List Levels) (old mid new : List Branch) (at left at' : Option ℕ) (top page depth lo hi : ℕ) (root : Branch) (t : Tree) → at ≡ Some top → root ≡ branch_at old (Some top) → page < top → 0 < depth
     → ((lo hi : ℕ) (t : Tree) → root.left ≡ link t → IsPart sets old lo hi t → height t ≤ depth - 1 → Builds sets old mid left lo hi (removed page t))
     → Balances sets mid new left top root.right at'

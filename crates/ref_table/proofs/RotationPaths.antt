@@ -21,7 +21,7 @@ pub rotate_left_none : (sets : List Levels) (old new : List Branch) (left right 
 rotate_left_none sets old new left right at page lo hi l Leaf e s is top = join_builds sets old new left page right at lo hi l Leaf 101 (omega arith) s is top
 rotate_left_none sets old new left right at page lo hi l (Fork a q b) e s is top = let f = s.right_is in absurd (cc)
 
--- the left tree has nothing on its right
+-- the left tree has no right subtree
 pub rotate_right_thin : (sets : List Levels) (old one new : List Branch) (left right low at : Option ℕ) (top page lo hi : ℕ) (upper : Branch) (l r : Tree) → left ≡ Some top → upper ≡ branch_at old (Some top) → upper.right ≡ None
     → AreSides sets old left page right lo hi l r 101 → one ≡ slice_set old page (joined sets old None page right) → low ≡ Some page
     → new ≡ slice_set one top (joined sets one upper.left top low) → at ≡ Some top → Builds sets old new at lo hi (rotated_right l page r)

@@ -1,4 +1,4 @@
--- A row goes into the tree or out of it.
+-- A row is added to the tree or removed from it.
 use Rattle.ref_table.specs.declared.branch.Branch.{Branch}
 use Rattle.std.proofs.Common.{◌<◌, ◌≡◌, ◌≢◌, ℕ, ◌≤◌, true, Option, Some, refl, sym, ap, subst, ◌∙◌, arith, inl, inr, eqb, if◌then◌else◌, List, length, length-set, slice_set, get_or-set_same, get_or-set_other}
 use Rattle.std.proofs.lemmas.Bool.{cases_eq, eq-eqb, ne_eqb, cond-true, cond-false, not-true}

@@ -46,7 +46,7 @@ do_meet_true a b e z = let n = not-true _ e in eqb-false _ _ n z
 do_meet_false : (a b : ℕ) → do_meet a b ≡ false → bit_and a b ≡ 0
 do_meet_false a b e = eqb-true _ _ (not-false _ e)
 
--- nothing on the left or at the root: what is next on the right
+-- no match on the left side or at the root: the next one on the right side
 next_right : (sets : List Levels) (from levels lo hi : ℕ) (l : Tree) (p : ℕ) (r : Tree) (o : Option ℕ) → IsOrdered lo hi (Fork l p r)
     → ((k : ℕ) → from ≤ k → 0 < occurrences k l → ¬ Meets (set_at sets k) levels) → (from ≤ p → ¬ Meets (set_at sets p) levels) → IsNextIn sets from levels r o → IsNextIn sets from levels (Fork l p r) o
 next_right sets from levels lo hi l p r None ord left here h = λ k a z.

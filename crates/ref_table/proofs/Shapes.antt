@@ -1,4 +1,4 @@
--- Rotation, insertion and removal leave trees in balance.
+-- Trees are in balance after rotation, insertion and removal.
 use Rattle.std.proofs.Common.{◌≡◌, ℕ, ◌+◌, ◌≤◌, max, Option, Some, None, refl, arith, inl, inr}
 use Rattle.std.proofs.lemmas.Bool.{cond_both, ltb-true, ltb-false, leb-true, leb-false, cases_lt}
 use Rattle.std.specs.Prelude.{nat_lt, nat_le}
@@ -24,7 +24,7 @@ shape_right l p (Fork (Fork c m d) q b) u v h =
     (λ low. let n = leb-true _ _ low in ((omega arith, omega arith, ((omega arith, omega arith, (u, v.2.0)), v.2.1)), omega arith))
     (λ high. let n = leb-false _ _ high in ((omega arith, omega arith, ((omega arith, omega arith, (u, v.2.0.2.0)), (omega arith, omega arith, (v.2.0.2.1, v.2.1)))), omega arith))
 
--- a tree that is balanced, no lower than its sides, and of the plain height where they nearly agree
+-- a tree that is balanced, at least as high as its sides, and one higher than the higher side if their heights differ by at most one
 pub record IsRebalanced (l r t : Tree) : Type 0 where
   pub balanced : IsBalanced t
   pub high : max (height l) (height r) ≤ height t

@@ -25,7 +25,7 @@ height_law (Fork l p r) u =
           rw e (omega (arith, d, x, y, a, b, n))
     ]
 
--- a tree between two pages has no more pages than stand between them
+-- a tree of pages between two bounds has no more pages than there are between them
 pub size_fits : (lo hi : ℕ) (t : Tree) → lo ≤ hi → IsOrdered lo hi t → length (in_order t) + lo ≤ hi
 size_fits lo hi Leaf a o = omega arith
 size_fits lo hi (Fork l p r) a o =

@@ -1,4 +1,4 @@
--- What a join leaves standing in the branches.
+-- What is stored in the branches after a join.
 use Rattle.std.proofs.lemmas.Option.{get_or_from_slice_get}
 use Rattle.ref_table.specs.declared.branch.Branch.{Branch}
 use Rattle.std.proofs.Common.{◌≡◌, ◌≢◌, ℕ, ◌+◌, ◌<◌, ◌≤◌, min, max, Option, Some, refl, ap, ◌∙◌, arith, List, length, length-set, slice_get, slice_set}
@@ -10,7 +10,7 @@ use Rattle.ref_table.specs.Tree.{Tree, link, height, below, IsOrdered, Leaf, For
 use Rattle.ref_table.proofs.ListLaws.{slice_get-set_same, slice_get-set_other}
 use Rattle.ref_table.proofs.Occurrences.{one}
 
--- the branch of the root of a tree that stands
+-- the branch of the root of a tree that is stored
 pub root_height : (sets : List Levels) (branches : List Branch) (t : Tree) → Stands sets branches t → (branch_at branches (link t)).height ≡ height t
 root_height sets branches Leaf s = refl
 root_height sets branches (Fork l p r) s = ap (λ (b : Branch). b.height) (get_or_from_slice_get branches p (branch_of sets l p r) no_branch s.0)

@@ -1,4 +1,4 @@
--- The array of branches that a tree stands in.
+-- The array of branches that represents a tree.
 use Rattle.std.specs.Prelude.{ℕ, ◌≡◌, ◌+◌, ◌<◌, ◌≤◌, eqb, min, max, if◌then◌else◌, Option, Some, None, List, length, slice_get, slice_index_or}
 use Rattle.std.specs.Int.RustNames.{bit_or}
 use Rattle.store_word.specs.declared.levels.Levels.{Levels}
@@ -39,14 +39,14 @@ abbrev pub Stands : List Levels → List Branch → Tree → Type 0
 Stands sets branches Leaf = Unit {0}
 Stands sets branches (Fork l p r) = (slice_get branches p ≡ Some (branch_of sets l p r)) × (Stands sets branches l × Stands sets branches r)
 
--- a search tree stands in the branches between two pages
+-- a search tree of pages between two bounds is stored in the branches
 pub record IsPart (sets : List Levels) (branches : List Branch) (lo hi : ℕ) (t : Tree) : Type 0 where
   pub stands : Stands sets branches t
   pub ordered : IsOrdered lo hi t
   pub inside : hi ≤ length branches
   pub low : height t ≤ 100
 
--- two search trees stand on the two sides of a page
+-- two search trees are stored on the two sides of a page
 pub record AreSides (sets : List Levels) (branches : List Branch) (left : Option ℕ) (page : ℕ) (right : Option ℕ) (lo hi : ℕ) (l r : Tree) (most : ℕ) : Type 0 where
   pub left_is : left ≡ link l
   pub right_is : right ≡ link r
@@ -60,7 +60,7 @@ pub record AreSides (sets : List Levels) (branches : List Branch) (left : Option
   pub left_low : height l ≤ most
   pub right_low : height r ≤ most
 
--- a tree has come to stand between two pages, and no branch of another page has changed
+-- a tree of pages between two bounds is now stored, and no branch of another page has changed
 pub record Builds (sets : List Levels) (old new : List Branch) (at : Option ℕ) (lo hi : ℕ) (t : Tree) : Type 0 where
   pub size : length new ≡ length old
   pub top : at ≡ link t
@@ -72,7 +72,7 @@ pub record Builds (sets : List Levels) (old new : List Branch) (at : Option ℕ)
 abbrev pub row_count : List Levels → ℕ → ℕ
 row_count sets page = if eqb (set_at sets page) 0 then 0 else 1
 
--- a search tree of exactly the pages that have a row, in balance, stands in the branches
+-- a search tree of exactly the pages that have a row, in balance, is stored in the branches
 pub record HasTree (sets : List Levels) (branches : List Branch) (root : Option ℕ) (t : Tree) : Type 0 where
   pub few : length sets ≤ 16384
   pub same : length branches ≡ length sets
@@ -82,15 +82,15 @@ pub record HasTree (sets : List Levels) (branches : List Branch) (root : Option 
   pub balanced : IsBalanced t
   pub rows : (page : ℕ) → page < length sets → occurrences page t ≡ row_count sets page
 
--- such a tree is there
+-- some such tree is stored
 abbrev pub HasRows : List Levels → List Branch → Option ℕ → Type 0
 HasRows sets branches root = (t : Tree) × HasTree sets branches root t
 
--- the tree once a page has no row
+-- the tree after the row of a page was removed
 abbrev pub without_row : List Levels → ℕ → Tree → Tree
 without_row sets page t = if eqb (set_at sets page) 0 then t else removed page t
 
--- such a tree is there, and its rows are counted
+-- some such tree is stored, and its rows are counted
 pub record RefTableInvariant (sets : List Levels) (branches : List Branch) (root : Option ℕ) (count : ℕ) : Type 0 where
   pub rows : HasRows sets branches root
   pub counted : count ≡ length (rows_of sets)

@@ -1,8 +1,8 @@
--- What rotation, insertion and removal make of a search tree that is balanced by height.
+-- The search trees, balanced by height, that rotation, insertion and removal build.
 use Rattle.std.specs.Prelude.{ℕ, ◌+◌, nat_lt, nat_le, if◌then◌else◌, Option, Some, None}
 use Rattle.ref_table.specs.Tree.{Tree, Leaf, Fork, height}
 
--- the left subtree `a q b` of page p becomes the root; or, where b is higher than a, the root of b does
+-- the left subtree `a q b` of page p becomes the root; or, if b is higher than a, the root of b does
 abbrev pub right_rotation : Tree → ℕ → Tree → ℕ → Tree → Tree
 right_rotation a q Leaf p r = Fork a q (Fork Leaf p r)
 right_rotation a q (Fork c m d) p r = if nat_le (height (Fork c m d)) (height a) then Fork a q (Fork (Fork c m d) p r) else Fork (Fork a q c) m (Fork d p r)
@@ -12,7 +12,7 @@ abbrev pub rotated_right : Tree → ℕ → Tree → Tree
 rotated_right Leaf p r = Fork Leaf p r
 rotated_right (Fork a q b) p r = right_rotation a q b p r
 
--- the right subtree `a q b` of page p becomes the root; or, where a is higher than b, the root of a does
+-- the right subtree `a q b` of page p becomes the root; or, if a is higher than b, the root of a does
 abbrev pub left_rotation : Tree → ℕ → Tree → ℕ → Tree → Tree
 left_rotation l p Leaf q b = Fork (Fork l p Leaf) q b
 left_rotation l p (Fork c m d) q b = if nat_le (height (Fork c m d)) (height b) then Fork (Fork l p (Fork c m d)) q b else Fork (Fork l p c) m (Fork d q b)
@@ -22,7 +22,7 @@ abbrev pub rotated_left : Tree → ℕ → Tree → Tree
 rotated_left l p Leaf = Fork l p Leaf
 rotated_left l p (Fork a q b) = left_rotation l p a q b
 
--- a page over two trees, rotated where one of them is two higher
+-- a page over two trees, rotated if one of them is two higher
 abbrev pub balanced : Tree → ℕ → Tree → Tree
 balanced l p r = if nat_lt (height r + 1) (height l) then rotated_right l p r else if nat_lt (height l + 1) (height r) then rotated_left l p r else Fork l p r
 

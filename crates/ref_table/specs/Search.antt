@@ -4,7 +4,7 @@ use Rattle.store_word.specs.declared.levels.Levels.{Levels}
 use Rattle.ref_table.specs.Sets.{set_at, do_meet}
 use Rattle.ref_table.specs.Tree.{Tree, Leaf, Fork, below}
 
--- the first of two pages that is there
+-- the first of two pages, if there is one; otherwise the second
 abbrev pub or_else : Option ℕ → Option ℕ → Option ℕ
 or_else None other = other
 or_else (Some page) other = Some page

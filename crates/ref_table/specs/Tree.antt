@@ -13,7 +13,7 @@ abbrev pub link : Tree → Option ℕ
 link Leaf = None
 link (Fork l p r) = Some p
 
--- how many pages the longest way down has
+-- how many pages the longest path from the root has
 abbrev pub height : Tree → ℕ
 height Leaf = 0
 height (Fork l p r) = max (height l) (height r) + 1
@@ -33,7 +33,7 @@ abbrev pub below : List Levels → Tree → ℕ
 below sets Leaf = 0
 below sets (Fork l p r) = bit_or (bit_or (set_at sets p) (below sets l)) (below sets r)
 
--- a search tree of pages from one on and below another: lower pages stand on the left, higher ones on the right
+-- a search tree of pages from one on and below another: lower pages are on the left side, higher ones on the right side
 abbrev pub IsOrdered : ℕ → ℕ → Tree → Type 0
 IsOrdered lo hi Leaf = Unit {0}
 IsOrdered lo hi (Fork l p r) = (lo ≤ p) × (p < hi) × (IsOrdered lo p l × IsOrdered (p + 1) hi r)

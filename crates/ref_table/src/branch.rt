@@ -1,4 +1,4 @@
-//! The array of branches, one for each page: where the trees stand.
+//! The array of branches, one for each page, in which the trees are stored.
 ghost use Rattle.std.specs.Prelude.{◌≡◌, Some, slice_set};
 ghost use Rattle.std.specs.Int.RustNames.{bit_or};
 ghost use Rattle.ref_table.specs.Sets.{set_at};

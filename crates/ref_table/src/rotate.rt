@@ -1,4 +1,4 @@
-//! Balance: a page over two trees, by a rotation where one is two higher than the other.
+//! Balance: a page over two trees, with a rotation if one is two higher than the other.
 ghost use Rattle.std.specs.Prelude.{ℕ};
 ghost use Rattle.ref_table.specs.Tree.{Tree};
 ghost use Rattle.ref_table.specs.Rotation.{balanced, rotated_right, rotated_left};
@@ -7,7 +7,7 @@ ghost use Rattle.ref_table.specs.Branches.{AreSides, Builds};
 use crate::branch::{Branch, branch_at, join};
 use store_word::Levels;
 
-/// The left tree is two higher than the right one: its root becomes the root, or, where the inner subtree is the higher one, the root of that.
+/// The left tree is two higher than the right one: its root becomes the root or, if the inner subtree is the higher one, the root of that.
 fn rotate_right(
     sets: &[Levels],
     branches: &mut [Branch],

@@ -1,4 +1,4 @@
-//! The table, and what it says to callers.
+//! The table, and what callers see of it.
 ghost use Rattle.std.specs.Prelude.{◌≡◌, ◌<◌, ◌≤◌, ◌↔◌, replicate, length, slice_set, IfOk, IfSome, IfNone, IsNone};
 ghost use Rattle.ref_table.specs.Sets.{no_levels, set_at, has_row, rows_of, IsMatch, NoneMeets};
 ghost use Rattle.ref_table.specs.Tree.{Tree};
@@ -23,7 +23,7 @@ fn has_row(sets: &[Levels], page: u32) -> bool
     !sets[page as usize].is_empty()
 }
 
-/// Takes the row of a page out of the tree, where it has one.
+/// Removes the row of a page from the tree, if it has one.
 fn remove_row(
     sets: &mut [Levels],
     branches: &mut [Branch],
@@ -102,7 +102,7 @@ impl RefTable {
         })
     }
 
-    /// Puts the set in place of any earlier row of the page. With the empty set the page has no row.
+    /// Replaces any earlier row of the page by this set. With the empty set the page has no row.
     pub fn note(&mut self, page: u32, levels: Levels)
         requires { page < length self.old.sets }
         ensures sets { self.new.sets ≡ slice_set self.old.sets page levels }
@@ -113,7 +113,7 @@ impl RefTable {
         self.count += u32::from(!levels.is_empty());
     }
 
-    /// Takes the row of a page out, where it has one.
+    /// Removes the row of a page, if it has one.
     pub fn forget(&mut self, page: u32)
         requires { page < length self.old.sets }
         ensures sets { self.new.sets ≡ slice_set self.old.sets page no_levels }
@@ -123,7 +123,7 @@ impl RefTable {
         self.root = remove_row(&mut self.sets, &mut self.branches, self.root, page);
     }
 
-    /// The levels of a page, the empty set where it has no row.
+    /// The levels of a page; the empty set if it has no row.
     pub fn levels(&self, page: u32) -> Levels
         requires { page < length self.now.sets }
         ensures { result.0 ≡ set_at self.now.sets page }
@@ -131,7 +131,7 @@ impl RefTable {
         self.sets[page as usize]
     }
 
-    /// The lowest page, from the given one on, whose row has one of these levels; None exactly where there is none. The walk goes
+    /// The lowest page, from the given one on, whose row has one of these levels; None if and only if there is none. The walk goes
     /// only into subtrees that have one.
     pub fn next_from(&self, page: u32, levels: Levels) -> Option<u32>
         ensures found { IfSome result (IsMatch self.now.sets page levels.0) }
@@ -148,7 +148,7 @@ impl RefTable {
         )
     }
 
-    /// The page of the root of the search tree, None where the table has no row.
+    /// The page of the root of the search tree; None if and only if the table has no row.
     pub fn root(&self) -> Option<u32>
         ensures root { result ≡ self.now.root }
         ensures indexed { IsIndexed self.now }
@@ -156,7 +156,7 @@ impl RefTable {
         self.root
     }
 
-    /// The node of a page, None exactly where the page has no row.
+    /// The node of a page; None if and only if the page has no row.
     pub fn node(&self, page: u32) -> Option<RefNode>
         requires { page < length self.now.sets }
         ensures node { result ≡ node_at self.now page }

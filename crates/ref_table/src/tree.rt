@@ -1,4 +1,4 @@
-//! Insertion and removal in trees over the array of branches. A tree is named by the page of its root. Each walk is given the depth
+//! Insertion and removal in trees over the array of branches. The page of its root names a tree. Each walk is given the depth
 //! to which it may go, which ends its recursion and bounds its stack; it is never less than the height of the tree.
 ghost use Rattle.std.specs.Prelude.{◌≡◌, ◌<◌, ◌≤◌, ℕ, List};
 ghost use Rattle.store_word.specs.declared.levels.Levels.{Levels};
@@ -53,7 +53,7 @@ fn first(depth: u8, branches: &[Branch], at: Option<u32>) -> Option<u32>
     }
 }
 
-/// Takes the lowest page out of a tree.
+/// Removes the lowest page from a tree.
 fn rest(depth: u8, sets: &[Levels], branches: &mut [Branch], at: Option<u32>) -> Option<u32>
     ensures { (lo hi : ℕ) (t : Tree) → at ≡ link t → IsPart sets.now branches.old lo hi t → height t ≤ depth
         → Builds sets.now branches.old branches.new result lo hi (rest t) }
@@ -94,7 +94,7 @@ fn merge(
     }
 }
 
-/// Takes a page out of a tree.
+/// Removes a page from a tree.
 pub(crate) fn remove(
     depth: u8,
     sets: &[Levels],

@@ -1,4 +1,4 @@
--- The lines of the areas, one after the other.
+-- The lines of the areas, one after another.
 use Rattle.std.proofs.Common.{◌≡◌, ℕ, zero, suc, ◌+◌, List, [], ◌∷◌, ◌++◌, length, take, refl, sym, ap, ◌∙◌, subst, arith, Some, Result, Err}
 use Rattle.std.specs.Prelude.{flat_map, slice_get}
 use Rattle.std.proofs.lemmas.List.{append-nil, append_assoc, length-append}
@@ -13,7 +13,7 @@ use Rattle.paged_machine.specs.lisp_meaning.Step.{area_lines}
 use Rattle.trace_text.specs.Replies.{account_text}
 use Rattle.replay_run.specs.Replies.{account_line}
 
--- the text of the lines of these areas, the first of which has number a
+-- the text of the lines of these areas; the first area has number a
 abbrev pub accounts : State → ℕ → List AreaRule → List ℕ
 accounts s a areas = flat_map account_line (area_lines s a areas)
 
@@ -32,7 +32,7 @@ accounts_append s xs ys =
 accounts_one : (s : State) (a : ℕ) (x : AreaRule) (ys : List AreaRule) → accounts s a (x ∷ ys) ≡ account_text x.name (account_now s a) x.quota ++ accounts s (suc a) ys
 accounts_one s a x ys = flat_map-cons account_line (record { name = x.name; charged = account_now s a; quota = x.quota }) (area_lines s (suc a) ys)
 
--- an item of a list, and what stands before and behind it
+-- an item of a list, and what precedes and follows it
 split : (areas : List AreaRule) (i : ℕ) (rule : AreaRule) → slice_get areas i ≡ Some rule
     → (after : List AreaRule) × (areas ≡ take i areas ++ rule ∷ after) × (length (take i areas) ≡ i) × (take (suc i) areas ≡ take i areas ++ rule ∷ [])
 split [] i rule h = absurd (cc (h))
@@ -46,7 +46,7 @@ module _ (s : State) (areas : List AreaRule) (i : ℕ) (rule : AreaRule) (charge
       ∙ ap (λ n. accounts s 0 (take i areas) ++ accounts s n (rule ∷ after)) (split areas i rule at).2
       ∙ ap (λ xs. accounts s 0 (take i areas) ++ xs) (accounts_one s i rule after ∙ ap (λ n. account_text rule.name n rule.quota ++ accounts s (suc i) after) (sym is))
 
-  -- its line was gathered behind those before it
+  -- its line was gathered after those before it
   pub accounts_more : {P Q R : List ℕ → Type 0} (had : List ℕ) {pending pending' : List ℕ} → Gathered P Q pending (had ++ accounts s 0 (take i areas)) → Gathered Q R pending' (pending ++ account_text rule.name charged rule.quota)
       → Gathered P R pending' (had ++ accounts s 0 (take (i + 1) areas))
   accounts_more {P} {Q} {R} had {pending} {pending'} first then =

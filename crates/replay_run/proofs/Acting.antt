@@ -1,4 +1,4 @@
--- What a command did.
+-- The effect of a command.
 use Rattle.std.proofs.Common.{◌≡◌, ◌≢◌, inl, inr, ℕ, ◌<◌, List, Bool, true, false, refl, sym, ap, ◌∙◌, arith, Result}
 use Rattle.std.specs.Prelude.{IfErr, nat_le}
 use Rattle.std.proofs.lemmas.Bool.{leb-true}
@@ -27,7 +27,7 @@ only_fault _ h = cc
 not_fault : (reply : Reply) → is_fault (Replied reply) ≡ false → reply ≢ R.Fault
 not_fault reply h is = cc (ap (λ (r : Reply). is_fault (Replied r)) is, h)
 
--- A dump that meets a fault
+-- A dump in which a page call fails
 
 same_phase : (p : Phase) → p ≡ with_over_phase (is_over p) p
 same_phase Idle = refl

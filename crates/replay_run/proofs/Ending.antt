@@ -1,4 +1,4 @@
--- Where a run stops.
+-- How a run stops.
 use Rattle.std.proofs.Common.{◌≡◌, ◌≢◌, ◌⊎◌, inl, inr, ℕ, ◌+◌, ◌-◌, ◌<◌, ◌≤◌, ◌^◌, List, [], ◌++◌, length, take, Bool, true, false, Option, Some, None, Result, Ok, Err, refl, sym, ap, ◌∙◌, subst, arith}
 use Rattle.std.specs.Prelude.{if◌then◌else◌, IfSome}
 use Rattle.std.proofs.lemmas.List.{append-nil, append_cancel_right, length-append}
@@ -26,32 +26,33 @@ use Rattle.input_verdict.specs.Places.{IsPlace, Judged}
 use Rattle.input_verdict.specs.Verdict.{Read, Whole, Broken, enough, judged, judged_as, verdict, start, decided, ended, ending_at, world_of}
 use Rattle.input_verdict.proofs.Judged.{judged_keeps, judged_world}
 use Rattle.replay_run.specs.Replies.{Answered}
-use Rattle.replay_run.specs.Outcome.{BeforeDump, Demands, HasNoWorld, HasNoWorldYet, IsAhead, IsUndecided, IsUntouched, CutReply}
+use Rattle.replay_run.specs.Outcome.{BeforeDump, Demands, HasNoWorld, HasNoWorldYet, IsAhead, IsUndecided, IsUntouched, CutReply, Observed}
 use Rattle.replay_run.specs.declared.halt.Halt.{Halt}
 use Rattle.replay_run.specs.declared.halt.Halt.TheVariants as halts
-use Rattle.replay_run.specs.Steps.{Fetched, RanTo, Stopped, Tells, closed, stop_of}
+use Rattle.replay_run.specs.Steps.{Fetched, Stopped, Tells, closed, stop_of}
+use Rattle.replay_run.proofs.Observations.{HasStopped, observes}
 use Rattle.replay_run.proofs.Openable.{sound_at}
 use Rattle.replay_run.proofs.Telling.{cut_reply, tells_moved, tells_few, tells_answered, told_moved}
 use Rattle.replay_run.proofs.Going.{Going, going_given, ahead, judges_next}
 use Rattle.line_input.proofs.Going.{rest_end, rest_of, taken_whole, told_input}
 
--- what a run whose input has trouble demands
-broken_demands : (t : RunError) (read : Read) (i b : List ℕ) → IsOfLine t → verdict i ≡ record { read = read; ending = Broken t } → (status_of t ≢ status.Refused → read.commands ≡ []) → Demands (status_of t) i b read (trouble_line t)
-broken_demands (trouble.Line n reason) read i b of is alone = record { trouble = trouble.Line n reason; verdict_is = is; status_is = refl; told = refl }
-broken_demands (trouble.TooSmall n) read i b of is alone = (record { trouble = trouble.TooSmall n; verdict_is = is; status_is = refl; told = refl }, alone (λ e. absurd (cc (e))))
-broken_demands (trouble.Exhausted n area charged wanted quota) read i b of is alone =
+-- what the status of a trouble with the input requires
+broken_demands : (t : RunError) (o : Observed) (read : Read) → IsOfLine t → verdict o.input ≡ record { read = read; ending = Broken t } → (status_of t ≢ status.Refused → read.commands ≡ []) → Demands (status_of t) o read (trouble_line t)
+broken_demands (trouble.Line n reason) o read of is alone = record { trouble = trouble.Line n reason; verdict_is = is; status_is = refl; told = refl }
+broken_demands (trouble.TooSmall n) o read of is alone = (record { trouble = trouble.TooSmall n; verdict_is = is; status_is = refl; told = refl }, alone (λ e. absurd (cc (e))))
+broken_demands (trouble.Exhausted n area charged wanted quota) o read of is alone =
     (record { trouble = trouble.Exhausted n area charged wanted quota; verdict_is = is; status_is = refl; told = refl }, alone (λ e. absurd (cc (e))))
-broken_demands trouble.Read read i b of is alone = absurd of
-broken_demands trouble.Memory read i b of is alone = absurd of
-broken_demands trouble.Swap read i b of is alone = absurd of
-broken_demands trouble.Usage read i b of is alone = absurd of
-broken_demands (trouble.NoObject object) read i b of is alone = absurd of
+broken_demands trouble.Read o read of is alone = absurd of
+broken_demands trouble.Memory o read of is alone = absurd of
+broken_demands trouble.Swap o read of is alone = absurd of
+broken_demands trouble.Usage o read of is alone = absurd of
+broken_demands (trouble.NoObject object) o read of is alone = absurd of
 
 gave_same : (left' : Option (List ℕ)) (i b b' : List ℕ) → Gave (Some i) left' b → Gave (Some i) left' b' → b ≡ b'
 gave_same None i b b' gave other = absurd (cc (gave))
 gave_same (Some rest) i b b' gave other = let both : ◌≡◌ {A = Option (List ℕ)} (Some (b ++ rest)) (Some (b' ++ rest)) = sym gave ∙ other in append_cancel_right b b' rest (cc (both))
 
--- an end of the input isn't a fault of the source
+-- the end of the input isn't a failure of the source
 pub closed_reads : (place : JudgedInput) → closed (ending_at place) ≡ Err (Tell trouble.Read) → ⊥
 closed_reads place is = go place.judge.ended is
   where
@@ -78,27 +79,30 @@ module _ {left left' : Option (List ℕ)} {held held' : List ℕ → Type 0} {st
   ahead_here n above within = ahead input going.b going.read (lines_of (reader.bytes ++ rest_of left')) going.base going.m verdict_here going.behind reached_here going.near n above (omega (arith, going.counts))
 
   -- the run stops here, with what was written and what is pending
-  pub ran_with : {held'' : List ℕ → Type 0} {stands' : State → Type 0} {rose : ℕ} (w pending' : List ℕ) (result : Result (Unit {0}) Stop) → Gained held held'' w → Stopped result stands' rose input going.b w pending' → RanTo left left' held held'' stands' rose pending' result
+  pub ran_with : {held'' : List ℕ → Type 0} {stands' : State → Type 0} {loaded : Bool} {source_rose : Type 0} {rose : ℕ} (w pending' : List ℕ) (result : Result (Unit {0}) Stop) → Gained held held'' w → Stopped result (observes input going.b w stands' loaded source_rose rose) pending'
+      → HasStopped left left' held held'' stands' loaded source_rose rose pending' result
   unfolding input
-  ran_with w pending' result gained stopped = record {
-    i = input;
-    b = going.b;
-    w = w;
-    input = told_input left left' going.b going.taken.gave;
-    gave = going.taken.gave;
-    rest = refl;
-    gained = gained;
-    stopped = stopped;
-  }
+  ran_with w pending' result gained stopped = (
+    input,
+    going.b,
+    w,
+    record {
+      input = told_input left left' going.b going.taken.gave;
+      gave = going.taken.gave;
+      rest = refl;
+      gained = gained;
+      stopped = stopped;
+    },
+  )
 
-  -- a world that was opened is that of the input
+  -- the opened world is that of the input
   opened_verdict : (world : World) → world_of place ≡ Some world → world_of (verdict input).read.place ≡ Some world
   opened_verdict world open_is = ap (λ v. world_of v.read.place) verdict_here ∙ judged_world world going.read (lines_of (reader.bytes ++ rest_of left')) (ap world_of going.at ∙ open_is)
 
   answered_here : Answered (world_of going.read.place) going.read.commands stands (now - before) (going.w ++ pending)
   answered_here = subst (λ (q : JudgedInput). Answered (world_of q) going.read.commands stands (now - before) (going.w ++ pending)) (sym going.at) (tells_answered going.tells)
 
-  -- before a world was opened the swap's count of faults didn't rise
+  -- before a world was opened the swap device's count of failed calls didn't rise
   pub unrisen : world_of place ≡ None → now - before ≡ 0
   unrisen none = (subst (λ o. Tells o going.read.commands stands (now - before) going.w pending going.m) none going.tells).told.4
 
@@ -108,37 +112,36 @@ module _ {left left' : Option (List ℕ)} {held held' : List ℕ → Type 0} {st
   far_here : IsAhead (length going.read.commands) input going.b
   far_here = ahead_here (length going.read.commands) (tells_few going.tells) (omega arith)
 
-  -- where the sink fails in what is pending, it fails in a reply
-  pub cut_here : (front rest : List ℕ) → pending ≡ front ++ rest → 0 < length rest → (n : ℕ) × IsAhead n input going.b × CutReply stands (now - before) input (going.w ++ front) n
-  cut_here front rest is some = go (world_of place) refl
+  -- if the sink fails in what is pending, it fails in a reply
+  pub cut_here : {loaded : Bool} {source_rose : Type 0} (front rest : List ℕ) → pending ≡ front ++ rest → 0 < length rest → CutReply (observes input going.b (going.w ++ front) stands loaded source_rose (now - before))
+  cut_here {loaded} {source_rose} front rest is some = go (world_of place) refl
     where
-      go : (o : Option World) → world_of place ≡ o → (n : ℕ) × IsAhead n input going.b × CutReply stands (now - before) input (going.w ++ front) n
+      go : (o : Option World) → world_of place ≡ o → CutReply (observes input going.b (going.w ++ front) stands loaded source_rose (now - before))
       go None none =
           let t = (subst (λ o. Tells o going.read.commands stands (now - before) going.w pending going.m) none going.tells).told in
           absurd (omega (arith, ap length t.2, ap length is, length-append front rest))
       go (Some world) open_is =
           let t = (subst (λ o. Tells o going.read.commands stands (now - before) going.w pending going.m) open_is going.tells).told in
           let k = judged_keeps going.read (lines_of (reader.bytes ++ rest_of left')) in
-          let c = cut_reply input k.commands (opened_verdict world open_is) (ap (λ v. v.read.commands) verdict_here ∙ k.more) going.limits k.limits
-          (sound_at place form world open_is) some (told_moved front is t) in
-          (c.0, ahead_here c.0 c.1 (omega (arith, c.2)), c.3)
+          cut_reply input going.b k.commands (opened_verdict world open_is) (ap (λ v. v.read.commands) verdict_here ∙ k.more) going.limits k.limits
+          (sound_at place form world open_is) some (told_moved front is t) (λ n above below. ahead_here n above (omega (arith, below)))
 
-  -- the run stops here with trouble that demands this line
-  ran_demanded : (t : RunError) → Demands (status_of t) input going.b going.read (trouble_line t) → RanTo left left' held held' stands (now - before) pending (Err (Tell t))
+  -- the run stops here with a trouble that requires this line
+  ran_demanded : {loaded : Bool} {source_rose : Type 0} (t : RunError) → Demands (status_of t) (observes input going.b going.w stands loaded source_rose (now - before)) going.read (trouble_line t) → HasStopped left left' held held' stands loaded source_rose (now - before) pending (Err (Tell t))
   ran_demanded t demands = ran_with going.w pending (Err (Tell t)) going.gained (record { read = going.read; demands = demands; answered = answered_here; untouched = untouched_here (status_of t); far = far_here; cut = cut_here })
 
-  -- where a line has trouble, or the lines end too early
-  ran_broken : (t : RunError) → IsOfLine t → verdict input ≡ record { read = going.read; ending = Broken t } → (status_of t ≢ status.Refused → world_of place ≡ None) → RanTo left left' held held' stands (now - before) pending (Err (Tell t))
-  ran_broken t of is alone =
-      ran_demanded t (broken_demands t going.read input going.b of is (λ other. none_read (world_of place) (alone other) going.tells))
+  -- if a line has trouble, or the lines end too early
+  ran_broken : {loaded : Bool} {source_rose : Type 0} (t : RunError) → IsOfLine t → verdict input ≡ record { read = going.read; ending = Broken t } → (status_of t ≢ status.Refused → world_of place ≡ None) → HasStopped left left' held held' stands loaded source_rose (now - before) pending (Err (Tell t))
+  ran_broken {loaded} {source_rose} t of is alone =
+      ran_demanded t (broken_demands t (observes input going.b going.w stands loaded source_rose (now - before)) going.read of is (λ other. none_read (world_of place) (alone other) going.tells))
     where
       none_read : (o : Option World) → o ≡ None → Tells o going.read.commands stands (now - before) going.w pending going.m → going.read.commands ≡ []
       none_read o none tells = (subst (λ o. Tells o going.read.commands stands (now - before) going.w pending going.m) none tells).told.0
 
   -- at the end of the input
-  pub ran_end : (reader.bytes ≡ []) × (reader.ended ≡ true) → RanTo left left' held held' stands (now - before) pending (closed (ending_at place))
+  pub ran_end : {loaded : Bool} {source_rose : Type 0} → (reader.bytes ≡ []) × (reader.ended ≡ true) → HasStopped left left' held held' stands loaded source_rose (now - before) pending (closed (ending_at place))
   unfolding input
-  ran_end none = go place.judge.ended v
+  ran_end {loaded} {source_rose} none = go place.judge.ended v
     where
       e : reader.bytes ++ rest_of left' ≡ []
       e = rw (none.0, none_left none.1) refl
@@ -150,11 +153,11 @@ module _ {left left' : Option (List ℕ)} {held held' : List ℕ → Type 0} {st
       same = sym (append-nil going.b) ∙ ap (λ xs. going.b ++ xs) (sym (none_left none.1))
 
       go : (ended : Bool) → verdict input ≡ record { read = going.read; ending = if ended then Whole else Broken (trouble.Line (place.lines + 1) (early_reason place.lines NotAWorld)) }
-          → RanTo left left' held held' stands (now - before) pending (closed (if ended then Whole else Broken (trouble.Line (place.lines + 1) (early_reason place.lines NotAWorld))))
+          → HasStopped left left' held held' stands loaded source_rose (now - before) pending (closed (if ended then Whole else Broken (trouble.Line (place.lines + 1) (early_reason place.lines NotAWorld))))
       go true is = ran_with going.w pending (Ok tt) going.gained (record { read = going.read; demands = (same, is, refl); answered = answered_here; untouched = untouched_here status.Done; far = far_here; cut = cut_here })
       go false is = ran_broken (trouble.Line (place.lines + 1) (early_reason place.lines NotAWorld)) tt is (λ other. absurd (other refl))
 
-  -- where the source failed
+  -- if the source failed
   undecided : (many : ℕ) → many ≡ enough place → IsPart reader many → IsUndecided going.read going.b
   undecided many of part = subst (λ p. IsUndecided (record going.read { place = p }) going.b) (sym going.at) (record { part = (here place.judge.ended refl few).0; within = (here place.judge.ended refl few).1 })
     where
@@ -169,12 +172,12 @@ module _ {left left' : Option (List ℕ)} {held held' : List ℕ → Type 0} {st
   whole_here many part on =
       ap (judged start) (taken_whole going.taken part.none on) ∙ going.judges []
 
-  pub ran_fault : (many : ℕ) → many ≡ enough place → IsPart reader many → reader.ended ≡ false → RanTo left left' held held' stands (now - before) pending (Err (Tell trouble.Read))
+  pub ran_fault : {loaded : Bool} {source_rose : Type 0} (many : ℕ) → many ≡ enough place → IsPart reader many → reader.ended ≡ false → HasStopped left left' held held' stands loaded source_rose (now - before) pending (Err (Tell trouble.Read))
   ran_fault many of part on = ran_demanded trouble.Read (whole_here many part on, undecided many of part, refl)
 
-  -- where a line has trouble
-  pub ran_refused : (many : ℕ) (found : Found) (t : RunError) → many ≡ enough place → IsFound reader many found → IsOfLine t → judged_as place (take found.length reader.bytes) found.size ≡ Err t
-      → (status_of t ≢ status.Refused → world_of place ≡ None) → RanTo left left' held held' stands (now - before) pending (Err (Tell t))
+  -- if a line has trouble
+  pub ran_refused : {loaded : Bool} {source_rose : Type 0} (many : ℕ) (found : Found) (t : RunError) → many ≡ enough place → IsFound reader many found → IsOfLine t → judged_as place (take found.length reader.bytes) found.size ≡ Err t
+      → (status_of t ≢ status.Refused → world_of place ≡ None) → HasStopped left left' held held' stands loaded source_rose (now - before) pending (Err (Tell t))
   ran_refused many found t is next of refused alone =
       let j = judges_next place reader many found (rest_of left') form.counts.within is none_left next in
       let e : judged_as going.read.place j.line.text (size_of j.line) ≡ Err t = ap (λ p. judged_as p j.line.text (size_of j.line)) going.at ∙ j.same ∙ refused in
@@ -182,10 +185,10 @@ module _ {left left' : Option (List ℕ)} {held held' : List ℕ → Type 0} {st
       verdict_here ∙ ap (λ ls. ended (judged going.read ls)) j.is ∙ ap (λ r. ended (decided going.read r (λ next. judged next j.lines))) e in
       ran_broken t of v alone
 
-  -- where memory ran out, or the swap failed, before a world was open
-  pub ran_early : {held'' : List ℕ → Type 0} {stands' : State → Type 0} {rose : ℕ} {pending' : List ℕ} (t : RunError) → Demands (status_of t) input going.b start (trouble_line t) → (status_of t ≢ status.SwapFailed → rose ≡ 0) → Gathered held' held'' pending' pending → world_of place ≡ None
-      → RanTo left left' held held'' stands' rose pending' (Err (Tell t))
-  ran_early {stands' = stands'} {rose = rose} {pending' = pending'} trouble demands unrose g none =
+  -- if memory ran out, or the swap device failed, before a world was open
+  pub ran_early : {held'' : List ℕ → Type 0} {stands' : State → Type 0} {loaded : Bool} {source_rose : Type 0} {rose : ℕ} {pending' : List ℕ} (t : RunError) (g : Gathered held' held'' pending' pending) → Demands (status_of t) (observes input going.b (going.w ++ g.given) stands' loaded source_rose rose) start (trouble_line t)
+      → (status_of t ≢ status.SwapFailed → rose ≡ 0) → world_of place ≡ None → HasStopped left left' held held'' stands' loaded source_rose rose pending' (Err (Tell t))
+  ran_early {stands' = stands'} {rose = rose} {pending' = pending'} trouble g demands unrose none =
       let t = (tells_moved g.given g.all (subst (λ o. Tells o going.read.commands stands (now - before) going.w pending going.m) none going.tells)).told in
       ran_with (going.w ++ g.given) pending' (Err (Tell trouble)) (gained_more going.gained g.gained)
       (record {
@@ -197,41 +200,40 @@ module _ {left left' : Option (List ℕ)} {held held' : List ℕ → Type 0} {st
         cut = λ front rest is some. absurd (omega (arith, ap length t.2, ap length is, length-append front rest));
       })
 
-  -- where the sink failed with something pending
-  pub ran_write : 0 < length pending → RanTo left left' held held' stands (now - before) pending (Err Write)
-  ran_write some =
-      let c = cut_here [] pending refl some in
-      ran_with going.w pending (Err Write) going.gained (c.0, c.1, subst (λ w. CutReply stands (now - before) input w c.0) (append-nil going.w) c.2)
+  -- if the sink failed with something pending
+  pub ran_write : {loaded : Bool} {source_rose : Type 0} → 0 < length pending → HasStopped left left' held held' stands loaded source_rose (now - before) pending (Err Write)
+  ran_write {loaded} {source_rose} some =
+      ran_with going.w pending (Err Write) going.gained (subst (λ w. CutReply (observes input going.b w stands loaded source_rose (now - before))) (append-nil going.w) (cut_here [] pending refl some))
 
-  -- where no line was found
-  pub ran_fetch : (many : ℕ) (halt : Halt) → many ≡ enough place → Fetched reader many pending (Err halt) → RanTo left left' held held' stands (now - before) pending (Err (stop_of halt))
+  -- if no line was found
+  pub ran_fetch : {loaded : Bool} {source_rose : Type 0} (many : ℕ) (halt : Halt) → many ≡ enough place → Fetched reader many pending (Err halt) → HasStopped left left' held held' stands loaded source_rose (now - before) pending (Err (stop_of halt))
   ran_fetch many halts.Write is f = ran_write f
   ran_fetch many halts.Read is f = ran_fault many is f.0 f.1
   ran_fetch many halts.Memory is f = absurd f
   ran_fetch many halts.Swap is f = absurd f
 
-  -- where a line was refused
-  pub ran_judge : (many : ℕ) (found : Found) (t : RunError) (new : JudgedInput) → many ≡ enough place → IsFound reader many found
-      → Judged place new (Err t) (judged_as place (take found.length reader.bytes) found.size) → (status_of t ≢ status.Refused → world_of place ≡ None)
-      → RanTo left left' held held' stands (now - before) pending (Err (Tell t))
-  ran_judge many found trouble.Memory new is next judged early =
+  -- if a line was refused
+  pub ran_judge : {loaded : Bool} {source_rose : Type 0} (many : ℕ) (found : Found) (t : RunError) (new : JudgedInput) → many ≡ enough place → IsFound reader many found
+      → Judged place new (Err t) (judged_as place (take found.length reader.bytes) found.size) → (status_of t ≢ status.Refused → world_of place ≡ None) → (world_of place ≡ None → loaded ≡ false)
+      → HasStopped left left' held held' stands loaded source_rose (now - before) pending (Err (Tell t))
+  ran_judge many found trouble.Memory new is next judged early unloaded =
       let none : world_of place ≡ None = early (λ e. absurd (cc (e))) in
-      ran_early trouble.Memory (inl refl, refl) (λ _. unrisen none) (record { given = []; all = refl; gained = gained_nothing }) none
-  ran_judge many found (trouble.Line n reason) new is next judged early = ran_refused many found (trouble.Line n reason) is next judged.0 judged.1 early
-  ran_judge many found (trouble.TooSmall n) new is next judged early = ran_refused many found (trouble.TooSmall n) is next judged.0 judged.1 early
-  ran_judge many found (trouble.Exhausted n area charged wanted quota) new is next judged early = ran_refused many found (trouble.Exhausted n area charged wanted quota) is next judged.0 judged.1 early
-  ran_judge many found trouble.Read new is next judged early = absurd judged.0
-  ran_judge many found trouble.Swap new is next judged early = absurd judged.0
-  ran_judge many found trouble.Usage new is next judged early = absurd judged.0
-  ran_judge many found (trouble.NoObject object) new is next judged early = absurd judged.0
+      ran_early trouble.Memory (record { given = []; all = refl; gained = gained_nothing }) (inl (refl, unloaded none), refl) (λ _. unrisen none) none
+  ran_judge many found (trouble.Line n reason) new is next judged early unloaded = ran_refused many found (trouble.Line n reason) is next judged.0 judged.1 early
+  ran_judge many found (trouble.TooSmall n) new is next judged early unloaded = ran_refused many found (trouble.TooSmall n) is next judged.0 judged.1 early
+  ran_judge many found (trouble.Exhausted n area charged wanted quota) new is next judged early unloaded = ran_refused many found (trouble.Exhausted n area charged wanted quota) is next judged.0 judged.1 early
+  ran_judge many found trouble.Read new is next judged early unloaded = absurd judged.0
+  ran_judge many found trouble.Swap new is next judged early unloaded = absurd judged.0
+  ran_judge many found trouble.Usage new is next judged early unloaded = absurd judged.0
+  ran_judge many found (trouble.NoObject object) new is next judged early unloaded = absurd judged.0
 
-  -- Where no world was opened
+  -- If no world was opened
 
   pub input_is : (i : List ℕ) → left ≡ Some i → i ≡ input
   unfolding input
   input_is i tells = subst (λ l. IfSome l (λ bytes. bytes ≡ input)) tells (told_input left left' going.b going.taken.gave)
 
-  -- none is open where the input has none
+  -- none is open if the input has none
   pub unopened : (i : List ℕ) → left ≡ Some i → HasNoWorld i → world_of place ≡ None
   unopened i tells none = go (world_of place) refl
     where
@@ -239,7 +241,7 @@ module _ {left left' : Option (List ℕ)} {held held' : List ℕ → Type 0} {st
       go None is = is
       go (Some world) is = absurd (let some = opened_verdict world is in let nothing = subst HasNoWorld (input_is i tells) none in cc (some, nothing))
 
-  -- nor where the source failed behind whole lines that open none
+  -- none is open, either, if the source failed after whole lines that open none
   pub unread : (many : ℕ) → IsPart reader many → reader.ended ≡ false → (i b : List ℕ) → left ≡ Some i → Gave (Some i) left' b → HasNoWorldYet b → world_of place ≡ None
   unread many part on i b tells gave none =
       let same : b ≡ going.b = gave_same left' i b going.b gave (sym tells ∙ going.taken.gave) in
@@ -248,9 +250,9 @@ module _ {left left' : Option (List ℕ)} {held held' : List ℕ → Type 0} {st
       ap world_of (sym going.at) ∙ ap (λ (r : Read). world_of r.place) at ∙ none.none
 
 -- memory ran out at a dump
-pub ran_none : {left left' : Option (List ℕ)} {held held' held'' : List ℕ → Type 0} {stands stands' : State → Type 0} {takes : Command → Type 0} {idle : Type 0} {before now now' : ℕ} {place : JudgedInput} {reader : Buffered} {pending pending' : List ℕ}
+pub ran_none : {left left' : Option (List ℕ)} {held held' held'' : List ℕ → Type 0} {stands stands' : State → Type 0} {loaded : Bool} {source_rose : Type 0} {takes : Command → Type 0} {idle : Type 0} {before now now' : ℕ} {place : JudgedInput} {reader : Buffered} {pending pending' : List ℕ}
     (going : Going left left' held held' stands takes idle before now place reader pending) (form : IsPlace place) (end : reader.ended ≡ true → IsAtEnd left') (g : Gathered held' held'' pending' pending)
     → Tells (world_of place) going.read.commands stands' (now' - before) (going.w ++ g.given) pending' going.m → now ≤ now' → BeforeDump (input going form end) going.read
-    → RanTo left left' held held'' stands' (now' - before) pending' (Err (Tell trouble.Memory))
+    → HasStopped left left' held held'' stands' loaded source_rose (now' - before) pending' (Err (Tell trouble.Memory))
 unfolding input going_given
 ran_none going form end g tells rose dump = ran_demanded (going_given going g tells rose) form end trouble.Memory (inr dump, refl)

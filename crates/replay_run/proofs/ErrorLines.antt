@@ -1,4 +1,4 @@
--- How long an error line is.
+-- The length of an error line.
 use Rattle.std.proofs.Common.{◌≡◌, ℕ, ◌<◌, ◌≤◌, ◌^◌, List, [], ◌∷◌, ◌++◌, length, refl, codes, decimal, arith, lit≤}
 use Rattle.std.proofs.lemmas.List.{length-append}
 use Rattle.std.proofs.lemmas.Fmt.{length-decimal-le}
@@ -16,7 +16,7 @@ error_short n words number few =
     let second : length (codes ": ") ≡ 2 = refl in
     omega (arith, first, second, length-append (codes "error line ") (decimal n ++ (codes ": " ++ (words ++ 10 ∷ []))), length-append (decimal n) (codes ": " ++ (words ++ 10 ∷ [])), length-append (codes ": ") (words ++ 10 ∷ []), length-append words (10 ∷ []), number, few)
 
--- the words of an area without room
+-- the words for an area without room
 pub exhausted_short : (area : List ℕ) (charged wanted quota : ℕ) → length area ≤ 16 → length (decimal charged) ≤ 20 → length (decimal wanted) ≤ 20 → length (decimal quota) ≤ 20 → length (exhausted_words area charged wanted quota) ≤ 120
 exhausted_short area charged wanted quota a b c d =
     let first : length (codes "exhausted ") ≡ 10 = refl in

@@ -1,4 +1,4 @@
--- What an event does between two lines.
+-- The effect of an event between two lines.
 use Rattle.std.proofs.Common.{◌≡◌, ◌⊎◌, inl, inr, ℕ, ◌-◌, ◌<◌, ◌≤◌, List, [], ◌∷◌, ◌++◌, length, get_or, Option, Some, None, Ok, refl, sym, subst, ◌∙◌, arith}
 use Rattle.std.proofs.lemmas.List.{length-append, get_or_at, get_or_append_left}
 use Rattle.std.proofs.lemmas.Bool.{cases_lt}
@@ -23,7 +23,7 @@ use Rattle.replay_run.proofs.Openable.{few_at, sound_at}
 use Rattle.replay_run.proofs.Runs.{AreInLimits-append}
 use Rattle.replay_run.proofs.Telling.{tells_moved, tells_as, told_more, told_moved, told_reached}
 
--- what holds behind a line whose event was done
+-- what holds after a line whose event was done
 pub record Steps (held held' : List ℕ → Type 0) (stands : State → Type 0) (takes : Command → Type 0) (idle : Type 0) (before now : ℕ) (place : JudgedInput) (read : Read) (pending : List ℕ) (m base : ℕ) : Type 0 where
   pub w : List ℕ
   pub gained : Gained held held' w
@@ -35,7 +35,7 @@ pub record Steps (held held' : List ℕ → Type 0) (stands : State → Type 0) 
   pub limits : AreInLimits read.commands
   pub behind : (n : ℕ) → m ≤ n → n < length read.starts → base ≤ get_or read.starts n 0
 
--- the machine can be given the command of a line that was accepted
+-- the machine takes the command of an accepted line
 pub takes_command : (old new : JudgedInput) (takes : Command → Type 0) → ((world : World) → world_of old ≡ Some world → (command : Command) → IsRunnable world command → takes command)
     → (event : Event) → Goes old event new → MayDo new.judge.builder.world event → (command : Command) → event ≡ Does command → takes command
 takes_command old new takes all Nothing goes may command is = absurd (cc (is))
@@ -44,7 +44,7 @@ takes_command old new takes all (Does c) goes may command is =
     let e : c ≡ command = cc (is) in
     subst takes e (all new.judge.builder.world goes.0 c may)
 
--- it stands for a state that a run in the world comes to
+-- the machine represents a state that a run in the world reaches
 pub is_in : (place : JudgedInput) {stands : State → Type 0} {rose : ℕ} {commands : List Command} {w pending : List ℕ} {m : ℕ} → IsPlace place → Tells (world_of place) commands stands rose w pending m → AreInLimits commands
     → (world : World) → world_of place ≡ Some world → IsIn world stands
 is_in place {stands} {rose} {commands} {w} {pending} {m} form tells limits world opened =
@@ -56,20 +56,20 @@ is_in place {stands} {rose} {commands} {w} {pending} {m} form tells limits world
       few = few_at place form world opened;
     }
 
--- so it does where a line asks for a command
+-- this is so if a line requests a command
 pub stands_command : (old new : JudgedInput) (stands : State → Type 0) → ((world : World) → world_of old ≡ Some world → IsIn world stands) → (event : Event) → Goes old event new → (command : Command) → event ≡ Does command
     → IsIn new.judge.builder.world stands
 stands_command old new stands all Nothing goes command is = absurd (cc (is))
 stands_command old new stands all Opens goes command is = absurd (cc (is))
 stands_command old new stands all (Does c) goes command is = all new.judge.builder.world goes.0
 
--- the machine is idle where a line opens a world
+-- the machine is idle if a line opens a world
 pub idle_opens : (old new : JudgedInput) (idle : Type 0) → (world_of old ≡ None → idle) → (event : Event) → Goes old event new → event ≡ Opens → idle
 idle_opens old new idle before Nothing goes is = absurd (cc (is))
 idle_opens old new idle before Opens goes is = before goes.0
 idle_opens old new idle before (Does c) goes is = absurd (cc (is))
 
--- what else stays while nothing is done
+-- what else remains while nothing is done
 pub takes_with : (world : World) (took takes : Command → Type 0) (was is : Type 0) {had has : Type 0} (event : Event) → (event ≡ Nothing → had → has) → TakesAfter event world took takes was is → TakesAfter event world took takes (was × had) (is × has)
 takes_with world took takes was is Nothing stays t = (t.0, λ both. (t.1 both.0, stays refl both.1))
 takes_with world took takes was is Opens stays t = t

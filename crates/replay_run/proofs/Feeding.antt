@@ -1,6 +1,6 @@
--- A session's line: what was fed before, as a run whose source has given it, and what one more line adds.
+-- A line of a session: what was fed before it, seen as a run whose source has given that, and what one more line adds.
 use Rattle.std.proofs.Common.{◌≡◌, ◌≢◌, inl, inr, ℕ, zero, suc, ◌+◌, ◌-◌, ◌<◌, ◌≤◌, ◌^◌, List, [], ◌∷◌, ◌++◌, length, take, not, ◌&&◌, ◌==◌, Bool, true, false, Option, Some, None, Result, Ok, Err, refl, sym, ap, ◌∙◌, subst, arith}
-use Rattle.std.specs.Prelude.{IfErr, count_by, if◌then◌else◌}
+use Rattle.std.specs.Prelude.{IfErr, count_by, if◌then◌else◌, is_some}
 use Rattle.std.proofs.lemmas.List.{append-nil, append_assoc, length-append, length-take-le, take_all, drop_all, get_or_at, take-append-le}
 use Rattle.std.proofs.lemmas.Bool.Decides.{leb_tells}
 use Rattle.outer_ports.specs.Ports.{Gained}
@@ -35,10 +35,11 @@ use Rattle.input_verdict.proofs.Judged.{AreInLimits, judged_keeps}
 use Rattle.replay_run.specs.declared.halt.Halt.{Halt}
 use Rattle.replay_run.specs.declared.halt.Halt.TheVariants as halts
 use Rattle.replay_run.specs.Replies.{Answered, is_fault}
-use Rattle.replay_run.specs.Outcome.{Ran, Wrote}
-use Rattle.replay_run.specs.Session.{GoesOn, Seen, fed_of, trouble_of}
-use Rattle.replay_run.specs.Steps.{Acted, FailsInDump, RanTo, Tells, closed, stop_of}
+use Rattle.replay_run.specs.Outcome.{Wrote}
+use Rattle.replay_run.specs.Session.{GoesOn, Seen, fed_of, observed, trouble_of}
+use Rattle.replay_run.specs.Steps.{Acted, FailsInDump, Tells, closed, stop_of}
 use Rattle.replay_run.specs.OneLine.{LineDone, LineHalted, LineRefused}
+use Rattle.replay_run.proofs.Observations.{HasRun, HasStopped, observes}
 use Rattle.replay_run.proofs.Runs.{run_length}
 use Rattle.replay_run.proofs.Telling.{tells_answered}
 use Rattle.replay_run.proofs.Going.{Going, passes_accepted}
@@ -48,7 +49,7 @@ use Rattle.replay_run.proofs.Finishing.{ran_finish}
 
 -- What was read
 
--- more lines are read after those that were
+-- more lines are read after the others
 decided_then : (from to : Read) (said : Said) (lines rest : List Line) → ((next : Read) → judged next lines ≡ Ok to → judged next (lines ++ rest) ≡ judged to rest)
     → decided from said (λ next. judged next lines) ≡ Ok to → decided from said (λ next. judged next (lines ++ rest)) ≡ judged to rest
 decided_then from to (Ok next) lines rest more is = more (noted from next.event next.place) is
@@ -112,7 +113,7 @@ no_feed_take (suc n) (byte ∷ text) one = go (not (byte == 10)) one (no_feed_ta
     go true is rest = rest is
     go false is rest = cc (is)
 
--- a piece of an input that is a line, or a front of one that decides it, as a reader holds it
+-- a piece of an input that is a line, or a prefix of a line that decides it, as a reader buffers it
 record IsFed (piece front : List ℕ) (most : ℕ) : Type 0 where
   found : IsFound (record { bytes = piece; ended = false }) most (record { length = length front; size = length piece })
   text : take (length front) piece ≡ front
@@ -137,7 +138,7 @@ front_fed text most one few long =
       short = omega (arith, all);
     }
 
--- of a text that is too long a front is fed
+-- if a text is too long, a prefix of it is fed
 pub fed_long : (text : List ℕ) → 32768 < length text → fed_of text ≡ take 32769 text
 fed_long text long = elim (leb_tells (length text) 32768) [ inl h ↦ absurd (omega (arith, h.1)) | inr h ↦ rw h.0 refl ]
 
@@ -156,7 +157,7 @@ enough_most : (over : Bool) (bytes : ℕ) → enough_bytes (2 ^ 40) over bytes �
 enough_most true bytes = omega arith
 enough_most false bytes = omega arith
 
--- What a line did, for a sink that stood for what was written before
+-- What a line did, for a sink that represented what was written before
 
 gained_after : {old new : List ℕ} (written : List ℕ) {given : List ℕ} → old ≡ [] → Gained (λ had. old ≡ had) (λ had. new ≡ had) given → Gained (λ had. written ≡ had) (λ had. written ++ new ≡ had) given
 gained_after {old} {new} written {given} none g =
@@ -178,7 +179,7 @@ acted_after old new written had pending world stood stands faults faults' (Does 
   ],
 )
 
--- a dump that the sink had no room for is one that found no memory
+-- if the sink had no room for a dump, the dump found no memory
 abbrev told : Halt → Halt
 told halts.Write = halts.Memory
 told halts.Read = halts.Read
@@ -214,10 +215,10 @@ acted_told held held' still had pending world stood stands faults faults' halt (
   ],
 )
 
--- A session that goes on, as a run
+-- An open session, as a run
 
 module _ {fed written : List ℕ} {s : Seen} (g : GoesOn fed written s) where
-  -- the bytes of the next piece are held by the reader
+  -- the bytes of the next piece are in the reader's buffer
   pub going_of : (piece : List ℕ) (over : Bool) → length piece ≤ 32769
       → Going (Some (fed ++ piece)) (Some []) (λ had. [] ≡ had) (λ had. written ≡ had) (StandsFor s.machine.heap) (Takes s.machine.heap) (s.machine.idle ≡ true) 0 s.machine.faults s.place (record { bytes = piece; ended = over }) []
   going_of piece over short =
@@ -249,7 +250,7 @@ module _ {fed written : List ℕ} {s : Seen} (g : GoesOn fed written s) where
         reached = omega arith;
       }
 
--- a run between two lines, as a session that goes on
+-- a run between two lines, as an open session
 goes_on_of : (fed written new pending : List ℕ) (place : JudgedInput) (machine : Holding) (s : Seen) → s.place ≡ place → s.machine ≡ machine
     → Going (Some fed) (Some []) (λ had. [] ≡ had) (λ had. written ++ new ≡ had) (StandsFor machine.heap) (Takes machine.heap) (machine.idle ≡ true) 0 machine.faults place (record { bytes = []; ended = false }) pending
     → IsPlace place → GoesOn fed (written ++ (new ++ pending)) s
@@ -289,11 +290,11 @@ goes_on_of fed written new pending place machine s place_is machine_is going for
       idle = going.idle_before;
     }
 
--- a run that stopped, with the line that is told
-wrote_of : {fed written : List ℕ} {stands : State → Type 0} {faults : ℕ} (outcome : Result (Unit {0}) Stop) (status : Status) (line : List ℕ) → (outcome ≢ Err (Tell trouble.Read)) → (outcome ≡ Err (Tell trouble.Swap) → 0 < faults)
-    → RanTo (Some fed) (Some []) (λ had. [] ≡ had) (λ had. written ≡ had) stands (faults - 0) [] outcome → Finished (λ had. written ≡ had) (λ had. written ++ line ≡ had) [] outcome status
-    → Wrote status stands ⊥ faults fed fed (written ++ line)
-wrote_of {fed} {written} {stands} {faults} outcome status line read swap r finished = at_is
+-- a run that stopped, with the line that it reports
+wrote_of : {fed written : List ℕ} {stands : State → Type 0} {loaded : Bool} {faults : ℕ} (outcome : Result (Unit {0}) Stop) (status : Status) (line : List ℕ) → (outcome ≢ Err (Tell trouble.Read)) → (outcome ≡ Err (Tell trouble.Swap) → 0 < faults)
+    → HasStopped (Some fed) (Some []) (λ had. [] ≡ had) (λ had. written ≡ had) stands loaded ⊥ (faults - 0) [] outcome → Finished (λ had. written ≡ had) (λ had. written ++ line ≡ had) [] outcome status
+    → Wrote status (observes fed fed (written ++ line) stands loaded ⊥ faults)
+wrote_of {fed} {written} {stands} {loaded} {faults} outcome status line read swap r finished = at_is
   where
     no_read : (o : Result (Unit {0}) Stop) → o ≢ Err (Tell trouble.Read) → IfErr o (λ stop. stop ≡ Tell trouble.Read → ⊥)
     no_read (Ok x) other = tt
@@ -303,22 +304,22 @@ wrote_of {fed} {written} {stands} {faults} outcome status line read swap r finis
     rose (Ok x) other = tt
     rose (Err stop) other = λ is. other (ap Err is)
 
-    ran : Ran (Some fed) (Some []) (λ had. [] ≡ had) (λ had. written ++ line ≡ had) stands ⊥ (faults - 0) status
+    ran : HasRun (Some fed) (Some []) (λ had. [] ≡ had) (λ had. written ++ line ≡ had) stands loaded ⊥ (faults - 0) status
     ran = ran_finish {source_rose = ⊥} 0 faults outcome status (no_read outcome read) (rose outcome swap) r finished
 
-    i_is : fed ≡ ran.i
-    i_is = ran.input
+    i_is : fed ≡ ran.0
+    i_is = ran.3.input
 
-    b_is : fed ≡ ran.b
-    b_is = (let e = ran.gave in cc (e)) ∙ append-nil ran.b
+    b_is : fed ≡ ran.1
+    b_is = (let e = ran.3.gave in cc (e)) ∙ append-nil ran.1
 
-    w_is : written ++ line ≡ ran.w
-    w_is = ran.gained.each [] refl
+    w_is : written ++ line ≡ ran.2
+    w_is = ran.3.gained.each [] refl
 
-    at_is : Wrote status stands ⊥ faults fed fed (written ++ line)
-    at_is = subst (λ rose. Wrote status stands ⊥ rose fed fed (written ++ line)) (less_nothing faults)
-        (subst (λ i. Wrote status stands ⊥ (faults - 0) i fed (written ++ line)) (sym i_is) (subst (λ b. Wrote status stands ⊥ (faults - 0) ran.i b (written ++ line)) (sym b_is)
-        (subst (λ w. Wrote status stands ⊥ (faults - 0) ran.i ran.b w) (sym w_is) ran.wrote)))
+    at_is : Wrote status (observes fed fed (written ++ line) stands loaded ⊥ faults)
+    at_is = subst (λ rose. Wrote status (observes fed fed (written ++ line) stands loaded ⊥ rose)) (less_nothing faults)
+        (subst (λ i. Wrote status (observes i fed (written ++ line) stands loaded ⊥ (faults - 0))) (sym i_is) (subst (λ b. Wrote status (observes ran.0 b (written ++ line) stands loaded ⊥ (faults - 0))) (sym b_is)
+        (subst (λ w. Wrote status (observes ran.0 ran.1 w stands loaded ⊥ (faults - 0))) (sym w_is) ran.3.wrote)))
 
 trouble_swap : (stop : Stop) → trouble_of stop ≡ trouble.Swap → stop ≡ Tell trouble.Swap
 trouble_swap (Tell t) is = ap Tell is
@@ -366,32 +367,32 @@ module _ {fed written : List ℕ} {s : Seen} (g : GoesOn fed written s) (text : 
       goes_on_of (fed ++ fed_of text) written new pending place machine after place_is machine_is
       (going_act here g.form (λ is. absurd (never is)) found p next (judged_here ∙ d.accepted) (record { bytes = []; ended = false }) (sym (drop_all (length (fed_of text)) (fed_of text) (omega arith))) refl acted' d.takes_after) form
 
-  -- a line was refused, and its trouble told
-  pub line_refused : {same : Type 0} (stop : Stop) → stop ≢ Tell trouble.Read → (stop ≡ Tell trouble.Swap → 0 < s.machine.faults) → LineRefused s.place front size stop same
-      → Wrote (status_of (trouble_of stop)) (StandsFor s.machine.heap) ⊥ s.machine.faults (fed ++ fed_of text) (fed ++ fed_of text) (written ++ trouble_line (trouble_of stop))
-  line_refused stop read swap r =
+  -- a line was refused, and its trouble reported
+  pub line_refused : {same : Type 0} (stop : Stop) → stop ≢ Tell trouble.Read → (stop ≡ Tell trouble.Swap → 0 < s.machine.faults) → LineRefused s.place front size stop same → (s.machine.idle ≡ true → is_some s.machine.heap ≡ false)
+      → Wrote (status_of (trouble_of stop)) (observed (fed ++ fed_of text) (written ++ trouble_line (trouble_of stop)) s.machine)
+  line_refused stop read swap r bare =
       let t = trouble_of stop in
       let is : t ≡ r.trouble = ap trouble_of r.stops in
       wrote_of (Err (Tell t)) (status_of t) (trouble_line t) (λ e. read (trouble_read stop (cc (e)))) (λ e. swap (trouble_swap stop (cc (e))))
-      (subst (λ t. RanTo (Some (fed ++ fed_of text)) (Some []) (λ had. [] ≡ had) (λ had. written ≡ had) (StandsFor s.machine.heap) (s.machine.faults - 0) [] (Err (Tell t))) (sym is)
-      (ran_judge here g.form (λ e. absurd (never e)) (enough s.place) found r.trouble r.place' refl fed_here.found (subst (λ said. Judged s.place r.place' (Err r.trouble) said) (sym judged_here) r.judged) r.early))
+      (subst (λ t. HasStopped (Some (fed ++ fed_of text)) (Some []) (λ had. [] ≡ had) (λ had. written ≡ had) (StandsFor s.machine.heap) (is_some s.machine.heap) ⊥ (s.machine.faults - 0) [] (Err (Tell t))) (sym is)
+      (ran_judge here g.form (λ e. absurd (never e)) (enough s.place) found r.trouble r.place' refl fed_here.found (subst (λ said. Judged s.place r.place' (Err r.trouble) said) (sym judged_here) r.judged) r.early (λ none. bare (g.idle none))))
       (trouble_finished t)
 
-  -- a line was accepted, and the run stops at what it brings about
+  -- a line was accepted, and the run stops in what it requests
   pub line_halted : (place : JudgedInput) (machine : Holding) (room : Type 0) (old new : List ℕ → Type 0) (had pending : List ℕ) (stop : Stop) → stop ≢ Tell trouble.Read → (stop ≡ Tell trouble.Swap → 0 < machine.faults) → room
-      → LineHalted s.place place front size stop room (StandsFor s.machine.heap) (StandsFor machine.heap) s.machine.faults machine.faults old new had pending
-      → Wrote (status_of (trouble_of stop)) (StandsFor machine.heap) ⊥ machine.faults (fed ++ fed_of text) (fed ++ fed_of text) (written ++ trouble_line (trouble_of stop))
+      → LineHalted s.place place front size stop room (StandsFor s.machine.heap) (StandsFor machine.heap) (is_some machine.heap) s.machine.faults machine.faults old new had pending
+      → Wrote (status_of (trouble_of stop)) (observed (fed ++ fed_of text) (written ++ trouble_line (trouble_of stop)) machine)
   line_halted place machine room old new had pending stop read swap has h =
       let t = trouble_of stop in
       let next : Next = record { event = h.event; place = place } in
       let p = passes next h.accepted in
       let acted = acted_told old new (λ had. written ≡ had) had pending place.judge.builder.world (StandsFor s.machine.heap) (StandsFor machine.heap) s.machine.faults machine.faults h.halt h.event (λ write. h.fits write has) h.acted in
-      let ran = ran_stopped here g.form (λ e. absurd (never e)) found p next (judged_here ∙ h.accepted) machine.faults h.event (told h.halt) refl acted in
+      let ran = ran_stopped here g.form (λ e. absurd (never e)) found p next (judged_here ∙ h.accepted) machine.faults h.event (told h.halt) refl h.unloaded acted in
       let is : stop_of (told h.halt) ≡ Tell t = told_trouble h.halt ∙ ap (λ s. Tell (trouble_of s)) (sym h.stops) in
       wrote_of (Err (Tell t)) (status_of t) (trouble_line t) (λ e. read (trouble_read stop (cc (e)))) (λ e. swap (trouble_swap stop (cc (e))))
-      (subst (λ o. RanTo (Some (fed ++ fed_of text)) (Some []) (λ had. [] ≡ had) (λ had. written ≡ had) (StandsFor machine.heap) (machine.faults - 0) [] (Err o)) is ran) (trouble_finished t)
+      (subst (λ o. HasStopped (Some (fed ++ fed_of text)) (Some []) (λ had. [] ≡ had) (λ had. written ≡ had) (StandsFor machine.heap) (is_some machine.heap) ⊥ (machine.faults - 0) [] (Err o)) is ran) (trouble_finished t)
 
--- Where the input ends
+-- The end of the input
 
 closed_tells : (place : JudgedInput) (stop : Stop) → closed (ending_at place) ≡ Err stop → (n : ℕ) × (reason : Reason) × (stop ≡ Tell (trouble.Line n reason))
 closed_tells place stop is = go place.judge.ended is
@@ -401,22 +402,22 @@ closed_tells place stop is = go place.judge.ended is
     go false is = (place.lines + 1, early_reason place.lines NotAWorld, cc (is))
 
 module _ {fed written : List ℕ} {s : Seen} (g : GoesOn fed written s) where
-  ends_here : RanTo (Some fed) (Some []) (λ had. [] ≡ had) (λ had. written ≡ had) (StandsFor s.machine.heap) (s.machine.faults - 0) [] (closed (ending_at s.place))
-  ends_here = subst (λ b. RanTo (Some b) (Some []) (λ had. [] ≡ had) (λ had. written ≡ had) (StandsFor s.machine.heap) (s.machine.faults - 0) [] (closed (ending_at s.place))) (append-nil fed)
+  ends_here : HasStopped (Some fed) (Some []) (λ had. [] ≡ had) (λ had. written ≡ had) (StandsFor s.machine.heap) (is_some s.machine.heap) ⊥ (s.machine.faults - 0) [] (closed (ending_at s.place))
+  ends_here = subst (λ b. HasStopped (Some b) (Some []) (λ had. [] ≡ had) (λ had. written ≡ had) (StandsFor s.machine.heap) (is_some s.machine.heap) ⊥ (s.machine.faults - 0) [] (closed (ending_at s.place))) (append-nil fed)
       (ran_end (going_of g [] true (omega arith)) g.form (λ _. refl) (refl, refl))
 
-  pub end_whole : closed (ending_at s.place) ≡ Ok tt → Wrote Done (StandsFor s.machine.heap) ⊥ s.machine.faults fed fed (written ++ [])
-  end_whole is = wrote_of (Ok tt) Done [] (λ e. cc (e)) (λ e. absurd (cc (e))) (subst (λ o. RanTo (Some fed) (Some []) (λ had. [] ≡ had) (λ had. written ≡ had) (StandsFor s.machine.heap) (s.machine.faults - 0) [] o) is ends_here)
+  pub end_whole : closed (ending_at s.place) ≡ Ok tt → Wrote Done (observed fed (written ++ []) s.machine)
+  end_whole is = wrote_of (Ok tt) Done [] (λ e. cc (e)) (λ e. absurd (cc (e))) (subst (λ o. HasStopped (Some fed) (Some []) (λ had. [] ≡ had) (λ had. written ≡ had) (StandsFor s.machine.heap) (is_some s.machine.heap) ⊥ (s.machine.faults - 0) [] o) is ends_here)
       (inl (refl, record { each = λ had e. ap (λ h. h ++ []) e }))
 
-  pub end_early : (stop : Stop) → closed (ending_at s.place) ≡ Err stop → Wrote (status_of (trouble_of stop)) (StandsFor s.machine.heap) ⊥ s.machine.faults fed fed (written ++ trouble_line (trouble_of stop))
+  pub end_early : (stop : Stop) → closed (ending_at s.place) ≡ Err stop → Wrote (status_of (trouble_of stop)) (observed fed (written ++ trouble_line (trouble_of stop)) s.machine)
   end_early stop is =
       let told = closed_tells s.place stop is in
       let t = trouble.Line told.0 told.1 in
       let same : trouble_of stop ≡ t = ap trouble_of told.2 in
-      subst (λ t. Wrote (status_of t) (StandsFor s.machine.heap) ⊥ s.machine.faults fed fed (written ++ trouble_line t)) (sym same)
+      subst (λ t. Wrote (status_of t) (observed fed (written ++ trouble_line t) s.machine)) (sym same)
       (wrote_of (Err (Tell t)) (status_of t) (trouble_line t) (λ e. cc (e)) (λ e. absurd (cc (e)))
-      (subst (λ o. RanTo (Some fed) (Some []) (λ had. [] ≡ had) (λ had. written ≡ had) (StandsFor s.machine.heap) (s.machine.faults - 0) [] o) (is ∙ ap Err told.2) ends_here) (trouble_finished t))
+      (subst (λ o. HasStopped (Some fed) (Some []) (λ had. [] ≡ had) (λ had. written ≡ had) (StandsFor s.machine.heap) (is_some s.machine.heap) ⊥ (s.machine.faults - 0) [] o) (is ∙ ap Err told.2) ends_here) (trouble_finished t))
 
 -- A session that was fed nothing
 

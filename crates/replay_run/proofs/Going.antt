@@ -28,10 +28,10 @@ pub record Going (left left' : Option (List ℕ)) (held held' : List ℕ → Typ
   pub b : List ℕ
   pub w : List ℕ
   pub read : Read
-  -- so many replies, and so many bytes, stood before the bytes that were taken last
+  -- m replies and `base` bytes preceded the bytes that were taken last
   pub m : ℕ
   pub base : ℕ
-  -- the bytes are the lines, and then what the reader holds
+  -- the bytes are the lines, followed by what is buffered
   pub taken : Taken left left' lines b place.bytes reader
   pub gained : Gained held held' w
   -- the lines were read
@@ -39,13 +39,13 @@ pub record Going (left left' : Option (List ℕ)) (held held' : List ℕ → Typ
   pub at : read.place ≡ place
   pub counts : length read.starts ≡ length read.commands
   pub limits : AreInLimits read.commands
-  -- and their commands answered
+  -- and their commands were answered
   pub tells : Tells (world_of place) read.commands stands (now - before) w pending m
-  -- from the trace on the machine can be given each command that can be run, and before it is idle
+  -- once the world is open, the machine takes each command that can be run; before, it is idle
   pub takes_all : (world : World) → world_of place ≡ Some world → (command : Command) → IsRunnable world command → takes command
   pub idle_before : world_of place ≡ None → idle
   pub later : before ≤ now
-  -- no more was taken than the buffer holds
+  -- no more bytes were taken than the buffer has room for
   pub near : length b ≤ base + 32769
   pub behind : (n : ℕ) → m ≤ n → n < length read.starts → base ≤ get_or read.starts n 0
   pub reached : base ≤ place.bytes
@@ -74,7 +74,7 @@ going_start {left} faults reader pending none nothing idle = record {
   reached = omega arith;
 }
 
--- the sink gained more of what was pending, and the machine stands for what it stood for
+-- the sink gained more of what was pending, and the machine still represents what it represented
 unfoldable pub going_given : {left left' : Option (List ℕ)} {held held' held'' : List ℕ → Type 0} {stands stands' : State → Type 0} {takes : Command → Type 0} {idle : Type 0} {before now now' : ℕ} {place : JudgedInput} {reader : Buffered} {pending pending' : List ℕ}
     (going : Going left left' held held' stands takes idle before now place reader pending) (g : Gathered held' held'' pending' pending) → Tells (world_of place) going.read.commands stands' (now' - before) (going.w ++ g.given) pending' going.m → now ≤ now'
     → Going left left' held held'' stands' takes idle before now' place reader pending'
@@ -140,7 +140,7 @@ going_filled {left} {left'} {left''} {held} {held'} {held''} {stands} {takes} {i
     go (inl none) = filled going.m going.base (tells_moved g.given g.all going.tells) (omega (arith, length-append going.b piece.0, ap length none, going.near)) going.behind going.reached
     go (inr none) = filled (length going.read.commands) place.bytes (tells_whole none (tells_moved g.given g.all going.tells)) (omega (arith, taken.long)) (λ n l below. absurd (omega (arith, going.counts))) (omega arith)
 
--- a start that is still to come, or was read after the bytes that were taken last
+-- the start of a command that is still to be read, or was read after the bytes that were taken last
 start_from : (base m n : ℕ) (starts later : List ℕ) → ((n : ℕ) → m ≤ n → n < length starts → base ≤ get_or starts n 0) → IsFrom base later → m ≤ n → n ≤ length starts → n < length (starts ++ later) → base ≤ get_or (starts ++ later) n 0
 start_from base m n starts later behind from above within below = go (cases_lt n (length starts)) later from below
   where
@@ -153,7 +153,7 @@ IsFrom-lower : (a b : ℕ) (xs : List ℕ) → a ≤ b → IsFrom b xs → IsFro
 IsFrom-lower a b [] l h = tt
 IsFrom-lower a b (x ∷ xs) l h = omega arith
 
--- what was read up to here, and lines behind it
+-- what was read up to here, and the lines after it
 pub ahead : (i b : List ℕ) (read : Read) (lines : List Line) (base m : ℕ) → verdict i ≡ ended (judged read lines) → ((n : ℕ) → m ≤ n → n < length read.starts → base ≤ get_or read.starts n 0) → base ≤ read.place.bytes → length b ≤ base + 32769
     → (n : ℕ) → m ≤ n → n ≤ length read.starts → IsAhead n i b
 ahead i b read lines base m is behind reached near n above within =
@@ -177,7 +177,7 @@ judges_passes place reader found rest none p = record {
   same = ap (judged_as place p.line.text) p.size ∙ ap (λ t. judged_as place t found.size) p.text;
 }
 
--- the prefix of a line is refused as the whole line is
+-- the prefix of a line is refused as the whole line would be
 front_refused : (place : JudgedInput) (reader : Buffered) (found : Found) → place.bytes ≤ 2 ^ 40 → IsAllBuffered reader found → enough place ≤ length reader.bytes → judged_as place (take found.length reader.bytes) found.size ≡ Err (OfLine (place.lines + 1) (front_reason place))
 front_refused place reader found within h many =
     let l : length (take found.length reader.bytes) ≡ length reader.bytes = ap length (take_all found.length reader.bytes (omega (arith, h.all))) in
@@ -196,7 +196,7 @@ judges_next place reader many found rest within of none (inr (inr (h, front))) =
       same = judged_front place k.line.text (size_of k.line) within (at_least f k.long) (at_least f (omega (arith, k.long))) ∙ sym (front_refused place reader found within h f);
     }
 
--- a line that is accepted is passed whole
+-- an accepted line is passed as a whole
 pub passes_accepted : (reader : Buffered) (many : ℕ) (found : Found) (place : JudgedInput) (next : Next) → place.bytes ≤ 2 ^ 40 → many ≡ enough place → judged_as place (take found.length reader.bytes) found.size ≡ Ok next → IsFound reader many found → Passes reader found
 passes_accepted reader many found place next within of accepted (inl h) = passes_whole reader found h
 passes_accepted reader many found place next within of accepted (inr (inl h)) = passes_last reader found h

@@ -14,6 +14,7 @@ pub mod NoDumps
 mod MadeBare
 pub mod Complete
 mod Words
+pub mod Observations
 pub mod Reading
 mod Made
 pub mod Feeding

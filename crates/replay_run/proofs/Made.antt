@@ -1,5 +1,5 @@
--- A run of the made input.
-use Rattle.std.proofs.Common.{◌≡◌, ◌⊎◌, inl, inr, ℕ, ◌≤◌, List, [], ◌++◌, length, Option, Some, refl, sym, ap, ◌∙◌, subst, arith}
+-- A run of the generated input.
+use Rattle.std.proofs.Common.{◌≡◌, ◌⊎◌, inl, inr, ℕ, ◌≤◌, List, [], ◌++◌, length, Option, Some, refl, sym, ap, ◌∙◌, subst, arith, Bool, false}
 use Rattle.std.specs.Prelude.{IfSome}
 use Rattle.std.specs.List.{All}
 use Rattle.std.proofs.lemmas.List.{append-nil}
@@ -14,7 +14,8 @@ use Rattle.line_input.specs.declared.statuses.status.RunError.TheVariants.{Memor
 use Rattle.line_input.specs.Statuses.{Closed, trouble_line}
 use Rattle.input_verdict.specs.Verdict.{Read, Whole, start, verdict, world_of}
 use Rattle.input_verdict.proofs.MadeWhole.{made_whole}
-use Rattle.replay_run.specs.Outcome.{BeforeDump, Breaks, HasObject, Ran, Wrote}
+use Rattle.replay_run.specs.Outcome.{BeforeDump, Breaks, HasObject, IsUnloaded, Wrote}
+use Rattle.replay_run.proofs.Observations.{HasRun, observes}
 use Rattle.replay_run.specs.Exercise.{Ends, Exercised, RanMade}
 use Rattle.command_words.specs.declared.mode.Mode.TheVariants.{Exercise}
 use Rattle.replay_run.proofs.MadeBare.{made_bare}
@@ -37,57 +38,57 @@ no_object number count i is h =
 stays : Rose 0 0 → ⊥
 stays rose = omega (arith, rose)
 
--- what was gained is counted
+-- the tally is that of what was gained
 counted : (first sink : Counted) (w : List ℕ) → first ≡ counted_of [] → ((had : List ℕ) → first ≡ counted_of had → sink ≡ counted_of (had ++ w)) → sink ≡ counted_of w
 counted first sink w starts each = each [] starts
 
--- no command of the made input is a dump, so memory can run out before the first alone
-before_all : (number count : ℕ) (i : List ℕ) (read : Read) → i ≡ made number count → (read ≡ start) ⊎ BeforeDump i read → read ≡ start
-before_all number count i read is (inl e) = e
-before_all number count i read is (inr b) =
+-- no command of the generated input is a dump, so memory can run out only before the first command
+before_all : (number count : ℕ) (i : List ℕ) (loaded : Bool) (read : Read) → i ≡ made number count → IsUnloaded loaded read ⊎ BeforeDump i read → IsUnloaded loaded read
+before_all number count i loaded read is (inl e) = e
+before_all number count i loaded read is (inr b) =
     absurd (no_dump read.commands b.later (subst (All IsOther) b.commands (subst (λ (xs : List ℕ). All IsOther (verdict xs).read.commands) (sym is) (made_undumped number count))))
 
-module _ (number count : ℕ) (few : count ≤ 1000000) (stands : State → Type 0) (source_rose : Type 0) (rose : ℕ) (tally : Tally) (first sink : Counted) (starts : first ≡ counted_of []) (tells : tally ≡ sink.tally) where
-  ended_made : (ended : Status) (i b w : List ℕ) → i ≡ made number count → sink ≡ counted_of w → (ended ≡ ReadFailed → Rose 0 0) → (ended ≡ WriteFailed → Rose 0 0) → Wrote ended stands source_rose rose i b w
-      → RanMade number count stands rose ended tally
-  ended_made Done i b w is holds read write wrote = record {
-    read = wrote.0;
-    replies = wrote.1;
-    ends = subst (λ (xs : List ℕ). Ends Done xs wrote.0) is wrote.3.1;
-    answered = wrote.4;
-    untouched = wrote.7;
-    counts = λ _. tells ∙ ap (λ (c : Counted). c.tally) (holds ∙ ap counted_of (wrote.5 ∙ ap (λ (xs : List ℕ). wrote.1 ++ xs) wrote.3.2 ∙ append-nil wrote.1));
+module _ (number count : ℕ) (few : count ≤ 1000000) (stands : State → Type 0) (loaded : Bool) (source_rose : Type 0) (rose : ℕ) (tally : Tally) (first sink : Counted) (starts : first ≡ counted_of []) (tells : tally ≡ sink.tally) where
+  ended_made : (ended : Status) (i b w : List ℕ) → i ≡ made number count → sink ≡ counted_of w → (ended ≡ ReadFailed → Rose 0 0) → (ended ≡ WriteFailed → Rose 0 0) → Wrote ended (observes i b w stands loaded source_rose rose)
+      → RanMade number count stands loaded rose ended tally
+  ended_made Done i b w is holds read write e = record {
+    read = e.read;
+    replies = e.replies;
+    ends = subst (λ (xs : List ℕ). Ends Done loaded xs e.read) is e.demands.1;
+    answered = e.answered;
+    untouched = e.untouched;
+    counts = λ _. tells ∙ ap (λ (c : Counted). c.tally) (holds ∙ ap counted_of (e.written ∙ ap (λ (xs : List ℕ). e.replies ++ xs) e.demands.2 ∙ append-nil e.replies));
   }
-  ended_made NoMemory i b w is holds read write wrote = record {
-    read = wrote.0;
-    replies = wrote.1;
-    ends = before_all number count i wrote.0 is wrote.3.0;
-    answered = wrote.4;
-    untouched = wrote.7;
-    counts = λ e. absurd (cc (e));
+  ended_made NoMemory i b w is holds read write e = record {
+    read = e.read;
+    replies = e.replies;
+    ends = before_all number count i loaded e.read is e.demands.0;
+    answered = e.answered;
+    untouched = e.untouched;
+    counts = λ other. absurd (cc (other));
   }
-  ended_made SwapFailed i b w is holds read write wrote = no_object number count i is wrote.3.1
-  ended_made WriteFailed i b w is holds read write wrote = absurd (stays (write refl))
-  ended_made ReadFailed i b w is holds read write wrote = absurd (stays (read refl))
-  ended_made Refused i b w is holds read write wrote = broken Refused number count i wrote.0 wrote.2 few is wrote.3
-  ended_made NoSpace i b w is holds read write wrote = broken NoSpace number count i wrote.0 wrote.2 few is wrote.3.0
-  ended_made Usage i b w is holds read write wrote = absurd wrote.3
-  ended_made NoObject i b w is holds read write wrote = absurd wrote.3
+  ended_made SwapFailed i b w is holds read write e = no_object number count i is e.demands.1
+  ended_made WriteFailed i b w is holds read write e = absurd (stays (write refl))
+  ended_made ReadFailed i b w is holds read write e = absurd (stays (read refl))
+  ended_made Refused i b w is holds read write e = broken Refused number count i e.read e.line few is e.demands
+  ended_made NoSpace i b w is holds read write e = broken NoSpace number count i e.read e.line few is e.demands.0
+  ended_made Usage i b w is holds read write e = absurd e.demands
+  ended_made NoObject i b w is holds read write e = absurd e.demands
 
   pub ran_made : (left left' : Option (List ℕ)) (ended : Status) → left ≡ Some (made number count) → (ended ≡ ReadFailed → Rose 0 0) → (ended ≡ WriteFailed → Rose 0 0)
-      → Ran left left' (λ bytes. first ≡ counted_of bytes) (λ bytes. sink ≡ counted_of bytes) stands source_rose rose ended → RanMade number count stands rose ended tally
-  ran_made left left' ended tells read write ran =
-      let same : made number count ≡ ran.i = subst (λ l. IfSome l (λ bytes. bytes ≡ ran.i)) tells ran.input in
-      ended_made ended ran.i ran.b ran.w (sym same) (counted first sink ran.w starts ran.gained.each) read write ran.wrote
+      → HasRun left left' (λ bytes. first ≡ counted_of bytes) (λ bytes. sink ≡ counted_of bytes) stands loaded source_rose rose ended → RanMade number count stands loaded rose ended tally
+  ran_made left left' ended tells read write (i, b, w, ran) =
+      let same : made number count ≡ i = subst (λ l. IfSome l (λ bytes. bytes ≡ i)) tells ran.input in
+      ended_made ended i b w (sym same) (counted first sink w starts ran.gained.each) read write ran.wrote
 
--- the exercise that was asked for
-pub exercised_at : (number count : ℕ) {a b : ℕ} {held held' : List ℕ → Type 0} {stands : State → Type 0} {rose : ℕ} (status : Status) → Some (Exercise a b) ≡ Some (Exercise number count) → Exercised a b held held' stands rose status
-    → Exercised number count held held' stands rose status
-exercised_at number count {a} {b} {held} {held'} {stands} {rose} status is e =
+-- the requested exercise
+pub exercised_at : (number count : ℕ) {a b : ℕ} {held held' : List ℕ → Type 0} {stands : State → Type 0} {loaded : Bool} {rose : ℕ} (status : Status) → Some (Exercise a b) ≡ Some (Exercise number count) → Exercised a b held held' stands loaded rose status
+    → Exercised number count held held' stands loaded rose status
+exercised_at number count {a} {b} {held} {held'} {stands} {loaded} {rose} status is e =
     let first : a ≡ number = cc (is) in
     let second : b ≡ count = cc (is) in
-    subst (λ n. Exercised n count held held' stands rose status) first (subst (λ k. Exercised a k held held' stands rose status) second e)
+    subst (λ n. Exercised n count held held' stands loaded rose status) first (subst (λ k. Exercised a k held held' stands loaded rose status) second e)
 
--- memory ran out before the words were read
-pub exercised_nothing : {number count : ℕ} {held held' : List ℕ → Type 0} (stands : State → Type 0) (rose : ℕ) (status : Status) → rose ≡ 0 → Closed held held' (trouble_line Memory) NoMemory status → Exercised number count held held' stands rose status
-exercised_nothing stands rose status none closed = record { ended = NoMemory; read = start; replies = []; ends = refl; answered = (refl, refl); untouched = λ _ _. none; wrote = closed }
+-- memory ran out before the arguments were read
+pub exercised_nothing : {number count : ℕ} {held held' : List ℕ → Type 0} (stands : State → Type 0) {loaded : Bool} (rose : ℕ) (status : Status) → rose ≡ 0 → loaded ≡ false → Closed held held' (trouble_line Memory) NoMemory status → Exercised number count held held' stands loaded rose status
+exercised_nothing stands rose status none unloaded closed = record { ended = NoMemory; read = start; replies = []; ends = (refl, unloaded); answered = (refl, refl); untouched = λ _ _. none; wrote = closed }

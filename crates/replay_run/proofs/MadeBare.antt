@@ -1,4 +1,4 @@
--- The world of the made input has no objects.
+-- The world of the generated input has no objects.
 use Rattle.std.proofs.Common.{◌≡◌, ℕ, ◌+◌, List, [], ◌∷◌, true, false, Option, Some, refl, sym, ap, ◌∙◌, arith}
 use Rattle.std.specs.Prelude.{replicate}
 use Rattle.lisp_graph.specs.declared.object.Value.TheVariants.{Nil}
@@ -22,7 +22,7 @@ use Rattle.replay_run.proofs.NoDumps.{lines_at}
 abbrev head : ℕ → Line
 head i = record { text = header_line i; whole = true }
 
--- the input is these lines, and then others
+-- the input is these lines, followed by others
 header : (number count : ℕ) → (rest : List Line) × (lines_of (made number count) ≡ head 0 ∷ head 1 ∷ head 2 ∷ head 3 ∷ head 4 ∷ head 5 ∷ rest)
 header number count =
     let s1 = state_of count number 0 in
@@ -40,7 +40,7 @@ header number count =
           ∙ ap (λ ls. head 0 ∷ head 1 ∷ head 2 ∷ head 3 ∷ head 4 ∷ ls) (lines_at count s5 5 (count + 3) (count + 2) (omega arith)),
     )
 
--- the world that they say
+-- the world that they describe
 abbrev made_world : World
 made_world = record { space = made_space; areas = made_areas; objects = []; roots = replicate 16 Nil }
 

@@ -1,4 +1,4 @@
--- The made input has no dump.
+-- The generated input has no dump.
 use Rattle.std.proofs.Common.{◌≡◌, ℕ, zero, suc, ◌+◌, ◌-◌, ◌/◌, ◌%◌, List, [], ◌∷◌, ◌++◌, Bool, true, false, cond, Result, Ok, Err, refl, sym, ap, ◌∙◌, subst, append_assoc, arith}
 use Rattle.std.specs.Prelude.{◌==◌, ◌≢◌, if◌then◌else◌, nat_le, nat_lt}
 use Rattle.std.specs.List.{All}
@@ -23,13 +23,13 @@ use Rattle.input_verdict.proofs.WellFormed.{formed_feed}
 use Rattle.input_verdict.proofs.Accepted.{passed}
 use Rattle.replay_run.proofs.Undumped.{begins_with_d, says_no_dump}
 
--- The lines of the made input
+-- The lines of the generated input
 
 -- the text doesn't begin with d
 abbrev Starts : List ℕ → Type 0
 Starts text = begins_with_d text ≡ false
 
--- nor does a line feed stand in it
+-- and it contains no line feed
 abbrev IsPlain : List ℕ → Type 0
 IsPlain text = (no_feed text ≡ true) × Starts text
 
@@ -69,7 +69,7 @@ line_plain count state i =
 abbrev LineStarts : Line → Type 0
 LineStarts line = Starts line.text
 
--- the next line, and those behind it
+-- the next line, and those after it
 pub lines_at : (count state i left n : ℕ) → left ≡ suc n
     → lines_of (made_from count state i left) ≡ record { text = line_of count state i; whole = true } ∷ lines_of (made_from count (state_of count state i) (i + 1) n)
 unfolding made_from
@@ -89,7 +89,7 @@ lines_start count state i (suc left) =
     let rest : List Line = lines_of (made_from count (state_of count state i) (i + 1) left) in
     subst (All LineStarts) (sym (lines_at count state i (suc left) left refl)) (All-cons LineStarts line rest (line_plain count state i).1 (lines_start count (state_of count state i) (i + 1) left))
 
--- What they bring about
+-- What they request
 
 -- the command isn't a dump
 abbrev pub IsOther : Command → Type 0
@@ -152,7 +152,7 @@ all_other (line ∷ lines) read starts all =
 pub made_undumped : (number count : ℕ) → All IsOther (verdict (made number count)).read.commands
 made_undumped number count = all_other (lines_of (made number count)) start (lines_start count number 0 (count + 8)) (All-nil IsOther)
 
--- a dump isn't among others
+-- a dump isn't one of the other commands
 pub no_dump : (before later : List Command) → All IsOther (before ++ Dump ∷ later) → ⊥
 no_dump [] later all = All-head IsOther Dump later all refl
 no_dump (command ∷ before) later all = no_dump before later (All-tail IsOther command (before ++ Dump ∷ later) all)

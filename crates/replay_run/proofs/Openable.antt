@@ -13,7 +13,7 @@ use Rattle.input_verdict.specs.Verdict.{in_trace, world_of}
 pub opened_sound : (world : World) → IsAccepted world → IsSoundState (opening world)
 opened_sound world h = opening_sound world (world_whole world h.limits)
 
--- what holds of each world that is opened holds of the world of a trace
+-- what holds of each world that can be opened holds of the world of a trace
 opened_at : (P : World → Type 0) → ((world : World) → IsAccepted world → P world) → (place : JudgedInput) → IsPlace place → (world : World) → world_of place ≡ Some world → P world
 opened_at P each place form world is = go (in_trace place) refl is
   where
@@ -21,7 +21,7 @@ opened_at P each place form world is = go (in_trace place) refl is
     go true inside e = let same : place.judge.builder.world ≡ world = cc (e) in subst P same (each place.judge.builder.world (form.accepted inside))
     go false inside e = absurd (cc (e))
 
--- it is sound when it is opened
+-- such a world is sound when it is opened
 pub sound_at : (place : JudgedInput) → IsPlace place → (world : World) → world_of place ≡ Some world → IsSoundState (opening world)
 sound_at place form world is = opened_at (λ w. IsSoundState (opening w)) opened_sound place form world is
 

@@ -1,5 +1,5 @@
--- Past a line that was accepted.
-use Rattle.std.proofs.Common.{◌≡◌, ◌≢◌, inl, inr, ℕ, ◌+◌, ◌-◌, ◌<◌, ◌≤◌, ◌^◌, List, [], ◌∷◌, ◌++◌, length, take, drop, true, Option, Some, Ok, Err, refl, sym, ap, ◌∙◌, subst, arith}
+-- After a line that was accepted.
+use Rattle.std.proofs.Common.{◌≡◌, ◌≢◌, inl, inr, ℕ, ◌+◌, ◌-◌, ◌<◌, ◌≤◌, ◌^◌, List, [], ◌∷◌, ◌++◌, length, take, drop, true, Option, Some, Ok, Err, refl, sym, ap, ◌∙◌, subst, arith, Bool, false}
 use Rattle.std.proofs.lemmas.List.{append_assoc, length-append}
 use Rattle.outer_ports.specs.Ports.{IsAtEnd}
 use Rattle.outer_ports.proofs.Gains.{gained_more}
@@ -22,7 +22,8 @@ use Rattle.replay_run.specs.declared.halt.Halt.{Halt}
 use Rattle.replay_run.specs.declared.halt.Halt.TheVariants as halts
 use Rattle.replay_run.specs.Replies.{answer_text}
 use Rattle.replay_run.specs.Outcome.{BeforeDump, HasNoWorld, HasObject}
-use Rattle.replay_run.specs.Steps.{Acted, Answers, HasNoRoom, RanTo, TakesAfter, Tells, Told, stop_of}
+use Rattle.replay_run.specs.Steps.{Acted, Answers, HasNoRoom, TakesAfter, Tells, Told, stop_of}
+use Rattle.replay_run.proofs.Observations.{HasStopped}
 use Rattle.replay_run.proofs.Openable.{sound_at}
 use Rattle.replay_run.proofs.Runs.{AreInLimits-append}
 use Rattle.replay_run.proofs.Telling.{cut_reply, told_as, told_more, told_moved, told_reached}
@@ -31,7 +32,7 @@ use Rattle.replay_run.proofs.Going.{Going}
 use Rattle.replay_run.proofs.Events.{steps}
 use Rattle.replay_run.proofs.Ending.{ahead_here, input, input_is, none_left, ran_early, ran_none, ran_with, reached_here, unrisen, verdict_here}
 
--- the place stays within the limit
+-- the place remains within the limit
 pub fits_accepted : (reader : Buffered) (found : Found) (place : JudgedInput) (next : Next) → judged_as place (take found.length reader.bytes) found.size ≡ Ok next → Passes reader found → place.bytes + found.size ≤ 2 ^ 40
 fits_accepted reader found place next accepted p =
     let q = passed place (take found.length reader.bytes) found.size next accepted in
@@ -59,7 +60,7 @@ module _ {left left' : Option (List ℕ)} {held held' : List ℕ → Type 0} {st
   bytes_here : next.place.bytes ≡ place.bytes + found.size
   bytes_here = next_bytes place (take found.length reader.bytes) found.size next accepted
 
-  -- a line was read, and what it brings about done
+  -- a line was read, and what it requests was done
   pub going_act : {held'' : List ℕ → Type 0} {stands' : State → Type 0} {takes' : Command → Type 0} {idle' : Type 0} {now' : ℕ} {pending' : List ℕ} (reader' : Buffered) → reader'.bytes ≡ drop found.size reader.bytes → reader'.ended ≡ reader.ended
       → Acted next.event next.place.judge.builder.world stands stands' now now' held' held'' pending pending' (Ok tt) → TakesAfter next.event next.place.judge.builder.world takes takes' idle idle'
       → Going left left' held held'' stands' takes' idle' before now' next.place reader' pending'
@@ -90,7 +91,7 @@ module _ {left left' : Option (List ℕ)} {held held' : List ℕ → Type 0} {st
   verdict_next : verdict (input going form end) ≡ ended (judged next_read (lines_of (drop found.size reader.bytes ++ rest_of left')))
   verdict_next = verdict_here going form end ∙ ap (λ ls. ended (judged going.read ls)) (p.cuts (rest_of left') (none_left going form end)) ∙ ap ended (judged_next (lines_of (drop found.size reader.bytes ++ rest_of left')))
 
-  -- a world that is open behind the line is that of the input
+  -- a world that is open after the line is that of the input
   opened_behind : (world : World) → world_of next.place ≡ Some world → world_of (verdict (input going form end)).read.place ≡ Some world
   opened_behind world open_is =
       let inside : world_of next_read.place ≡ Some world = ap world_of (noted_place going.read next.event next.place) ∙ open_is in
@@ -102,7 +103,7 @@ module _ {left left' : Option (List ℕ)} {held held' : List ℕ → Type 0} {st
       let world = next.place.judge.builder.world in
       record { world = world; opened = opened_behind world open_is; some = some_of world.objects some }
 
-  -- the line's command, behind those that were read
+  -- the line's command, after those that were read
   opened_here : (command : Command) → Goes place (Does command) next.place → world_of (verdict (input going form end)).read.place ≡ Some next.place.judge.builder.world
   opened_here command goes =
       ap (λ v. world_of v.read.place) (verdict_here going form end) ∙ judged_world next.place.judge.builder.world going.read (lines_of (reader.bytes ++ rest_of left')) (ap world_of going.at ∙ goes.0)
@@ -115,10 +116,10 @@ module _ {left left' : Option (List ℕ)} {held held' : List ℕ → Type 0} {st
       ap (λ v. v.read.commands) verdict_next ∙ k.more ∙ ap (λ cs. cs ++ k.commands) names
 
   -- the sink failed in the text for the line's command
-  ran_reply : {held'' : List ℕ → Type 0} {stands' : State → Type 0} (now' : ℕ) {pending' : List ℕ} (command : Command) → next.event ≡ Does command → Goes place (Does command) next.place
+  ran_reply : {held'' : List ℕ → Type 0} {stands' : State → Type 0} {loaded : Bool} {source_rose : Type 0} (now' : ℕ) {pending' : List ℕ} (command : Command) → next.event ≡ Does command → Goes place (Does command) next.place
       → (t : Told next.place.judge.builder.world going.read.commands stands (now - before) going.w pending going.m) → now ≤ now'
-      → Answers next.place.judge.builder.world command t.last stands' now now' held' held'' pending pending' (Err halts.Write) → RanTo left left' held held'' stands' (now' - before) pending' (Err Write)
-  ran_reply {held''} {stands'} now' {pending'} command event goes t rose a =
+      → Answers next.place.judge.builder.world command t.last stands' now now' held' held'' pending pending' (Err halts.Write) → HasStopped left left' held held'' stands' loaded source_rose (now' - before) pending' (Err Write)
+  ran_reply {held''} {stands'} {loaded} {source_rose} now' {pending'} command event goes t rose a =
       let world = next.place.judge.builder.world in
       let more = told_more command a.answer a.new t a.does a.state going.later rose a.fault a.quiet in
       let part = a.gathers.part in
@@ -130,16 +131,15 @@ module _ {left left' : Option (List ℕ)} {held held' : List ℕ → Type 0} {st
       ap (λ xs. pending ++ xs) cut.2 ∙ sym (append_assoc pending front cut.0) ∙ ap (λ xs. xs ++ cut.0) g.all ∙ append_assoc g.given pending' cut.0 in
       let told : Told world (going.read.commands ++ command ∷ []) stands' (now' - before) (going.w ++ g.given) (pending' ++ cut.0) going.m = told_moved g.given all more in
       let k = judged_keeps next_read (lines_of (drop found.size reader.bytes ++ rest_of left')) in
-      let c = cut_reply (input going form end) k.commands (opened_here command goes) (commands_here command event) (AreInLimits-append going.read.commands (command ∷ []) going.limits (goes.2, tt)) k.limits (sound_at place form world goes.0)
-      (omega (arith, length-append pending' cut.0, cut.1)) told in
       ran_with going form end (going.w ++ g.given) pending' (Err Write) (gained_more going.gained g.gained)
-      (c.0, ahead_here going form end c.0 c.1 (omega (arith, c.2, length-append going.read.commands (command ∷ []))), c.3)
+      (cut_reply (input going form end) going.b k.commands (opened_here command goes) (commands_here command event) (AreInLimits-append going.read.commands (command ∷ []) going.limits (goes.2, tt)) k.limits (sound_at place form world goes.0)
+      (omega (arith, length-append pending' cut.0, cut.1)) told (λ n above below. ahead_here going form end n above (omega (arith, below, length-append going.read.commands (command ∷ [])))))
 
   -- memory ran out at the line's dump
-  ran_dump : {held'' : List ℕ → Type 0} {stands' : State → Type 0} (now' : ℕ) {pending' : List ℕ} (command : Command) → next.event ≡ Does command → Goes place (Does command) next.place
+  ran_dump : {held'' : List ℕ → Type 0} {stands' : State → Type 0} {loaded : Bool} {source_rose : Type 0} (now' : ℕ) {pending' : List ℕ} (command : Command) → next.event ≡ Does command → Goes place (Does command) next.place
       → (t : Told next.place.judge.builder.world going.read.commands stands (now - before) going.w pending going.m) → now ≤ now'
-      → HasNoRoom command t.last stands' now now' held' held'' pending pending' (Err halts.Memory) → RanTo left left' held held'' stands' (now' - before) pending' (Err (Tell Memory))
-  ran_dump {held''} {stands'} now' {pending'} command event goes t rose a =
+      → HasNoRoom command t.last stands' now now' held' held'' pending pending' (Err halts.Memory) → HasStopped left left' held held'' stands' loaded source_rose (now' - before) pending' (Err (Tell Memory))
+  ran_dump {held''} {stands'} {loaded} {source_rose} now' {pending'} command event goes t rose a =
       let world = next.place.judge.builder.world in
       let g = a.gathered in
       let told : Told world going.read.commands stands' (now' - before) (going.w ++ g.given) pending' going.m = told_moved g.given g.all (told_as before t a.state a.quiet) in
@@ -153,38 +153,38 @@ module _ {left left' : Option (List ℕ)} {held held' : List ℕ → Type 0} {st
       } in
       ran_none going form end g tells rose before_dump
 
-  pub ran_stopped : {held'' : List ℕ → Type 0} {stands' : State → Type 0} (now' : ℕ) {pending' : List ℕ} (event : Event) (halt : Halt) → next.event ≡ event → Acted event next.place.judge.builder.world stands stands' now now' held' held'' pending pending' (Err halt)
-      → RanTo left left' held held'' stands' (now' - before) pending' (Err (stop_of halt))
-  ran_stopped now' Nothing halt is acted = absurd acted
-  ran_stopped {held''} {stands'} now' {pending'} Opens halt is acted =
+  pub ran_stopped : {held'' : List ℕ → Type 0} {stands' : State → Type 0} {loaded : Bool} {source_rose : Type 0} (now' : ℕ) {pending' : List ℕ} (event : Event) (halt : Halt) → next.event ≡ event → (event ≡ Opens → loaded ≡ false) → Acted event next.place.judge.builder.world stands stands' now now' held' held'' pending pending' (Err halt)
+      → HasStopped left left' held held'' stands' loaded source_rose (now' - before) pending' (Err (stop_of halt))
+  ran_stopped now' Nothing halt is unloaded acted = absurd acted
+  ran_stopped {held''} {stands'} {loaded} {source_rose} now' {pending'} Opens halt is unloaded acted =
       let g : Goes place Opens next.place = subst (λ e. Goes place e next.place) is goes_here in
       elim acted.1 [
         | inl o ↦
             let none : now - before ≡ 0 = unrisen going form end g.0 in
             let same : now' ≡ now = o.1 in
-            subst (λ e. RanTo left left' held held'' stands' (now' - before) pending' (Err (stop_of e))) (sym o.0) (ran_early going form end Memory (inl refl, refl) (λ _. omega (arith, none, same)) acted.0 g.0)
+            subst (λ e. HasStopped left left' held held'' stands' loaded source_rose (now' - before) pending' (Err (stop_of e))) (sym o.0) (ran_early going form end Memory acted.0 (inl (refl, unloaded refl), refl) (λ _. omega (arith, none, same)) g.0)
         | inr o ↦
-            subst (λ e. RanTo left left' held held'' stands' (now' - before) pending' (Err (stop_of e))) (sym o.0)
-            (ran_early going form end Swap (refl, objects_here g.1 o.1, refl) (λ other. absurd (other refl)) acted.0 g.0)
+            subst (λ e. HasStopped left left' held held'' stands' loaded source_rose (now' - before) pending' (Err (stop_of e))) (sym o.0)
+            (ran_early going form end Swap acted.0 ((refl, unloaded refl), objects_here g.1 o.1, refl) (λ other. absurd (other refl)) g.0)
       ]
-  ran_stopped {held''} {stands'} now' {pending'} (Does command) halt is acted =
+  ran_stopped {held''} {stands'} {loaded} {source_rose} now' {pending'} (Does command) halt is unloaded acted =
       let g : Goes place (Does command) next.place = subst (λ e. Goes place e next.place) is goes_here in
       let t = (subst (λ o. Tells o going.read.commands stands (now - before) going.w pending going.m) g.0 going.tells).told in
       elim (acted.1 t.last t.state (told_reached t going.limits (sound_at place form next.place.judge.builder.world g.0))) [
         | inl a ↦
             let e : halt ≡ halts.Write = a.write in
-            subst (λ x. RanTo left left' held held'' stands' (now' - before) pending' (Err (stop_of x))) (sym e)
+            subst (λ x. HasStopped left left' held held'' stands' loaded source_rose (now' - before) pending' (Err (stop_of x))) (sym e)
             (ran_reply now' command is g t acted.0 (subst (λ x. Answers next.place.judge.builder.world command t.last stands' now now' held' held'' pending pending' (Err x)) e a))
         | inr a ↦
             let e : halt ≡ halts.Memory = let f = a.halt in cc (f) in
-            subst (λ x. RanTo left left' held held'' stands' (now' - before) pending' (Err (stop_of x))) (sym e)
+            subst (λ x. HasStopped left left' held held'' stands' loaded source_rose (now' - before) pending' (Err (stop_of x))) (sym e)
             (ran_dump now' command is g t acted.0 (subst (λ x. HasNoRoom command t.last stands' now now' held' held'' pending pending' (Err x)) e a))
       ]
 
   nothing_open : (i : List ℕ) → left ≡ Some i → HasNoWorld i → HasNoWorld (input going form end)
   nothing_open i tells none = subst HasNoWorld (input_is going form end i tells) none
 
-  -- the input of a run that stops at what a line brings about has a world
+  -- if a run stops in what a line requests, its input has a world
   pub stopped_opened : (held'' : List ℕ → Type 0) (stands' : State → Type 0) (now' : ℕ) (pending' : List ℕ) (event : Event) (halt : Halt) → next.event ≡ event
       → Acted event next.place.judge.builder.world stands stands' now now' held' held'' pending pending' (Err halt) → (i : List ℕ) → left ≡ Some i → HasNoWorld i → ⊥
   stopped_opened held'' stands' now' pending' Nothing halt is acted i tells none = acted

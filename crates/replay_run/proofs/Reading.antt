@@ -1,5 +1,5 @@
--- What a machine stands for, as a reading of its words.
-use Rattle.std.proofs.Common.{◌⊎◌, inl, inr, ℕ, List, Option, Some, None}
+-- The state that a machine represents, as a reading of its words.
+use Rattle.std.proofs.Common.{inl, inr, ℕ, List, Option, Some, None, Bool}
 use Rattle.lisp_graph.specs.declared.command.Command.{Command}
 use Rattle.lisp_graph.specs.declared.world.World.{World}
 use Rattle.paged_machine.specs.lisp_meaning.State.{State}
@@ -9,16 +9,17 @@ use Rattle.line_input.specs.declared.statuses.status.Status.{Status}
 use Rattle.line_input.specs.declared.statuses.status.Status.TheVariants.{Done, WriteFailed, Refused, ReadFailed, NoSpace, NoMemory, SwapFailed, Usage, NoObject}
 use Rattle.paged_machine.specs.Holding.{MeansFor, StandsFor}
 use Rattle.replay_run.specs.Replies.{Answered, Replies}
-use Rattle.replay_run.specs.Outcome.{CutLine, CutReply, Ran, Wrote}
+use Rattle.replay_run.specs.Outcome.{CutLine, CutReply, EndsWith, Wrote}
 use Rattle.replay_run.specs.Exercise.{Exercised}
+use Rattle.replay_run.proofs.Observations.{HasRun, demands_as, observes}
 
--- a heap that stands for a state has its meaning
+-- a heap that represents a state has its meaning
 pub means_for : (heap : Option Contents) (s : State) → StandsFor heap s → MeansFor heap s
 means_for None s stands = stands
 means_for (Some heap) s stands = means_of heap s stands
 
--- what follows from what a machine stands for holds of it after a run
-module _ (stands means : State → Type 0) (follows : (s : State) → stands s → means s) (rose : ℕ) where
+-- what follows from the represented state also holds after a run
+module _ (stands means : State → Type 0) (follows : (s : State) → stands s → means s) (loaded : Bool) (rose : ℕ) where
   replies_as : (world : World) (commands : List Command) (text : List ℕ) → Replies world commands stands rose text → Replies world commands means rose text
   replies_as world commands text r = record { answers = r.answers; last = r.last; run = r.run; is = r.is; state = follows r.last r.state; faults = r.faults; quiet = r.quiet }
 
@@ -26,58 +27,65 @@ module _ (stands means : State → Type 0) (follows : (s : State) → stands s �
   answered_as None commands text a = a
   answered_as (Some world) commands text a = replies_as world commands text a
 
-  reply_as : (i w : List ℕ) (n : ℕ) → CutReply stands rose i w n → CutReply means rose i w n
-  unfolding replies_as
-  reply_as i w n c = record {
-    world = c.world;
-    opened = c.opened;
-    done = c.done;
-    later = c.later;
-    commands = c.commands;
-    text = c.text;
-    replies = replies_as c.world c.done c.text c.replies;
-    at = c.at;
-    answers = c.answers;
-    last = c.last;
-    run = c.run;
-    front = c.front;
-  }
+  module _ (source_rose : Type 0) (i b w : List ℕ) where
+    reply_as : CutReply (observes i b w stands loaded source_rose rose) → CutReply (observes i b w means loaded source_rose rose)
+    unfolding replies_as
+    reply_as c = record {
+      n = c.n;
+      ahead = c.ahead;
+      world = c.world;
+      opened = c.opened;
+      done = c.done;
+      later = c.later;
+      commands = c.commands;
+      text = c.text;
+      replies = replies_as c.world c.done c.text c.replies;
+      at = c.at;
+      answers = c.answers;
+      last = c.last;
+      run = c.run;
+      front = c.front;
+    }
 
-  line_as : (source_rose : Type 0) (i b w : List ℕ) (n : ℕ) → CutLine stands source_rose rose i b w n → CutLine means source_rose rose i b w n
-  line_as source_rose i b w n c = record {
+    abbrev ends_as : (status : Status) → EndsWith status (observes i b w stands loaded source_rose rose) → EndsWith status (observes i b w means loaded source_rose rose)
+    ends_as status e = record {
+      read = e.read;
+      replies = e.replies;
+      line = e.line;
+      demands = demands_as status i b w w stands means loaded source_rose rose e.read e.line e.demands;
+      answered = answered_as _ e.read.commands e.replies e.answered;
+      written = e.written;
+      ahead = e.ahead;
+      untouched = e.untouched;
+    }
+
+  line_as : (source_rose : Type 0) (i b w : List ℕ) → CutLine (observes i b w stands loaded source_rose rose) → CutLine (observes i b w means loaded source_rose rose)
+  line_as source_rose i b w c = record {
     status = c.status;
-    read = c.read;
-    text = c.text;
-    line = c.line;
-    demands = c.demands;
+    whole = c.whole;
+    ends = ends_as source_rose i b c.whole c.status c.ends;
     cause = c.cause;
-    answered = answered_as _ c.read.commands c.text c.answered;
-    untouched = c.untouched;
-    count = c.count;
     part = c.part;
     cut = c.cut;
     is = c.is;
   }
 
-  cut_as : (source_rose : Type 0) (i b w : List ℕ) (n : ℕ) → CutReply stands rose i w n ⊎ CutLine stands source_rose rose i b w n → CutReply means rose i w n ⊎ CutLine means source_rose rose i b w n
-  cut_as source_rose i b w n (inl c) = inl (reply_as i w n c)
-  cut_as source_rose i b w n (inr c) = inr (line_as source_rose i b w n c)
+  pub wrote_as : (source_rose : Type 0) (status : Status) (i b w : List ℕ) → Wrote status (observes i b w stands loaded source_rose rose) → Wrote status (observes i b w means loaded source_rose rose)
+  wrote_as source_rose WriteFailed i b w (inl c) = inl (reply_as source_rose i b w c)
+  wrote_as source_rose WriteFailed i b w (inr c) = inr (line_as source_rose i b w c)
+  wrote_as source_rose Done i b w e = ends_as source_rose i b w Done e
+  wrote_as source_rose Refused i b w e = ends_as source_rose i b w Refused e
+  wrote_as source_rose ReadFailed i b w e = ends_as source_rose i b w ReadFailed e
+  wrote_as source_rose NoSpace i b w e = ends_as source_rose i b w NoSpace e
+  wrote_as source_rose NoMemory i b w e = ends_as source_rose i b w NoMemory e
+  wrote_as source_rose SwapFailed i b w e = ends_as source_rose i b w SwapFailed e
+  wrote_as source_rose Usage i b w e = absurd e.demands
+  wrote_as source_rose NoObject i b w e = absurd e.demands
 
-  pub wrote_as : (source_rose : Type 0) (status : Status) (i b w : List ℕ) → Wrote status stands source_rose rose i b w → Wrote status means source_rose rose i b w
-  wrote_as source_rose WriteFailed i b w c = (c.0, c.1, cut_as source_rose i b w c.0 c.2)
-  wrote_as source_rose Done i b w c = (c.0, c.1, c.2, c.3, answered_as _ c.0.commands c.1 c.4, c.5, c.6, c.7)
-  wrote_as source_rose Refused i b w c = (c.0, c.1, c.2, c.3, answered_as _ c.0.commands c.1 c.4, c.5, c.6, c.7)
-  wrote_as source_rose ReadFailed i b w c = (c.0, c.1, c.2, c.3, answered_as _ c.0.commands c.1 c.4, c.5, c.6, c.7)
-  wrote_as source_rose NoSpace i b w c = (c.0, c.1, c.2, c.3, answered_as _ c.0.commands c.1 c.4, c.5, c.6, c.7)
-  wrote_as source_rose NoMemory i b w c = (c.0, c.1, c.2, c.3, answered_as _ c.0.commands c.1 c.4, c.5, c.6, c.7)
-  wrote_as source_rose SwapFailed i b w c = (c.0, c.1, c.2, c.3, answered_as _ c.0.commands c.1 c.4, c.5, c.6, c.7)
-  wrote_as source_rose Usage i b w c = absurd c.3
-  wrote_as source_rose NoObject i b w c = absurd c.3
+  pub ran_as : {source_rose : Type 0} (left left' : Option (List ℕ)) (held held' : List ℕ → Type 0) (status : Status) → HasRun left left' held held' stands loaded source_rose rose status → HasRun left left' held held' means loaded source_rose rose status
+  ran_as {source_rose = source_rose} left left' held held' status r = (r.0, r.1, r.2, record { input = r.3.input; gave = r.3.gave; rest = r.3.rest; gained = r.3.gained; wrote = wrote_as source_rose status r.0 r.1 r.2 r.3.wrote })
 
-  pub ran_as : {source_rose : Type 0} (left left' : Option (List ℕ)) (held held' : List ℕ → Type 0) (status : Status) → Ran left left' held held' stands source_rose rose status → Ran left left' held held' means source_rose rose status
-  ran_as {source_rose = source_rose} left left' held held' status r = record { i = r.i; b = r.b; w = r.w; input = r.input; gave = r.gave; rest = r.rest; gained = r.gained; wrote = wrote_as source_rose status r.i r.b r.w r.wrote }
-
-  pub exercised_as : (number count : ℕ) (held held' : List ℕ → Type 0) (status : Status) → Exercised number count held held' stands rose status → Exercised number count held held' means rose status
+  pub exercised_as : (number count : ℕ) (held held' : List ℕ → Type 0) (status : Status) → Exercised number count held held' stands loaded rose status → Exercised number count held held' means loaded rose status
   exercised_as number count held held' status e = record {
     ended = e.ended;
     read = e.read;

@@ -1,4 +1,4 @@
--- Runs of commands, one after the other.
+-- Runs of commands, one after another.
 use Rattle.std.proofs.Common.{◌≡◌, ℕ, zero, suc, ◌<◌, List, [], ◌∷◌, ◌++◌, length, refl, sym, subst, ap, arith}
 use Rattle.std.specs.Prelude.{IfSome, slice_get}
 use Rattle.lisp_graph.specs.declared.command.Command.{Command}
@@ -16,7 +16,7 @@ run_then old mid new [] (r ∷ rs) b rb run more = absurd run
 run_then old mid new (c ∷ cs) [] b rb run more = absurd run
 run_then old mid new (c ∷ cs) (r ∷ rs) b rb run more = (run.0, run.1, run_then run.0 mid new cs rs b rb run.2 more)
 
--- one command more
+-- one more command
 pub run_more : (old mid new : State) (commands : List Command) (answers : List Answer) (command : Command) (answer : Answer) → Run old commands answers mid → Does mid command answer new → Run old (commands ++ command ∷ []) (answers ++ answer ∷ []) new
 run_more old mid new commands answers command answer run does = run_then old mid new commands answers (command ∷ []) (answer ∷ []) run (new, does, refl)
 
@@ -37,7 +37,7 @@ allowed_each [] all i l = absurd (omega arith)
 allowed_each (c ∷ cs) all zero l = limits_allowed c all.0
 allowed_each (c ∷ cs) all (suc i) l = allowed_each cs all.1 i (omega arith)
 
--- commands that are allowed have a run from each sound state
+-- allowed commands have a run from each sound state
 pub run_some : (old : State) (commands : List Command) → AreInLimits commands → IsSound old → (answers : List Answer) × (new : State) × Run old commands answers new
 run_some old commands all s = some_run old commands (allowed_each commands all) s
 

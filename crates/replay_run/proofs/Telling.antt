@@ -1,5 +1,5 @@
 -- Replies on their way to the sink.
-use Rattle.std.proofs.Common.{◌≡◌, ◌⊎◌, inl, inr, ℕ, ◌+◌, ◌-◌, ◌<◌, ◌≤◌, List, [], ◌∷◌, ◌++◌, length, true, false, refl, sym, subst, ap, ◌∙◌, arith, Option, Some, None}
+use Rattle.std.proofs.Common.{◌≡◌, ◌⊎◌, inl, inr, ℕ, ◌+◌, ◌-◌, ◌<◌, ◌≤◌, List, [], ◌∷◌, ◌++◌, length, Bool, true, false, refl, sym, subst, ap, ◌∙◌, arith, Option, Some, None}
 use Rattle.std.specs.Prelude.{count_by}
 use Rattle.std.proofs.lemmas.List.{append-nil, append_assoc, length-append}
 use Rattle.std.proofs.lemmas.List.Concat.{flat_map-append, flat_map-cons}
@@ -16,8 +16,9 @@ use Rattle.paged_machine.specs.lisp_meaning.Sound.{IsSound}
 use Rattle.input_verdict.specs.Verdict.{verdict, world_of}
 use Rattle.input_verdict.proofs.Judged.{AreInLimits}
 use Rattle.replay_run.specs.Replies.{Answered, Replies, answer_text, is_fault, text_of}
-use Rattle.replay_run.specs.Outcome.{CutReply, IsCutAt}
+use Rattle.replay_run.specs.Outcome.{CutReply, IsAhead, IsCutAt}
 use Rattle.replay_run.specs.Steps.{IsReached, Told, Tells}
+use Rattle.replay_run.proofs.Observations.{observes}
 use Rattle.replay_run.proofs.Staying.{opened_of}
 use Rattle.replay_run.proofs.Runs.{run_then, run_more, run_length, run_sound, run_some}
 
@@ -29,7 +30,7 @@ text_of-one areas a = flat_map-cons (answer_text areas) a [] ∙ append-nil _
 
 -- Two ways to cut one list
 
--- the first cut lies within the prefix of the other, or behind it
+-- the first cut is within the prefix of the other, or after it
 split_at : (a b x y : List ℕ) → a ++ b ≡ x ++ y → ((r : List ℕ) × (0 < length r) × (a ≡ x ++ r)) ⊎ ((r : List ℕ) × (x ≡ a ++ r) × (b ≡ r ++ y))
 split_at [] b x y h = inr (x, refl, h)
 split_at (a ∷ rest_) b [] y h = inl (a ∷ rest_, omega arith, refl)
@@ -41,7 +42,7 @@ split_at (a ∷ rest_) b (x ∷ xs) y h =
       | inr p ↦ inr (p.0, (λ i. sym head i ∷ p.1 i), p.2)
     ]
 
--- a prefix of several texts that isn't all of them ends within one of them
+-- a prefix of several texts, and not all of them, ends within one of them
 pub cut_within : (areas : List AreaRule) (answers : List Answer) (front rest : List ℕ) → text_of areas answers ≡ front ++ rest → 0 < length rest
     → (n : ℕ) × (n < length answers) × IsCutAt areas answers front n
 cut_within areas [] front rest is some = absurd (omega (arith, ap length is, length-append front rest))
@@ -64,7 +65,7 @@ cut_within areas (a ∷ others) front rest is some =
       )
     ]
 
--- the same behind other answers
+-- the same after other answers
 cut_behind_first : (areas : List AreaRule) (first later : List Answer) (given : List ℕ) (n : ℕ) → IsCutAt areas later given n → IsCutAt areas (first ++ later) (text_of areas first ++ given) (length first + n)
 cut_behind_first areas first later given n c = record {
   before = first ++ c.before;
@@ -77,7 +78,7 @@ cut_behind_first areas first later given n c = record {
   is = ap (λ xs. text_of areas first ++ xs) c.is ∙ sym (append_assoc (text_of areas first) (text_of areas c.before) c.part) ∙ ap (λ xs. xs ++ c.part) (sym (text_of-append areas first c.before));
 }
 
--- What was told
+-- What was gathered and given
 
 -- more was given
 pub told_moved : {world : World} {commands : List Command} {stands : State → Type 0} {rose : ℕ} {w : List ℕ} {pending pending' : List ℕ} {m : ℕ} (given : List ℕ) → pending ≡ given ++ pending'
@@ -149,7 +150,7 @@ told_more {world = world} {commands = commands} {before = before} {now = now} {n
       rest = text_of-append world.areas t.later (answer ∷ []) ∙ ap (λ xs. text_of world.areas t.later ++ xs) (text_of-one world.areas answer) ∙ ap (λ xs. xs ++ answer_text world.areas answer) t.rest ∙ append_assoc t.given pending (answer_text world.areas answer);
     }
 
--- the machine stands for the same state, and its count of faults is the same
+-- the machine represents the same state, and its count of failed page calls is unchanged
 pub told_as : (before : ℕ) {stands stands' : State → Type 0} {world : World} {commands : List Command} {now now' : ℕ} {w pending : List ℕ} {m : ℕ} (t : Told world commands stands (now - before) w pending m) → stands' t.last → now' ≡ now
     → Told world commands stands' (now' - before) w pending m
 told_as before t state same = record {
@@ -166,7 +167,7 @@ told_as before t state same = record {
   rest = t.rest;
 }
 
--- a run in the world came to it
+-- a run in the world reached its last state
 pub told_reached : {world : World} {commands : List Command} {stands : State → Type 0} {rose : ℕ} {w pending : List ℕ} {m : ℕ} (t : Told world commands stands rose w pending m) → AreInLimits commands → IsSound (opening world) → IsReached world t.last
 told_reached {world = world} {commands = commands} t limits sound = record {
   of = opened_of world t.last commands (t.first ++ t.later) t.run;
@@ -189,35 +190,32 @@ told_replies t = record {
   quiet = t.quiet;
 }
 
--- where something is pending, the sink stopped in a reply behind those that were given whole
-pub cut_reply : {world : World} {commands : List Command} {stands : State → Type 0} {rose : ℕ} {w pending : List ℕ} {m : ℕ} (i : List ℕ) (later : List Command) → world_of (verdict i).read.place ≡ Some world → (verdict i).read.commands ≡ commands ++ later
-    → AreInLimits commands → AreInLimits later → IsSound (opening world) → 0 < length pending → Told world commands stands rose w pending m → (n : ℕ) × (m ≤ n) × (n < length commands) × CutReply stands rose i w n
-cut_reply {world = world} {commands = commands} {w = w} {pending = pending} {m = m} i later opened all limits after sound some t =
+-- if something is pending, the sink stopped in a reply after those that it gained in full
+pub cut_reply : {world : World} {commands : List Command} {stands : State → Type 0} {loaded : Bool} {source_rose : Type 0} {rose : ℕ} {w pending : List ℕ} {m : ℕ} (i b : List ℕ) (later : List Command) → world_of (verdict i).read.place ≡ Some world → (verdict i).read.commands ≡ commands ++ later
+    → AreInLimits commands → AreInLimits later → IsSound (opening world) → 0 < length pending → Told world commands stands rose w pending m → ((n : ℕ) → m ≤ n → n < length commands → IsAhead n i b) → CutReply (observes i b w stands loaded source_rose rose)
+cut_reply {world = world} {commands = commands} {w = w} {pending = pending} {m = m} i b later opened all limits after sound some t ahead =
     let c = cut_within world.areas t.later t.given pending t.rest some in
     let e = run_length (opening world) t.last commands (t.first ++ t.later) t.run in
     let more = run_some t.last later after (run_sound (opening world) t.last commands (t.first ++ t.later) limits sound t.run) in
     let whole : text_of world.areas ((t.first ++ t.later) ++ more.0) ≡ w ++ (pending ++ text_of world.areas more.0) =
-    text_of-append world.areas (t.first ++ t.later) more.0 ∙ ap (λ xs. xs ++ text_of world.areas more.0) (sym (told_text t)) ∙ append_assoc w pending (text_of world.areas more.0) in (
-      length t.first + c.0,
-      omega (arith, t.count),
-      omega (arith, e, length-append t.first t.later, c.1),
-      record {
-        world = world;
-        opened = opened;
-        done = commands;
-        later = later;
-        commands = all;
-        text = w ++ pending;
-        replies = record { answers = t.first ++ t.later; last = t.last; run = t.run; is = told_text t; state = t.state; faults = t.faults; quiet = t.quiet };
-        at = subst (λ xs. IsCutAt world.areas (t.first ++ t.later) xs (length t.first + c.0)) (sym t.is) (cut_behind_first world.areas t.first t.later t.given c.0 c.2);
-        answers = (t.first ++ t.later) ++ more.0;
-        last = more.1;
-        run = subst (λ cs. Run (opening world) cs ((t.first ++ t.later) ++ more.0) more.1) (sym all) (run_then (opening world) t.last more.1 commands (t.first ++ t.later) later more.0 t.run more.2);
-        front = (pending ++ text_of world.areas more.0, omega (arith, length-append pending (text_of world.areas more.0), some), whole);
-      },
-    )
+    text_of-append world.areas (t.first ++ t.later) more.0 ∙ ap (λ xs. xs ++ text_of world.areas more.0) (sym (told_text t)) ∙ append_assoc w pending (text_of world.areas more.0) in record {
+      n = length t.first + c.0;
+      ahead = ahead (length t.first + c.0) (omega (arith, t.count)) (omega (arith, e, length-append t.first t.later, c.1));
+      world = world;
+      opened = opened;
+      done = commands;
+      later = later;
+      commands = all;
+      text = w ++ pending;
+      replies = record { answers = t.first ++ t.later; last = t.last; run = t.run; is = told_text t; state = t.state; faults = t.faults; quiet = t.quiet };
+      at = subst (λ xs. IsCutAt world.areas (t.first ++ t.later) xs (length t.first + c.0)) (sym t.is) (cut_behind_first world.areas t.first t.later t.given c.0 c.2);
+      answers = (t.first ++ t.later) ++ more.0;
+      last = more.1;
+      run = subst (λ cs. Run (opening world) cs ((t.first ++ t.later) ++ more.0) more.1) (sym all) (run_then (opening world) t.last more.1 commands (t.first ++ t.later) later more.0 t.run more.2);
+      front = (pending ++ text_of world.areas more.0, omega (arith, length-append pending (text_of world.areas more.0), some), whole);
+    }
 
--- The same where no world may be open
+-- The same if no world may be open
 
 both_empty : (a b : List ℕ) → a ++ b ≡ [] → (a ≡ []) × (b ≡ [])
 both_empty [] b e = (refl, e)

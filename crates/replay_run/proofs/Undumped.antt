@@ -1,4 +1,4 @@
--- A line that doesn't begin with the letter d says no dump.
+-- A line that doesn't begin with the letter d isn't a dump.
 use Rattle.std.proofs.Common.{◌≡◌, ℕ, ◌-◌, ◌^◌, List, [], ◌∷◌, length, drop, Bool, true, false, Result, Ok, Err, codes, refl, sym, ap, ◌∙◌}
 use Rattle.std.specs.Prelude.{◌==◌, if◌then◌else◌, bytes_eq, nat_lt}
 use Rattle.lisp_graph.specs.store_word.declared.space.Space.{Space}
@@ -14,23 +14,23 @@ use Rattle.world_text.proofs.reading_laws.ReadLaws.{guard_ok, guard_not, step_pa
 use Rattle.world_text.proofs.reading_laws.Rows.{formed_row}
 use Rattle.trace_text.specs.Commands.{Run, End, a_condemn, a_plain_value, alone, command_in, cons_in, flip_in, get_in, grow_in, line_in, list_in, make_in, page_out_in, pair_command, pair_in, put_in, scavenge_in, set_in, size_in, store_command, trace_line}
 
--- the letter d stands first
+-- the letter d is the first byte
 abbrev pub begins_with_d : List ℕ → Bool
 begins_with_d [] = false
 begins_with_d (byte ∷ bytes) = byte == 100
 
 -- Other commands
 
--- this isn't the command that was read
+-- the result isn't that a dump was read
 abbrev IsOther : Result Command Reason → Type 0
 IsOther read = read ≡ Ok C.Dump → ⊥
 
--- one of two
+-- one of two results
 other_of : (b : Bool) (x y : Result Command Reason) → IsOther x → IsOther y → IsOther (if b then x else y)
 other_of true x y one two = one
 other_of false x y one two = two
 
--- the second of two
+-- the second of two results
 other_behind : (b : Bool) (x y : Result Command Reason) → b ≡ false → IsOther y → IsOther (if b then x else y)
 other_behind true x y differs two = absurd (cc (differs))
 other_behind false x y differs two = two
@@ -39,7 +39,7 @@ other_behind false x y differs two = two
 no_reason : (reason : Reason) → IsOther (Err reason)
 no_reason reason is = cc (is)
 
--- it was this command
+-- another command was read
 given : (command : Command) → (command ≡ C.Dump → ⊥) → ◌≡◌ {A = Result Command Reason} (Ok command) (Ok C.Dump) → ⊥
 given command other is = other (cc (is))
 
@@ -51,7 +51,7 @@ pair_other registers count words make other is =
     let p = step_parts (pair_in registers count words) (λ p. Ok (make p.0 p.1)) C.Dump is in
     given (make p.0.0 p.0.1) (other p.0.0 p.0.1) p.2
 
--- the rest of a command, behind a word that was read
+-- the rest of a command, after a word that was read
 took : {A : Type 0} (read : List ℕ → Result A Reason) (words : List (List ℕ)) (goal : A × List (List ℕ) → Result Command Reason) → (next read words >>= goal) ≡ Ok C.Dump → (what : A) × (goal (what, drop 1 words) ≡ Ok C.Dump)
 unfolding next
 took {A} read words goal is =

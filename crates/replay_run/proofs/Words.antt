@@ -1,4 +1,4 @@
--- Memory ran out before the words were read.
+-- Memory ran out before the arguments were read.
 use Rattle.std.proofs.Common.{◌≡◌, ℕ, List, [], Option, Some, None, Err, refl}
 use Rattle.std.specs.Prelude.{IfSome, unwrap_or}
 use Rattle.outer_ports.proofs.Gains.{gave_nothing}

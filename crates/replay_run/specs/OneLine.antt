@@ -1,5 +1,5 @@
--- One line: what answering it did.
-use Rattle.std.specs.Prelude.{◌≡◌, ◌≢◌, ℕ, List, None, Ok, Err}
+-- One line, and the effect of answering it.
+use Rattle.std.specs.Prelude.{◌≡◌, ◌≢◌, ℕ, List, Bool, false, None, Ok, Err}
 use Rattle.lisp_graph.specs.declared.command.Command.{Command}
 use Rattle.paged_machine.specs.lisp_meaning.State.{State}
 use Rattle.line_input.specs.declared.statuses.status.Status.TheVariants.{Refused}
@@ -8,14 +8,14 @@ use Rattle.line_input.specs.declared.statuses.status.Stop.{Stop}
 use Rattle.line_input.specs.declared.statuses.status.Stop.TheVariants.{Tell}
 use Rattle.line_input.specs.Statuses.{status_of}
 use Rattle.input_verdict.specs.Input.{JudgedInput}
-use Rattle.input_verdict.specs.Events.{Event, Nothing, Does}
+use Rattle.input_verdict.specs.Events.{Event, Nothing, Opens, Does}
 use Rattle.input_verdict.specs.Places.{Judged}
 use Rattle.input_verdict.specs.Verdict.{judged_as, world_of}
 use Rattle.replay_run.specs.declared.halt.Halt.{Halt}
 use Rattle.replay_run.specs.declared.halt.Halt.TheVariants as halts
 use Rattle.replay_run.specs.Steps.{Acted, FailsInDump, TakesAfter, stop_of}
 
--- A line was accepted, and what it brings about was done.
+-- A line was accepted, and what it requests was done.
 pub record LineDone (place place' : JudgedInput) (text : List ℕ) (size : ℕ) (same : Type 0) (stood stands : State → Type 0) (took takes : Command → Type 0) (was_idle is_idle : Type 0) (faults faults' : ℕ)
     (held held' : List ℕ → Type 0) (had pending : List ℕ) : Type 0 where
   pub event : Event
@@ -24,7 +24,7 @@ pub record LineDone (place place' : JudgedInput) (text : List ℕ) (size : ℕ) 
   pub takes_after : TakesAfter event place'.judge.builder.world took takes was_idle is_idle
   pub still : event ≡ Nothing → same
 
--- A line was refused, or memory ran out as it was judged, and nothing else changed. A trouble whose status isn't `Refused` comes before the trace.
+-- A line was refused, or memory ran out while it was judged, and nothing else changed. A trouble whose status isn't `Refused` occurs only before the trace.
 pub record LineRefused (place : JudgedInput) (text : List ℕ) (size : ℕ) (stop : Stop) (same : Type 0) : Type 0 where
   pub trouble : RunError
   pub stops : stop ≡ Tell trouble
@@ -33,11 +33,12 @@ pub record LineRefused (place : JudgedInput) (text : List ℕ) (size : ℕ) (sto
   pub early : status_of trouble ≢ Refused → world_of place ≡ None
   pub still : same
 
--- A line was accepted, and the run halted at what it brings about. If there was room, the sink failed in a dump alone.
-pub record LineHalted (place place' : JudgedInput) (text : List ℕ) (size : ℕ) (stop : Stop) (room : Type 0) (stood stands : State → Type 0) (faults faults' : ℕ) (held held' : List ℕ → Type 0) (had pending : List ℕ) : Type 0 where
+-- A line was accepted, and the run halted in what it requests. If there was room, the sink can have failed only in a dump.
+pub record LineHalted (place place' : JudgedInput) (text : List ℕ) (size : ℕ) (stop : Stop) (room : Type 0) (stood stands : State → Type 0) (loaded : Bool) (faults faults' : ℕ) (held held' : List ℕ → Type 0) (had pending : List ℕ) : Type 0 where
   pub halt : Halt
   pub stops : stop ≡ stop_of halt
   pub event : Event
   pub accepted : judged_as place text size ≡ Ok (record { event = event; place = place' })
   pub acted : Acted event place'.judge.builder.world stood stands faults faults' held held' had pending (Err halt)
+  pub unloaded : event ≡ Opens → loaded ≡ false
   pub fits : halt ≡ halts.Write → room → (command : Command) × (event ≡ Does command) × FailsInDump command stood stands faults faults'

@@ -1,4 +1,4 @@
--- The replies of a run: the texts of what one run of the definition shows for its commands.
+-- The replies of a run: the texts that one run of the definition shows for its commands.
 use Rattle.std.specs.Prelude.{◌≡◌, ◌≤◌, ℕ, List, [], Bool, true, false, Option, Some, None, flat_map, count_by}
 use Rattle.lisp_graph.specs.declared.command.Command.{Command}
 use Rattle.lisp_graph.specs.declared.reply.Reply.TheVariants as R
@@ -29,7 +29,7 @@ abbrev pub is_fault : Answer → Bool
 is_fault (Replied R.Fault) = true
 is_fault _ = false
 
--- One run of these commands, from the opening of the world, has this text. The machine stands for the state after them. At most so many of the answers are faults, and if none is, the swap's count of faults didn't rise.
+-- One run of these commands, from the opening of the world, has this text. The machine represents the state after them. At most `rose` of the answers are `fault`, and if none is, the swap device's count of failed calls didn't rise.
 pub record Replies (world : World) (commands : List Command) (stands : State → Type 0) (rose : ℕ) (text : List ℕ) : Type 0 where
   pub answers : List Answer
   pub last : State

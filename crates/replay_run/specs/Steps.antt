@@ -1,5 +1,5 @@
 -- A run up to its last line.
-use Rattle.std.specs.Prelude.{◌≡◌, ◌≢◌, ◌⊎◌, ◌+◌, ◌-◌, ◌^◌, ◌≤◌, ◌<◌, ℕ, List, [], ◌++◌, length, Option, Some, None, Result, Ok, Err, IfSome, unwrap_or, MatchResult, IfErr, count_by, true, false}
+use Rattle.std.specs.Prelude.{◌≡◌, ◌≢◌, ◌⊎◌, ◌+◌, ◌-◌, ◌^◌, ◌≤◌, ◌<◌, ℕ, List, [], ◌++◌, length, Option, Some, None, Result, Ok, Err, IfSome, unwrap_or, MatchResult, IfErr, count_by, Bool, true, false}
 use Rattle.outer_ports.specs.Ports.{Gained, Gave}
 use Rattle.outer_ports.specs.Buffers.{Buffered as Buffer, Gathered, Gathers}
 use Rattle.lisp_graph.specs.declared.command.Command.{Command}
@@ -24,9 +24,9 @@ use Rattle.input_verdict.specs.Verdict.{Ending, Whole, Broken, Read, world_of}
 use Rattle.replay_run.specs.declared.halt.Halt.{Halt}
 use Rattle.replay_run.specs.declared.halt.Halt.TheVariants as halts
 use Rattle.replay_run.specs.Replies.{Answered, answer_text, is_fault, text_of}
-use Rattle.replay_run.specs.Outcome.{CutReply, Demands, IsAhead, IsUntouched}
+use Rattle.replay_run.specs.Outcome.{CutReply, Demands, IsAhead, IsUntouched, Observed}
 
--- The replies of one run of these commands, of which the sink gained w and the rest is pending. Those of the first m commands were given whole.
+-- The replies of one run of these commands. The sink gained w of them, and the rest is pending. The sink gained the replies to the first m commands in full.
 pub record Told (world : World) (commands : List Command) (stands : State → Type 0) (rose : ℕ) (w pending : List ℕ) (m : ℕ) : Type 0 where
   pub first : List Answer
   pub later : List Answer
@@ -40,7 +40,7 @@ pub record Told (world : World) (commands : List Command) (stands : State → Ty
   pub is : w ≡ text_of world.areas first ++ given
   pub rest : text_of world.areas later ≡ given ++ pending
 
--- before a world was opened there are no commands and no replies, and the swap's count didn't rise
+-- before a world was opened there are no commands and no replies, and the swap device's count of failed calls didn't rise
 abbrev pub ToldOf : Option World → List Command → (State → Type 0) → ℕ → List ℕ → List ℕ → ℕ → Type 0
 ToldOf None commands stands rose w pending m = (commands ≡ []) × (w ≡ []) × (pending ≡ []) × (m ≡ 0) × (rose ≡ 0)
 ToldOf (Some world) commands stands rose w pending m = Told world commands stands rose w pending m
@@ -48,50 +48,48 @@ ToldOf (Some world) commands stands rose w pending m = Told world commands stand
 pub record Tells (world : Option World) (commands : List Command) (stands : State → Type 0) (rose : ℕ) (w pending : List ℕ) (m : ℕ) : Type 0 where
   pub told : ToldOf world commands stands rose w pending m
 
--- A run stopped where another status demands a line, with w written and the rest of the replies pending. Where the sink fails in what is pending, it fails in a reply.
-pub record StopsAt (status : Status) (line : List ℕ) (stands : State → Type 0) (rose : ℕ) (i b w pending : List ℕ) : Type 0 where
+-- A run stopped with a status that requires a line; the rest of the replies is pending. If the sink fails in what is pending, it fails in a reply.
+pub record StopsAt (status : Status) (line : List ℕ) (o : Observed) (pending : List ℕ) : Type 0 where
   pub read : Read
-  pub demands : Demands status i b read line
-  pub answered : Answered (world_of read.place) read.commands stands rose (w ++ pending)
-  pub untouched : IsUntouched status (world_of read.place) rose
-  pub far : IsAhead (length read.commands) i b
-  pub cut : (front rest : List ℕ) → pending ≡ front ++ rest → 0 < length rest → (n : ℕ) × IsAhead n i b × CutReply stands rose i (w ++ front) n
+  pub demands : Demands status o read line
+  pub answered : Answered (world_of read.place) read.commands o.stands o.swap_rose (o.written ++ pending)
+  pub untouched : IsUntouched status (world_of read.place) o.swap_rose
+  pub far : IsAhead (length read.commands) o.input o.taken
+  pub cut : (front rest : List ℕ) → pending ≡ front ++ rest → 0 < length rest → CutReply (record o { written = o.written ++ front })
 
--- how a run stopped: in a reply, or where another status demands a line
-abbrev pub Stopped : Result (Unit {0}) Stop → (State → Type 0) → ℕ → List ℕ → List ℕ → List ℕ → List ℕ → Type 0
-Stopped (Err Write) stands rose i b w pending = (n : ℕ) × IsAhead n i b × CutReply stands rose i w n
-Stopped result stands rose i b w pending = StopsAt (outcome_status result) (outcome_line result) stands rose i b w pending
+-- how a run stopped: in a reply, or with a status that requires a line
+abbrev pub Stopped : Result (Unit {0}) Stop → Observed → List ℕ → Type 0
+Stopped (Err Write) o pending = CutReply o
+Stopped result o pending = StopsAt (outcome_status result) (outcome_line result) o pending
 
-pub record RanTo (left left' : Option (List ℕ)) (held held' : List ℕ → Type 0) (stands : State → Type 0) (rose : ℕ) (pending : List ℕ) (result : Result (Unit {0}) Stop) : Type 0 where
-  pub i : List ℕ
-  pub b : List ℕ
-  pub w : List ℕ
-  pub input : IfSome left (λ bytes. bytes ≡ i)
-  pub gave : Gave left left' b
-  pub rest : i ≡ b ++ unwrap_or left' []
-  pub gained : Gained held held' w
-  pub stopped : Stopped result stands rose i b w pending
+-- a run that stopped, as its source and its sink report it
+pub record RanTo (left left' : Option (List ℕ)) (held held' : List ℕ → Type 0) (o : Observed) (pending : List ℕ) (result : Result (Unit {0}) Stop) : Type 0 where
+  pub input : IfSome left (λ bytes. bytes ≡ o.input)
+  pub gave : Gave left left' o.taken
+  pub rest : o.input ≡ o.taken ++ unwrap_or left' []
+  pub gained : Gained held held' o.written
+  pub stopped : Stopped result o pending
 
--- how a run stops that halts so
+-- how a run with this halt stops
 abbrev pub stop_of : Halt → Stop
 stop_of halts.Write = Write
 stop_of halts.Read = Tell T.Read
 stop_of halts.Memory = Tell T.Memory
 stop_of halts.Swap = Tell T.Swap
 
--- a state that a run in this world comes to
+-- a state that a run in this world reaches
 pub record IsReached (world : World) (s : State) : Type 0 where
   pub of : IsOf world s
   pub sound : IsSound s
 
--- The machine stands for such a state, and the world has at most 16 areas.
+-- The machine represents such a state, and the world has at most 16 areas.
 pub record IsIn (world : World) (stands : State → Type 0) : Type 0 where
   pub state : State
   pub stood : stands state
   pub reached : IsReached world state
   pub few : length world.areas ≤ 16
 
--- From this state the command was answered: the machine stands for what follows, the count of faults rose exactly if a fault was answered, and the text was gathered behind what was pending, or a prefix of it where the sink failed.
+-- The command was answered from this state: the machine represents the next state, the count of failed page calls rose if and only if the answer is `fault`, and the text was gathered after what was pending, or a prefix of it if the sink failed.
 pub record Answers (world : World) (command : Command) (old : State) (stands : State → Type 0) (faults faults' : ℕ) (held held' : List ℕ → Type 0) (had pending : List ℕ) (result : Result (Unit {0}) Halt) : Type 0 where
   pub answer : Answer
   pub new : State
@@ -110,18 +108,18 @@ pub record HasNoRoom (command : Command) (old : State) (stands : State → Type 
   pub quiet : faults' ≡ faults
   pub gathered : Gathered held held' pending had
 
--- a buffer has room for an answer that isn't a dump, and the sink's count of faults isn't at its end
+-- a buffer has room for any answer except that of a dump, and the sink's count of failed calls isn't saturated
 pub record HasRoom (buffer : Buffer) (faults : ℕ) : Type 0 where
   pub room : length buffer.pending + 1024 ≤ buffer.room
   pub few : faults < 2 ^ 64 - 1
 
--- The sink failed in a dump, which changed nothing: the machine stands for what it stood for.
+-- The sink failed in a dump, which changed nothing: the machine still represents what it represented.
 pub record FailsInDump (command : Command) (stood stands : State → Type 0) (faults faults' : ℕ) : Type 0 where
   pub dump : command ≡ Dump
   pub state : (s : State) → stood s → stands s
   pub quiet : faults' ≡ faults
 
--- what a command did, from each state that the machine stood for
+-- what a command did, from each state that the machine represented
 abbrev pub Served : World → Command → (State → Type 0) → (State → Type 0) → ℕ → ℕ → (List ℕ → Type 0) → (List ℕ → Type 0) → List ℕ → List ℕ → Result (Unit {0}) Halt → Type 0
 Served world command stood stands faults faults' held held' had pending result =
     (old : State) → stood old → IsReached world old
@@ -136,20 +134,20 @@ Acted Opens world stood stands faults faults' held held' had pending result =
 Acted (Does command) world stood stands faults faults' held held' had pending result =
     (faults ≤ faults') × Served world command stood stands faults faults' held held' had pending result
 
--- what the machine can be given after an event, and whether it is idle
+-- which commands the machine takes after an event, and whether it is idle
 abbrev pub TakesAfter : Event → World → (Command → Type 0) → (Command → Type 0) → Type 0 → Type 0 → Type 0
 TakesAfter Nothing world took takes was_idle is_idle = ((command : Command) → took command → takes command) × (was_idle → is_idle)
 TakesAfter Opens world took takes was_idle is_idle = (command : Command) → IsRunnable world command → takes command
 TakesAfter (Does _) world took takes was_idle is_idle = (command : Command) → took command → takes command
 
--- a reader that looked for the next line: it found one, or the end of the input, or the source failed before a line stood, or the sink failed with something pending
+-- a reader that looked for the next line: it found one, or the end of the input, or the source failed before there was a line, or the sink failed with something pending
 abbrev pub Fetched : Buffered → ℕ → List ℕ → Result (Option Found) Halt → Type 0
 Fetched held enough pending (Ok next) = IsNext held enough next × IfSome next (FitsIn held)
 Fetched held enough pending (Err halts.Write) = 0 < length pending
 Fetched held enough pending (Err halts.Read) = IsPart held enough × (held.ended ≡ false)
 Fetched held enough pending (Err _) = ⊥
 
--- how a run answers where the input ends
+-- how a run stops when the input ends
 abbrev pub closed : Ending → Result (Unit {0}) Stop
 closed Whole = Ok tt
 closed (Broken trouble) = Err (Tell trouble)

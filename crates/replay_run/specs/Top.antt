@@ -7,7 +7,7 @@ use Rattle.line_input.specs.declared.statuses.status.Status.TheVariants.{NoMemor
 use Rattle.line_input.specs.declared.statuses.status.RunError.TheVariants as T
 use Rattle.line_input.specs.Statuses.{Closed, trouble_line}
 
--- the modes for which the source is read, and those for which the machine runs commands; no mode is that of refused words
+-- the modes in which the source is read, and those in which the machine runs commands; refused arguments have no mode
 abbrev pub reads : Option Mode → Bool
 reads (Some M.Replay) = true
 reads (Some (M.OfFile mode)) = true
@@ -18,6 +18,6 @@ runs (Some M.Replay) = true
 runs (Some (M.Exercise number count)) = true
 runs mode = false
 
--- words that are refused: that is told, or that memory ran out before they were read
+-- refused arguments: this is reported, or that memory ran out before they were read
 abbrev pub Refused : (List ℕ → Type 0) → (List ℕ → Type 0) → Status → Type 0
 Refused held held' status = Closed held held' (trouble_line T.Usage) Usage status ⊎ Closed held held' (trouble_line T.Memory) NoMemory status

@@ -1,6 +1,6 @@
-//! An exercise: commands that are made, and a summary of their replies.
+//! An exercise: runs a generated input, and summarizes its replies.
 ghost use Rattle.std.specs.Prelude.{◌≡◌, ◌≢◌, ◌-◌, ◌≤◌};
-ghost use Rattle.outer_ports.specs.Ports.{Rose};
+ghost use Rattle.outer_ports.specs.Ports.{FailedLast, Rose};
 ghost use Rattle.trace_text.specs.Summary.{summary};
 ghost use Rattle.line_input.specs.Statuses.{Closed};
 ghost use Rattle.replay_run.specs.Exercise.{Exercised, RanMade};
@@ -12,11 +12,11 @@ use paged_machine::Engine;
 use std::alloc::Global;
 use trace_text::{Maker, summary_text};
 
-/// Runs the made input, and counts the lines of what it writes.
+/// Runs the generated input, and counts the lines that it writes.
 fn run_made<E: Engine>(alloc: Global, number: u32, count: u32, engine: &mut E) -> (Status, Tally)
     requires few { count ≤ 1000000 }
     requires idle { E.is_idle engine.old }
-    ensures made { RanMade number count (E.stands engine.new) (E.faults engine.new - E.faults engine.old) result.0 result.1 }
+    ensures made { RanMade number count (E.stands engine.new) (E.loaded engine.new) (E.faults engine.new - E.faults engine.old) result.0 result.1 }
     ensures later { E.faults engine.old ≤ E.faults engine.new }
 {
     let mut maker = Maker::new(number, count);
@@ -29,6 +29,7 @@ fn run_made<E: Engine>(alloc: Global, number: u32, count: u32, engine: &mut E) -
 fn write_summary<K: Sink>(sink: &mut K, count: u32, tally: &Tally) -> Status
     ensures wrote { Closed (K.stands sink.old) (K.stands sink.new) (summary count tally.now) Status.Done result }
     ensures write { result ≡ Status.WriteFailed → Rose (K.faults sink.old) (K.faults sink.new) }
+    ensures last { result ≡ Status.WriteFailed → FailedLast (K.faults sink.old) (K.faults sink.new) (K.failed sink.new) }
     ensures quiet { result ≢ Status.WriteFailed → K.faults sink.new ≡ K.faults sink.old }
 {
     let text = summary_text(count, tally);
@@ -38,9 +39,9 @@ fn write_summary<K: Sink>(sink: &mut K, count: u32, tally: &Tally) -> Status
     }
 }
 
-/// Runs the made input of this number and this count of commands on an idle machine, and writes the summary of its replies. If memory ran
-/// out before its first command, the error line of that stands alone. The made world has no objects, so the swap can't fail while it is
-/// loaded.
+/// Runs the generated input for this number, with this count of commands, on an idle machine, and writes the summary of its replies. If memory
+/// ran out before the first command, it writes only the error line for that. The generated world has no objects, so the swap device can't fail
+/// while the world is loaded.
 pub(crate) fn exercise<K: Sink, E: Engine>(
     alloc: Global,
     number: u32,
@@ -50,8 +51,9 @@ pub(crate) fn exercise<K: Sink, E: Engine>(
 ) -> Status
     requires few { count ≤ 1000000 }
     requires idle { E.is_idle engine.old }
-    ensures exercised { Exercised number count (K.stands sink.old) (K.stands sink.new) (E.stands engine.new) (E.faults engine.new - E.faults engine.old) result }
+    ensures exercised { Exercised number count (K.stands sink.old) (K.stands sink.new) (E.stands engine.new) (E.loaded engine.new) (E.faults engine.new - E.faults engine.old) result }
     ensures write { result ≡ Status.WriteFailed → Rose (K.faults sink.old) (K.faults sink.new) }
+    ensures last { result ≡ Status.WriteFailed → FailedLast (K.faults sink.old) (K.faults sink.new) (K.failed sink.new) }
     ensures quiet { result ≢ Status.WriteFailed → K.faults sink.new ≡ K.faults sink.old }
     ensures swap { result ≢ Status.SwapFailed }
     ensures later { E.faults engine.old ≤ E.faults engine.new }

@@ -4,7 +4,7 @@ ghost use Rattle.replay_run.specs.Steps.{stop_of};
 
 use line_input::{RunError, Stop};
 
-/// Why a run halts otherwise than at a line with trouble. It is one byte, since each call on the way to the loop hands it up.
+/// Why a run halts for another cause than a line with trouble. It has one byte, since each call on the way to the loop returns it.
 #[derive(Clone, Copy, Debug, PartialEq, Eq)]
 pub(crate) enum Halt {
     /// The sink failed.
@@ -18,7 +18,7 @@ pub(crate) enum Halt {
 }
 
 impl Halt {
-    /// How the run stops then.
+    /// The `Stop` for this halt.
     pub(crate) fn stop(self) -> Stop
         ensures is { result ≡ stop_of self }
         ensures write { result ≡ Stop.Write → self ≡ Halt.Write }

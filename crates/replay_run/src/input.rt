@@ -1,6 +1,6 @@
 //! A whole run.
-ghost use Rattle.std.specs.Prelude.{◌≡◌, ◌≢◌, ◌-◌, ◌<◌, ◌≤◌, true, ℕ, List, Some};
-ghost use Rattle.outer_ports.specs.Ports.{Gave, Rose};
+ghost use Rattle.std.specs.Prelude.{◌≡◌, ◌≢◌, ◌-◌, ◌<◌, ◌≤◌, true, ℕ, List, is_some, Some};
+ghost use Rattle.outer_ports.specs.Ports.{FailedLast, Gave, Rose};
 ghost use Rattle.paged_machine.specs.Holding.{StandsFor};
 ghost use Rattle.replay_run.specs.Outcome.{HasNoWorld, HasNoWorldYet, Ran};
 ghost use Rattle.line_input.specs.Statuses.{code};
@@ -11,13 +11,13 @@ use outer_ports::{Sink, SinkBuffer, Source, Swap};
 use paged_machine::{Engine, Machine};
 use std::alloc::Global;
 
-/// How many bytes of replies wait at most before they are given to the sink.
+/// The most bytes of replies that are pending before they are given to the sink.
 const PENDING: usize = 32_768;
 
 /// Answers an input on an idle engine: reads it from the source, line by line, runs its commands, and gives the replies to the sink. The
-/// sink's count of faults stays as it was but at `WriteFailed`, the source's but at that and at `ReadFailed`, and the engine's, if no reply
-/// is a fault, but at `WriteFailed` and at `SwapFailed`. If no world was opened, since none stands before the first line with trouble or
-/// before the source's fault, the engine is as it was.
+/// sink's count of failed calls is unchanged except at `WriteFailed`, the source's except at `WriteFailed` and `ReadFailed`, and the engine's,
+/// if no reply is `fault`, except at `WriteFailed` and `SwapFailed`. If no world was read before the first line with trouble, or before
+/// the source failed, the engine is unchanged.
 pub fn answer_input<S: Source, K: Sink, E: Engine>(
     alloc: Global,
     source: &mut S,
@@ -25,10 +25,12 @@ pub fn answer_input<S: Source, K: Sink, E: Engine>(
     engine: &mut E,
 ) -> Status
     requires { E.is_idle engine.old }
-    ensures ran { Ran (S.left source.old) (S.left source.new) (K.stands sink.old) (K.stands sink.new)
-        (E.stands engine.new) (Rose (S.faults source.old) (S.faults source.new)) (E.faults engine.new - E.faults engine.old) result }
+    ensures ran { (i b w : List ℕ) × Ran (S.left source.old) (S.left source.new) (K.stands sink.old) (K.stands sink.new)
+        (record { input = i; taken = b; written = w; stands = E.stands engine.new; loaded = E.loaded engine.new; source_rose = Rose (S.faults source.old) (S.faults source.new); swap_rose = E.faults engine.new - E.faults engine.old })
+        result }
     ensures read { result ≡ Status.ReadFailed → Rose (S.faults source.old) (S.faults source.new) }
     ensures write { result ≡ Status.WriteFailed → Rose (K.faults sink.old) (K.faults sink.new) }
+    ensures last { result ≡ Status.WriteFailed → FailedLast (K.faults sink.old) (K.faults sink.new) (K.failed sink.new) }
     ensures swap { result ≡ Status.SwapFailed → E.faults engine.old < E.faults engine.new }
     ensures quiet_source { result ≢ Status.ReadFailed → result ≢ Status.WriteFailed → S.faults source.new ≡ S.faults source.old }
     ensures quiet_sink { result ≢ Status.WriteFailed → K.faults sink.new ≡ K.faults sink.old }
@@ -37,6 +39,7 @@ pub fn answer_input<S: Source, K: Sink, E: Engine>(
     ensures unread { (i b : List ℕ) → S.left source.old ≡ Some i → Gave (Some i) (S.left source.new) b → HasNoWorldYet b
         → result ≡ Status.ReadFailed → engine.new ≡ engine.old }
 {
+    engine.idle_has_no_world();
     let mut reader = match LineReader::new(alloc) {
         Ok(reader) => reader,
         Err(_) => return report(sink, &RunError::Memory),
@@ -49,12 +52,12 @@ pub fn answer_input<S: Source, K: Sink, E: Engine>(
     finish(&mut buffer, sink, outcome)
 }
 
-/// Answers an input on an idle machine, and gives the number of the status: 0 if it was read to its end and each command
+/// Answers an input on an idle machine, and returns the number of the status: 0 if it was read to its end and each command
 /// answered, 1 if the sink failed, 2 if a line broke a rule or can't be run, 3 if the source failed, 4 if the world has no
-/// room for an area or its objects exceed a quota, 5 if memory ran out before the first command or at a dump, and 6 if the swap
-/// failed in a world with objects, before any reply was written. The sink's count of faults stays as it was but at 1, the source's but at 3
-/// and 1, and the swap's, if no reply is a fault, but at 6 and 1. If no world was opened, since none stands before the first line with
-/// trouble or before the source's fault, the machine is as it was.
+/// room for an area or its objects exceed a quota, 5 if memory ran out before the world was loaded or at a dump, and 6 if the swap device
+/// failed while the world's objects were loaded. The sink's count of failed calls is unchanged except at 1, the source's except
+/// at 1 and 3, and the swap device's, if no reply is `fault`, except at 1 and 6. If no world was read before the first line with
+/// trouble, or before the source failed, the machine is unchanged.
 pub fn replay<S: Source, K: Sink, D: Swap>(
     alloc: Global,
     source: &mut S,
@@ -62,10 +65,12 @@ pub fn replay<S: Source, K: Sink, D: Swap>(
     machine: &mut Machine<D>,
 ) -> u8
     requires { machine.old.idle ≡ true }
-    ensures ran { (status : Status) × (result ≡ code status) × Ran (S.left source.old) (S.left source.new) (K.stands sink.old) (K.stands sink.new)
-        (StandsFor machine.new.heap) (Rose (S.faults source.old) (S.faults source.new)) (machine.new.faults - machine.old.faults) status }
+    ensures ran { (status : Status) × (result ≡ code status) × (i b w : List ℕ) × Ran (S.left source.old) (S.left source.new) (K.stands sink.old) (K.stands sink.new)
+        (record { input = i; taken = b; written = w; stands = StandsFor machine.new.heap; loaded = is_some machine.new.heap; source_rose = Rose (S.faults source.old) (S.faults source.new); swap_rose = machine.new.faults - machine.old.faults })
+        status }
     ensures read { result ≡ 3 → Rose (S.faults source.old) (S.faults source.new) }
     ensures write { result ≡ 1 → Rose (K.faults sink.old) (K.faults sink.new) }
+    ensures last { result ≡ 1 → FailedLast (K.faults sink.old) (K.faults sink.new) (K.failed sink.new) }
     ensures swap { result ≡ 6 → machine.old.faults < machine.new.faults }
     ensures quiet_source { result ≢ 3 → result ≢ 1 → S.faults source.new ≡ S.faults source.old }
     ensures quiet_sink { result ≢ 1 → K.faults sink.new ≡ K.faults sink.old }

@@ -1,8 +1,8 @@
-//! The top call: an input read line by line, its commands run, and their replies written.
+//! The top call: it reads an input line by line, runs its commands, and writes their replies.
 //!
-//! Contracts say for each status what was read of the input, what was written, and what the machine stands for
-//! (`specs/Outcome.antt`), over the verdict on the input. Begin with `top`, `input`, `run` and `serve`; what runs commands is the engine of
-//! `paged_machine`.
+//! For each status, contracts say what was read of the input, what was written, and which state the machine represents
+//! (`specs/Outcome.antt`), in terms of the verdict on the input. Begin with `top`, `input`, `run` and `serve`; the engine that runs commands
+//! is that of `paged_machine`.
 #![tactic(auto)]
 
 mod exercise;

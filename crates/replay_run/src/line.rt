@@ -1,10 +1,10 @@
-//! One line: judged in its place, and what it brings about done.
-ghost use Rattle.std.specs.Prelude.{◌≡◌, ◌≢◌, ◌⊎◌, ◌≤◌, ◌<◌, ◌+◌, ◌-◌, ◌^◌, length, Some, None, Err, IfErr, OnOk};
-ghost use Rattle.outer_ports.specs.Ports.{Rose};
+//! One line: judging it, and doing what it requests.
+ghost use Rattle.std.specs.Prelude.{◌≡◌, ◌≢◌, ◌⊎◌, ◌≤◌, ◌<◌, ◌+◌, ◌-◌, ◌^◌, length, false, Some, None, Err, IfErr, OnOk};
+ghost use Rattle.outer_ports.specs.Ports.{FailedLast, Rose};
 ghost use Rattle.lisp_graph.specs.declared.command.Command.{Command as OneCommand};
 ghost use Rattle.lisp_graph.specs.declared.world.World.{World as OneWorld};
 ghost use Rattle.lisp_graph.specs.Commands.{IsRunnable};
-ghost use Rattle.input_verdict.specs.Events.{Does, Nothing, event_of};
+ghost use Rattle.input_verdict.specs.Events.{Does, Nothing, Opens, event_of};
 ghost use Rattle.input_verdict.specs.Places.{IsPlace, MayDo};
 ghost use Rattle.input_verdict.specs.Verdict.{world_of};
 ghost use Rattle.replay_run.specs.Steps.{Acted, FailsInDump, HasRoom, IsIn, TakesAfter};
@@ -19,7 +19,7 @@ use outer_ports::{Sink, SinkBuffer};
 use paged_machine::{Engine, LoadFault};
 use std::alloc::Global;
 
-/// Does what a line brings about.
+/// Does what a line requests.
 #[inline(always)]
 fn act<K: Sink, E: Engine>(
     alloc: Global,
@@ -38,11 +38,13 @@ fn act<K: Sink, E: Engine>(
         (K.stands sink.old) (K.stands sink.new) buffer.old.pending buffer.new.pending result }
     ensures fits { result ≡ Err Halt.Write → HasRoom buffer.old (K.faults sink.old)
         → (event_of step command.now ≡ Does command.now) × FailsInDump command.now (E.stands engine.old) (E.stands engine.new) (E.faults engine.old) (E.faults engine.new) }
+    ensures unloaded { IfErr result (λ _. event_of step command.now ≡ Opens → E.loaded engine.new ≡ false) }
     ensures room { buffer.new.room ≡ buffer.old.room }
     ensures same { event_of step command.now ≡ Nothing → engine.new ≡ engine.old }
     ensures takes { OnOk result (TakesAfter (event_of step command.now) world.now (E.takes engine.old) (E.takes engine.new) (E.is_idle engine.old) (E.is_idle engine.new)) }
     ensures read { IfErr result (λ halt. halt ≢ Halt.Read) }
     ensures write { IfErr result (λ halt. halt ≡ Halt.Write → Rose (K.faults sink.old) (K.faults sink.new)) }
+    ensures last { IfErr result (λ halt. halt ≡ Halt.Write → FailedLast (K.faults sink.old) (K.faults sink.new) (K.failed sink.new)) }
     ensures swap { IfErr result (λ halt. halt ≡ Halt.Swap → E.faults engine.old < E.faults engine.new) }
     ensures later { K.faults sink.old ≤ K.faults sink.new }
     ensures later_engine { E.faults engine.old ≤ E.faults engine.new }
@@ -59,8 +61,8 @@ fn act<K: Sink, E: Engine>(
     }
 }
 
-/// Answers the next line, which has this text and, if a line feed ends it, with that this many bytes: judges it in its place, and does what
-/// it brings about. A command is written to the place given for it. If the line is refused, or memory runs out as it is judged, nothing else
+/// Answers the next line, which has this text and, including its line feed if it has one, this many bytes: judges it in its place, and does what
+/// it requests. A command is written to `command`. If the line is refused, or memory runs out while it is judged, nothing else
 /// has changed.
 #[inline(always)]
 pub(crate) fn answer_line<K: Sink, E: Engine>(
@@ -85,10 +87,11 @@ pub(crate) fn answer_line<K: Sink, E: Engine>(
     ensures place { OnOk result (IsPlace place.new) }
     ensures stopped { IfErr result (λ stop.
         LineRefused place.old text.now size stop ((engine.new ≡ engine.old) × (sink.new ≡ sink.old) × (buffer.new ≡ buffer.old))
-        ⊎ LineHalted place.old place.new text.now size stop (HasRoom buffer.old (K.faults sink.old)) (E.stands engine.old) (E.stands engine.new)
+        ⊎ LineHalted place.old place.new text.now size stop (HasRoom buffer.old (K.faults sink.old)) (E.stands engine.old) (E.stands engine.new) (E.loaded engine.new)
         (E.faults engine.old) (E.faults engine.new) (K.stands sink.old) (K.stands sink.new) buffer.old.pending buffer.new.pending) }
     ensures read { IfErr result (λ stop. stop ≢ Stop.Tell RunError.Read) }
     ensures write { IfErr result (λ stop. stop ≡ Stop.Write → Rose (K.faults sink.old) (K.faults sink.new)) }
+    ensures last { IfErr result (λ stop. stop ≡ Stop.Write → FailedLast (K.faults sink.old) (K.faults sink.new) (K.failed sink.new)) }
     ensures swap { IfErr result (λ stop. stop ≡ Stop.Tell RunError.Swap → E.faults engine.old < E.faults engine.new) }
     ensures later { K.faults sink.old ≤ K.faults sink.new }
     ensures later_engine { E.faults engine.old ≤ E.faults engine.new }

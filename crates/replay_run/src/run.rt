@@ -1,6 +1,6 @@
 //! The loop over the lines.
 ghost use Rattle.std.specs.Prelude.{◌≡◌, ◌≢◌, ◌⊎◌, ◌≤◌, ◌<◌, ◌-◌, ◌^◌, ◌++◌, List, [], true, false, length, Some, Err, IfErr, OnOk, ℕ};
-ghost use Rattle.outer_ports.specs.Ports.{Gave, IsAtEnd, Rose};
+ghost use Rattle.outer_ports.specs.Ports.{FailedLast, Gave, IsAtEnd, Rose};
 ghost use Rattle.outer_ports.specs.Buffers.{Gathered};
 ghost use Rattle.input_verdict.specs.Events.{Nothing, event_of};
 ghost use Rattle.input_verdict.specs.Places.{MayDo};
@@ -18,7 +18,7 @@ use paged_machine::Engine;
 use std::alloc::Global;
 use world_text::Reason;
 
-/// The next line, or a prefix of it, where that has enough bytes. What is pending is given before more bytes are taken.
+/// The next line, or a prefix of it that has enough bytes. What is pending is given to the sink before more bytes are taken.
 #[inline(always)]
 fn next_line<S: Source, K: Sink>(
     reader: &mut LineReader,
@@ -40,6 +40,7 @@ fn next_line<S: Source, K: Sink>(
     ensures fetched { Fetched reader.new enough buffer.new.pending result }
     ensures read { IfErr result (λ halt. halt ≡ Halt.Read → Rose (S.faults source.old) (S.faults source.new)) }
     ensures write { IfErr result (λ halt. halt ≡ Halt.Write → Rose (K.faults sink.old) (K.faults sink.new)) }
+    ensures last { IfErr result (λ halt. halt ≡ Halt.Write → FailedLast (K.faults sink.old) (K.faults sink.new) (K.failed sink.new)) }
     ensures swap { IfErr result (λ halt. halt ≢ Halt.Swap) }
     ensures later_source { S.faults source.old ≤ S.faults source.new }
     ensures later_sink { K.faults sink.old ≤ K.faults sink.new }
@@ -59,7 +60,7 @@ fn next_line<S: Source, K: Sink>(
     }
 }
 
-/// Where the input ends.
+/// How a run stops when the input ends here.
 pub(crate) fn close(place: &JudgedInput) -> Result<(), Stop>
     requires { place.now.lines < 2 ^ 50 }
     ensures { result ≡ closed (ending_at place.now) }
@@ -70,7 +71,7 @@ pub(crate) fn close(place: &JudgedInput) -> Result<(), Stop>
     Err(Stop::Tell(early_end(place.lines, Reason::NotAWorld)))
 }
 
-/// Answers line after line, up to where the run has to stop.
+/// Answers one line after another, until the run has to stop.
 pub fn run_trace<S: Source, K: Sink, E: Engine>(
     alloc: Global,
     reader: &mut LineReader,
@@ -83,10 +84,12 @@ pub fn run_trace<S: Source, K: Sink, E: Engine>(
     requires ended { reader.old.ended ≡ false }
     requires pending { buffer.old.pending ≡ [] }
     requires idle { E.is_idle engine.old }
-    ensures ran { RanTo (S.left source.old) (S.left source.new) (K.stands sink.old) (K.stands sink.new)
-        (E.stands engine.new) (E.faults engine.new - E.faults engine.old) buffer.new.pending result }
+    ensures ran { (i b w : List ℕ) × RanTo (S.left source.old) (S.left source.new) (K.stands sink.old) (K.stands sink.new)
+        (record { input = i; taken = b; written = w; stands = E.stands engine.new; loaded = E.loaded engine.new; source_rose = Rose (S.faults source.old) (S.faults source.new); swap_rose = E.faults engine.new - E.faults engine.old })
+        buffer.new.pending result }
     ensures read { IfErr result (λ stop. stop ≡ Stop.Tell RunError.Read → Rose (S.faults source.old) (S.faults source.new)) }
     ensures write { IfErr result (λ stop. stop ≡ Stop.Write → Rose (K.faults sink.old) (K.faults sink.new)) }
+    ensures last { IfErr result (λ stop. stop ≡ Stop.Write → FailedLast (K.faults sink.old) (K.faults sink.new) (K.failed sink.new)) }
     ensures swap { IfErr result (λ stop. stop ≡ Stop.Tell RunError.Swap → E.faults engine.old < E.faults engine.new) }
     ensures later { K.faults sink.old ≤ K.faults sink.new }
     ensures later_engine { E.faults engine.old ≤ E.faults engine.new }
@@ -96,8 +99,9 @@ pub fn run_trace<S: Source, K: Sink, E: Engine>(
     ensures quiet_source { result ≢ Err (Stop.Tell RunError.Read) → result ≢ Err Stop.Write → S.faults source.new ≡ S.faults source.old }
     ensures quiet_sink { result ≢ Err Stop.Write → K.faults sink.new ≡ K.faults sink.old }
 {
+    engine.idle_has_no_world();
     let mut place = InputReader::start(InputJudge::new(alloc));
-    // Where each command is written.
+    // Each command is written here.
     let mut command = Request::new();
     loop {
         let enough = place.enough_if(place.judge.ended);

@@ -1,6 +1,6 @@
-//! Commands, and the texts of their answers.
-ghost use Rattle.std.specs.Prelude.{◌≡◌, ◌≢◌, ◌≤◌, ◌<◌, ◌+◌, ◌-◌, ◌^◌, length, Err, Ok, IfErr};
-ghost use Rattle.outer_ports.specs.Ports.{HasCause, Rose};
+//! Running commands, and writing the texts of their answers.
+ghost use Rattle.std.specs.Prelude.{◌≡◌, ◌≢◌, ◌≤◌, ◌<◌, ◌+◌, ◌-◌, ◌^◌, length, Err, Ok, IfErr, OnErr};
+ghost use Rattle.outer_ports.specs.Ports.{FailedLast, HasCause, Rose};
 ghost use Rattle.outer_ports.specs.Buffers.{Gathers};
 ghost use Rattle.lisp_graph.specs.declared.command.Command.{Command as OneCommand};
 ghost use Rattle.paged_machine.specs.lisp_meaning.State.{State};
@@ -24,6 +24,7 @@ fn give<K: Sink>(buffer: &mut SinkBuffer, sink: &mut K, text: &[u8]) -> Result<(
     ensures room { buffer.new.room ≡ buffer.old.room }
     ensures write { IfErr result (λ halt. halt ≡ Halt.Write) }
     ensures cause { HasCause (K.faults sink.old) (K.faults sink.new) result }
+    ensures last { OnErr result (FailedLast (K.faults sink.old) (K.faults sink.new) (K.failed sink.new)) }
 {
     match buffer.gather(sink, text) {
         Ok(()) => Ok(()),
@@ -31,7 +32,7 @@ fn give<K: Sink>(buffer: &mut SinkBuffer, sink: &mut K, text: &[u8]) -> Result<(
     }
 }
 
-/// Gathers the line of a reply. Most lines are always the same, and are given from the place that they have. A line has at most 64 bytes.
+/// Gathers the line of a reply. Most lines are constants, and aren't composed. A line has at most 64 bytes.
 #[inline(always)]
 fn give_reply<K: Sink>(
     buffer: &mut SinkBuffer,
@@ -44,6 +45,7 @@ fn give_reply<K: Sink>(
     ensures room { buffer.new.room ≡ buffer.old.room }
     ensures write { IfErr result (λ halt. halt ≡ Halt.Write) }
     ensures cause { HasCause (K.faults sink.old) (K.faults sink.new) result }
+    ensures last { OnErr result (FailedLast (K.faults sink.old) (K.faults sink.new) (K.failed sink.new)) }
 {
     match fixed_text(reply) {
         Some(text) => give(buffer, sink, text),
@@ -54,7 +56,7 @@ fn give_reply<K: Sink>(
     }
 }
 
-/// Gathers the line of each area, at most 16 lines of 64 bytes.
+/// Gathers a line for each area: at most 16 lines of 64 bytes each.
 fn give_accounts<K: Sink, E: Engine>(
     buffer: &mut SinkBuffer,
     sink: &mut K,
@@ -68,6 +70,7 @@ fn give_accounts<K: Sink, E: Engine>(
     ensures room { buffer.new.room ≡ buffer.old.room }
     ensures write { IfErr result (λ halt. halt ≡ Halt.Write) }
     ensures cause { HasCause (K.faults sink.old) (K.faults sink.new) result }
+    ensures last { OnErr result (FailedLast (K.faults sink.old) (K.faults sink.new) (K.failed sink.new)) }
 {
     let areas = world.areas.as_slice();
     for area in 0..areas.len() {
@@ -77,8 +80,8 @@ fn give_accounts<K: Sink, E: Engine>(
     Ok(())
 }
 
-/// Runs a command and gathers what is written for it. If the buffer has room for 1,024 bytes the sink fails only in a dump, which leaves the
-/// machine as it is.
+/// Runs a command and gathers what is written for it. If the buffer has room for 1,024 bytes, the sink can fail only in a dump, which leaves the
+/// machine unchanged.
 #[inline(always)]
 pub(crate) fn serve<K: Sink, E: Engine>(
     alloc: Global,
@@ -99,6 +102,7 @@ pub(crate) fn serve<K: Sink, E: Engine>(
     ensures read { IfErr result (λ halt. halt ≢ Halt.Read) }
     ensures swap { IfErr result (λ halt. halt ≢ Halt.Swap) }
     ensures write { IfErr result (λ halt. halt ≡ Halt.Write → Rose (K.faults sink.old) (K.faults sink.new)) }
+    ensures last { IfErr result (λ halt. halt ≡ Halt.Write → FailedLast (K.faults sink.old) (K.faults sink.new) (K.failed sink.new)) }
     ensures later { K.faults sink.old ≤ K.faults sink.new }
     ensures later_engine { E.faults engine.old ≤ E.faults engine.new }
     ensures quiet { result ≢ Err Halt.Write → K.faults sink.new ≡ K.faults sink.old }

@@ -13,17 +13,17 @@ use input_verdict::{InputJudge, JudgedInput};
 use line_input::{InputReader, RunError, Status, Stop};
 use lisp_graph::Request;
 use outer_ports::{NoMemory, SinkBuffer, Swap};
-use paged_machine::Machine;
+use paged_machine::{Engine, Machine};
 use std::alloc::Global;
 use std::marker::Model;
 
-/// How many bytes of an answer the session's own buffer has room for. A longer one is that of a dump.
+/// The size of the session's own buffer for answers, in bytes. Only the answer to a dump may be longer.
 const PENDING: usize = 32_768;
 
 /// The most bytes of a line.
 const LONGEST_LINE: usize = 32_768;
 
-/// Whether a session goes on.
+/// Whether a session is open.
 #[derive(Clone, Copy, Debug, PartialEq, Eq)]
 pub enum SessionState {
     /// It takes the next line.
@@ -32,7 +32,7 @@ pub enum SessionState {
     Ended(Status),
 }
 
-/// A run between two lines of its input, or one that has ended. It keeps the answer to the latest line, until the next one is fed.
+/// A run between two lines of its input, or one that has ended. It stores the answer to the latest line until the next one is fed.
 #[derive(Drop)]
 pub struct Session<D: Swap> {
     place: JudgedInput,
@@ -55,8 +55,8 @@ impl<D: Swap> Model for Session<D> {
     ghost invariant = { λ s. (s.buffer.room ≡ 32768) × (s.state ≡ Open → (fed : List ℕ) × (written : List ℕ) × GoesOn fed written (record { place = s.place; machine = s.machine; state = s.state; answer = s.room.bytes.items ++ s.buffer.pending })) };
 }
 
-/// What a run looks at of a line with this text, and how many bytes it takes of it: the text, and a byte more for its line feed; of a text of
-/// more than 32,768 bytes the first 32,769, which decide that it is too long.
+/// What a run looks at in a line with this text, and how many bytes it takes for the line: the text, and one byte more for its line feed; if the
+/// text has more than 32,768 bytes, its first 32,769, which decide that it is too long.
 fn front_of(text: &[u8]) -> (&[u8], usize)
     ensures front { result.0.now ≡ take 32769 text.now }
     ensures size { result.1 ≡ length (fed_of text.now) }
@@ -69,7 +69,7 @@ fn front_of(text: &[u8]) -> (&[u8], usize)
     (text, text.len() + 1)
 }
 
-/// Forgets the latest answer.
+/// Drops the latest answer.
 fn forget(buffer: &mut SinkBuffer, room: &mut AnswerRoom)
     ensures pending { buffer.new ≡ record buffer.old { pending = [] } }
     ensures bytes { room.new.bytes.items ≡ [] }
@@ -79,7 +79,7 @@ fn forget(buffer: &mut SinkBuffer, room: &mut AnswerRoom)
     room.clear();
 }
 
-/// The trouble that a session has to tell where a run would stop. If a dump had no room, memory ran out.
+/// The trouble that a session reports when a run would stop. If a dump had no room, memory ran out.
 fn trouble_of(stop: Stop) -> RunError
     ensures { result ≡ trouble_of stop }
 {
@@ -89,7 +89,7 @@ fn trouble_of(stop: Stop) -> RunError
     }
 }
 
-/// Answers with the error line of what stops a session, and gives its status.
+/// Makes the error line of what stops a session its answer, and returns its status.
 fn tell(buffer: &mut SinkBuffer, room: &mut AnswerRoom, stop: Stop) -> Status
     ensures pending { buffer.new ≡ record buffer.old { pending = [] } }
     ensures status { result ≡ status_of (trouble_of stop) }
@@ -100,7 +100,7 @@ fn tell(buffer: &mut SinkBuffer, room: &mut AnswerRoom, stop: Stop) -> Status
 }
 
 impl<D: Swap + Drop> Session<D> {
-    /// A session that was fed nothing, on an idle machine whose swap hasn't failed. It takes the memory for its answers.
+    /// A session that was fed nothing, on an idle machine whose swap device hasn't failed. It allocates the memory for its answers.
     pub fn new(alloc: Global, machine: Machine<D>) -> Result<Session<D>, NoMemory>
         requires idle { machine.idle ≡ true }
         requires quiet { machine.faults ≡ 0 }
@@ -122,7 +122,7 @@ impl<D: Swap + Drop> Session<D> {
 }
 
 impl<D: Swap> Session<D> {
-    /// Whether it goes on.
+    /// Whether the session is open.
     pub fn state(&self) -> SessionState
         ensures { result ≡ self.now.state }
     {
@@ -136,9 +136,9 @@ impl<D: Swap> Session<D> {
         (self.room.bytes.as_slice(), self.buffer.bytes())
     }
 
-    /// Feeds a session that goes on the next line, which has this text and a line feed. Of a text of more than 32,768 bytes the first 32,769 are
-    /// fed, which decide that the line is too long. Behind the call what was written is what a run writes of the lines so far, the answer at its
-    /// end. Once the world's last line was fed only a dump takes memory.
+    /// Feeds the next line to an open session. The line is this text and a line feed. If the text has more than 32,768 bytes, its first 32,769 are
+    /// fed, which decide that the line is too long. After the call, what was written is what a run writes for the lines so far, and ends with the
+    /// answer. After the world's last line was fed, only a dump allocates memory.
     pub fn line(&mut self, alloc: Global, text: &[u8])
         requires open { self.old.state ≡ SessionState.Open }
         requires one { no_feed text.now ≡ true }
@@ -147,6 +147,7 @@ impl<D: Swap> Session<D> {
         ensures write { self.new.state ≢ SessionState.Ended Status.WriteFailed }
         ensures read { self.new.state ≢ SessionState.Ended Status.ReadFailed }
     {
+        self.machine.idle_has_no_world();
         forget(&mut self.buffer, &mut self.room);
         let (front, size) = front_of(text);
         match answer_line(
@@ -167,7 +168,7 @@ impl<D: Swap> Session<D> {
         }
     }
 
-    /// Ends a session that goes on, where its input ends. Behind the call what was written is what a run writes of the whole input.
+    /// Ends an open session, as the end of the input does. After the call, what was written is what a run writes for the whole input.
     pub fn end(&mut self)
         requires open { self.old.state ≡ SessionState.Open }
         ensures does { (fed : List ℕ) → (written : List ℕ) → Does fed written self.old → Does fed (written ++ self.new.answer) self.new }

@@ -1,7 +1,7 @@
 //! The top call.
-ghost use Rattle.std.specs.Prelude.{◌≡◌, ◌≢◌, ◌⊎◌, ◌-◌, ◌<◌, ◌≤◌, true, false, ℕ, List, Some, None};
+ghost use Rattle.std.specs.Prelude.{◌≡◌, ◌≢◌, ◌⊎◌, ◌-◌, ◌<◌, ◌≤◌, true, false, ℕ, List, is_some, Some, None};
 ghost use Rattle.std.specs.List.{All};
-ghost use Rattle.outer_ports.specs.Ports.{Gave, Rose};
+ghost use Rattle.outer_ports.specs.Ports.{FailedLast, Gave, Rose};
 ghost use Rattle.paged_machine.specs.Holding.{MeansFor};
 ghost use Rattle.lisp_graph.specs.declared.command.Command.TheVariants.{Dump};
 ghost use Rattle.replay_run.specs.Outcome.{HasNoWorld, HasNoWorldYet, IsEarly, Ran};
@@ -20,16 +20,16 @@ use file_modes::run_mode;
 use line_input::{RunError, Status, report};
 use lisp_graph::NoMemory;
 use outer_ports::{Sink, Source, Swap};
-use paged_machine::Machine;
+use paged_machine::{Engine, Machine};
 use std::alloc::Global;
 
-/// All that the program does. `words` are the words after its name, and the machine is idle.
+/// Everything that the program does. `words` are the program's arguments, and the machine is idle.
 ///
-/// The word `replay` answers the input, as `replay` says; `exercise --number N --count K` answers the made input for N and K, and writes a
-/// summary of its replies, or if memory ran out the error line of that alone; `print`, `why --object K` and `census` answer what they ask of
-/// a world file, and `compile` of a text of expressions, as `run_mode` of `file_modes` says. Other words are refused with status 7. If memory
-/// runs out before the words are read, the status is 5, whatever they are. If the sink fails in what is written, it is 1. At any other
-/// status a device whose fault isn't answered, by the status or for the swap by a reply, has the count of faults that it had.
+/// The argument `replay` answers the input, as `replay` says; `exercise --number N --count K` answers the generated input for N and K, and writes a
+/// summary of its replies, or, if memory ran out, only the error line for that; `print`, `why --object K` and `census` answer what they request of
+/// a world file, and `compile` of a text of S-expressions, as `run_mode` of `file_modes` says. Other arguments are refused with status 7. If memory
+/// runs out before the arguments are read, the status is 5, whatever they are. If the sink fails in what is written, the status is 1. At any other
+/// status, if a device's failure isn't reported by the status or, for the swap device, by a reply, the device's count of failed calls is unchanged.
 pub fn run_lispm<S: Source, K: Sink, D: Swap>(
     alloc: Global,
     words: &[String],
@@ -39,63 +39,68 @@ pub fn run_lispm<S: Source, K: Sink, D: Swap>(
 ) -> u8
     requires { machine.old.idle ≡ true }
 
-    // Of an input the run is as its status says, and the heap has the meaning of the state after its commands.
+    // The run on an input is as its status says, and the heap has the meaning of the state after its commands.
     ensures ran { mode_of words.now ≡ Some Mode.Replay → ((status : Status) × (result ≡ code status)
-        × Ran (S.left source.old) (S.left source.new) (K.stands sink.old) (K.stands sink.new)
-        (MeansFor machine.new.heap) (Rose (S.faults source.old) (S.faults source.new)) (machine.new.faults - machine.old.faults) status) }
+        × (i b w : List ℕ) × Ran (S.left source.old) (S.left source.new) (K.stands sink.old) (K.stands sink.new)
+        (record { input = i; taken = b; written = w; stands = MeansFor machine.new.heap; loaded = is_some machine.new.heap; source_rose = Rose (S.faults source.old) (S.faults source.new); swap_rose = machine.new.faults - machine.old.faults })
+        status) }
 
-    // Of the made input for a number and a count the replies are those of a run, too. Their summary is written.
+    // For the generated input the replies are those of a run, too. Their summary is written.
     ensures exercised { (number count : ℕ) → mode_of words.now ≡ Some (Mode.Exercise number count) → ((status : Status) × (result ≡ code status)
         × Exercised number count (K.stands sink.old) (K.stands sink.new)
-        (MeansFor machine.new.heap) (machine.new.faults - machine.old.faults) status) }
+        (MeansFor machine.new.heap) (is_some machine.new.heap) (machine.new.faults - machine.old.faults) status) }
 
-    // Of a file it is what the mode asks of its world, or an error line.
+    // For a file, what the mode requests of its world is written, or an error line.
     ensures asked { (mode : FileMode) → mode_of words.now ≡ Some (Mode.OfFile mode) → ((status : Status) × (result ≡ code status)
         × files.Ran mode (S.left source.old) (S.left source.new) (K.stands sink.old) (K.stands sink.new) status) }
 
-    // Other words are refused, and no others.
+    // All other arguments are refused, and no others.
     ensures usage { mode_of words.now ≡ None → ((status : Status) × (result ≡ code status)
         × Refused (K.stands sink.old) (K.stands sink.new) status) }
     ensures only { result ≡ 7 → mode_of words.now ≡ None }
 
-    // Of refused words and of an exercise no byte is taken. Where no commands are run, the machine stays idle.
-    ensures untaken { reads (mode_of words.now) ≡ false → S.left source.new ≡ S.left source.old }
+    // With refused arguments, and for an exercise, the source isn't called. If no commands are run, the machine remains idle.
+    ensures untaken { reads (mode_of words.now) ≡ false → source.new ≡ source.old }
     ensures idle { runs (mode_of words.now) ≡ false → machine.new ≡ machine.old }
 
-    // An input that is whole is answered to its end where no device fails. Only memory may run out, before its first command or at a dump.
+    // If no device fails, a whole input is answered to its end. Only memory may run out, before the first command or at a dump.
     ensures complete { (i : List ℕ) → mode_of words.now ≡ Some Mode.Replay → S.left source.old ≡ Some i → (verdict i).ending ≡ Whole
         → (Rose (S.faults source.old) (S.faults source.new) → ⊥) → (Rose (K.faults sink.old) (K.faults sink.new) → ⊥) → machine.new.faults ≤ machine.old.faults
         → (result ≡ 0) ⊎ (result ≡ 5) }
 
-    // An input with trouble then has the status of that.
+    // An input with trouble then has the status of its trouble.
     ensures refused { (i : List ℕ) (trouble : RunError) → mode_of words.now ≡ Some Mode.Replay → S.left source.old ≡ Some i → (verdict i).ending ≡ Broken trouble
         → (Rose (S.faults source.old) (S.faults source.new) → ⊥) → (Rose (K.faults sink.old) (K.faults sink.new) → ⊥) → machine.new.faults ≤ machine.old.faults
         → (result ≡ code (status_of trouble)) ⊎ (result ≡ 5) }
 
-    // In an input without a dump memory runs out before the first command alone.
+    // In an input without a dump, memory can run out only before the first command.
     ensures early { (i : List ℕ) → mode_of words.now ≡ Some Mode.Replay → S.left source.old ≡ Some i → All (λ command. command ≢ Dump) (verdict i).read.commands
-        → result ≡ 5 → IsEarly i (S.left source.new) (K.stands sink.old) (K.stands sink.new) }
+        → result ≡ 5 → IsEarly i (S.left source.new) (K.stands sink.old) (K.stands sink.new) (is_some machine.new.heap) }
 
-    // Where no world was opened the machine is as it was: none stands before the first line with trouble, or before the source's fault.
+    // If no world was read before the first line with trouble, or before the source failed, the machine is unchanged.
     ensures unopened { (i : List ℕ) → mode_of words.now ≡ Some Mode.Replay → S.left source.old ≡ Some i → HasNoWorld i → machine.new ≡ machine.old }
     ensures unread { (i b : List ℕ) → mode_of words.now ≡ Some Mode.Replay → S.left source.old ≡ Some i → Gave (Some i) (S.left source.new) b → HasNoWorldYet b
         → result ≡ 3 → machine.new ≡ machine.old }
 
-    // An exercise is answered to its end, too, whatever the swap does.
+    // An exercise is answered to its end, too, whatever the swap device does.
     ensures complete_made { (number count : ℕ) → mode_of words.now ≡ Some (Mode.Exercise number count)
         → (Rose (K.faults sink.old) (K.faults sink.new) → ⊥) → (result ≡ 0) ⊎ (result ≡ 5) }
 
-    // The fault of a device is answered only if its count rose.
+    // A device's failure is reported only if its count of failed calls rose.
     ensures read { result ≡ 3 → Rose (S.faults source.old) (S.faults source.new) }
     ensures write { result ≡ 1 → Rose (K.faults sink.old) (K.faults sink.new) }
     ensures swap { result ≡ 6 → machine.old.faults < machine.new.faults }
 
-    // Else the count is as it was; the swap's, if no reply is a fault, by `ran` and `exercised`. Where the sink fails, the source or the
-    // swap may have failed before it.
+    // If the sink failed, exactly one of its calls did, and that was the latest, so nothing was written after it.
+    ensures last { result ≡ 1 → FailedLast (K.faults sink.old) (K.faults sink.new) (K.failed sink.new) }
+
+    // Otherwise the count is unchanged; that of the swap device, if no reply is `fault`, by `ran` and `exercised`. If the sink fails, the source or
+    // the swap device may have failed before it.
     ensures quiet_source { result ≢ 3 → result ≢ 1 → S.faults source.new ≡ S.faults source.old }
     ensures quiet_sink { result ≢ 1 → K.faults sink.new ≡ K.faults sink.old }
     ensures later { machine.old.faults ≤ machine.new.faults }
 {
+    machine.idle_has_no_world();
     match read_words(alloc, words) {
         Ok(Some(Mode::Replay)) => { answer_input(alloc, source, sink, machine).code() }
         Ok(Some(Mode::Exercise { number, count })) => {

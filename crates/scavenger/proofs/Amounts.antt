@@ -1,4 +1,4 @@
--- How many words are open: those that are used, but for the first ones of each page that are scanned or no units.
+-- How many words are open: those that are used, except the first ones of each page that are scanned or aren't units.
 use Rattle.std.proofs.Common.{◌≡◌, ℕ, zero, suc, ◌+◌, ◌-◌, ◌*◌, ◌/◌, ◌%◌, ◌<◌, ◌≤◌, inl, inr, nat_le, min, List, length, slice_index, slice_set, refl, ◌∙◌, ap, arith}
 use Rattle.std.proofs.lemmas.Bool.{cases_lt, cases_eq, lt-leb, le-leb}
 use Rattle.std.proofs.lemmas.List.{get_or-set_same, get_or-set_other}
@@ -13,7 +13,7 @@ use Rattle.scavenger.proofs.Counting.{open_units}
 use Rattle.scavenger.proofs.Sums.{where-none, where-one}
 use Rattle.scavenger.proofs.Lowest.{is-open, not-behind, not-used}
 
--- so many of the first words of a page, at most as many as another number: that many are below both
+-- how many of the first m words of a page are among its first n: the smaller number
 abbrev low-of : ℕ → ℕ → ℕ
 low-of m n = m - (m - n)
 
@@ -42,7 +42,7 @@ module _ (s : Scan) (t : Table) (page first used : ℕ) (is : slice_index s.page
         ]
       ]
 
--- a page behind the used end of its region has no open word
+-- a page past the used end of its region has no open word
 none-among : (s : Scan) (t : Table) (page : ℕ) → used_of t (page / 16) ≤ 256 * (page % 16) → (j : ℕ) → j ≤ 256 → total (λ a. if_true (is_open s t a) 1) (256 * page + j) ≡ total (λ a. if_true (is_open s t a) 1) (256 * page)
 none-among s t page past zero few = let e : 256 * page + 0 ≡ 256 * page = omega arith in ap (total (λ a. if_true (is_open s t a) 1)) e
 none-among s t page past (suc j) few =
@@ -55,7 +55,7 @@ none-among s t page past (suc j) few =
     let z = where-none (is_open s t (256 * page + j)) (not-used s t (256 * page + j) (omega arith)) in
     omega arith
 
--- so many pages: open words, and first words that are scanned or no units, are the used ones
+-- over `n` pages: open words, and first words that are scanned or aren't units, are the used ones
 pub open-pages : (s : Scan) (t : Table) → ((page : ℕ) → slice_index s.pages page ≤ used_on t page) → (n : ℕ) → total (λ a. if_true (is_open s t a) 1) (256 * n) + total (slice_index s.pages) n ≡ total (used_on t) n
 open-pages s t few zero =
     let a = total-zero (λ a. if_true (is_open s t a) 1) in
@@ -77,7 +77,7 @@ open-pages s t few (suc n) =
       | inr past ↦ let all = none-among s t n past 256 (omega arith) in omega arith
     ]
 
--- the used words of so many first pages of a region
+-- the used words of the first `j` pages of a region
 first-pages : (t : Table) (r j : ℕ) → j ≤ 16 → total (used_on t) (16 * r + j) ≡ total (used_on t) (16 * r) + min (256 * j) (used_of t r)
 first-pages t r zero few = let e : 16 * r + 0 ≡ 16 * r = omega arith in let x = ap (total (used_on t)) e in omega arith
 first-pages t r (suc j) few =
@@ -89,7 +89,7 @@ first-pages t r (suc j) few =
     let y : used_of t ((16 * r + j) / 16) ≡ used_of t r = ap (used_of t) region in
     omega arith
 
--- the used words of all pages of so many regions are those of the regions
+-- the used words of all pages of `n` regions are those of the regions
 pub used-pages : (t : Table) → ((r : ℕ) → used_of t r ≤ 4096) → (n : ℕ) → total (used_on t) (16 * n) ≡ total (used_of t) n
 used-pages t full zero = let a = total-zero (used_on t) in let b = total-zero (used_of t) in omega arith
 used-pages t full (suc n) =
@@ -112,7 +112,7 @@ registers-left scanned (suc n) =
       | inr high ↦ let x = where-one (nat_le scanned n) (le-leb scanned n high) in omega arith
     ]
 
--- open units, and those that are scanned or no units, are the registers and the used words
+-- open units, and those that are scanned or aren't units, are the registers and the used words
 pub units-sum : (s : Scan) (t : Table) → ((r : ℕ) → used_of t r ≤ 4096) → ((page : ℕ) → slice_index s.pages page ≤ used_on t page)
     → open_units s t + (total (slice_index s.pages) (16 * t.regions) + min s.scanned s.registers) ≡ s.registers + total (used_of t) t.regions
 units-sum s t full few =
@@ -165,7 +165,7 @@ module _ (s : Scan) (t : Table) (at : ℕ) (full : (r : ℕ) → used_of t r ≤
 pub few-grown : (s : Scan) (t t' : Table) → ((r : ℕ) → used_of t r ≤ used_of t' r) → ((page : ℕ) → slice_index s.pages page ≤ used_on t page) → (page : ℕ) → slice_index s.pages page ≤ used_on t' page
 few-grown s t t' used few page = let a = few page in let b = used (page / 16) in omega arith
 
--- what isn't used is behind the first words of its page
+-- what isn't used is past the first words of its page
 pub few-ahead : (s : Scan) (t : Table) → ((page : ℕ) → slice_index s.pages page ≤ used_on t page) → (a : ℕ) → used_of t (a / 4096) ≤ a % 4096 → slice_index s.pages (a / 256) ≤ a % 256
 few-ahead s t few a past =
     let f = few (a / 256) in
@@ -173,7 +173,7 @@ few-ahead s t few a past =
     let same : used_of t (a / 256 / 16) ≡ used_of t (a / 4096) = ap (used_of t) region in
     omega arith
 
--- words are placed: they are left, and no others come
+-- words are placed: they remain to be scanned, and no others are added
 pub units-grown : (s : Scan) (t t' : Table) → ((r : ℕ) → used_of t r ≤ 4096) → ((r : ℕ) → used_of t' r ≤ 4096) → ((r : ℕ) → used_of t r ≤ used_of t' r) → t'.regions ≡ t.regions
     → total (used_of t') t'.regions + t.placed ≡ total (used_of t) t.regions + t'.placed → ((page : ℕ) → slice_index s.pages page ≤ used_on t page) → open_units s t' + t.placed ≡ open_units s t + t'.placed
 units-grown s t t' full full' used regions placed few =

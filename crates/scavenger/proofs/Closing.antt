@@ -1,4 +1,4 @@
--- The scan is over exactly if every register is scanned and the set of pages is empty.
+-- The scan has finished if and only if every register is scanned and the set of pages is empty.
 use Rattle.std.proofs.Common.{◌≡◌, ℕ, ◌≤◌, inl, inr, Bool, true, false, not, length, sym, ap, Option, Some, None}
 use Rattle.std.specs.Option.{is_some}
 use Rattle.std.proofs.lemmas.Bool.{cases_Bool}
@@ -25,7 +25,7 @@ module _ (s : Scan) (t : Table) (size : length t.used ≡ t.regions) (x : IsPage
     | inr going ↦ going
   ]
 
-  -- so it is where the set tells its lowest page
+  -- the same if the set gives its lowest page
   pub over-by-set : (o : Option ℕ) → o ≡ first_of t.pages → s.registers ≤ s.scanned → (over : Bool) → is_some o ≡ not over → over ≡ is_none (next_of (opened s) t)
   over-by-set None none done true e = sym (over-empty done (sym none))
   over-by-set None none done false e = cc

@@ -1,4 +1,4 @@
--- The next unit is that of the meaning of collections.
+-- The next unit is that of the definition of collections.
 use Rattle.std.proofs.Common.{◌≡◌, ℕ, zero, suc, ◌*◌, ◌/◌, Bool, ◌&&◌, length, refl, sym, ◌∙◌, ap, Option, Some, None}
 use Rattle.mem_port.specs.Store.{Store}
 use Rattle.area_space.specs.Table.{Table}

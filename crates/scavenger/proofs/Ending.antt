@@ -64,7 +64,7 @@ repaged-grows t t' ps x = record {
   placed = x.placed;
 }
 
--- What an end leaves
+-- The state after an end
 
 pub ended-table : {m m' : Store} {t t' : Table} {scan : Scan} {page : ℕ} → EndsPage m t scan m' t' page → t' ≡ repaged t t'.pages
 ended-table {m} {m'} {t} {t'} (ends done table drops remarks) = table

@@ -1,4 +1,4 @@
--- What is tidy stays so where a unit is scanned.
+-- What is tidy stays so when a unit is scanned.
 use Rattle.std.proofs.Common.{◌≡◌, ◌≢◌, ℕ, ◌+◌, ◌/◌, ◌%◌, ◌<◌, ◌≤◌, ◌⊎◌, inl, inr, false, List, length, get_or, slice_index, slice_set, length-set, sym, ◌∙◌, ap, subst, arith}
 use Rattle.std.proofs.lemmas.Bool.{cases_lt, cases_eq}
 use Rattle.std.proofs.lemmas.List.{get_or-set_same, get_or-set_other}
@@ -18,7 +18,7 @@ use Rattle.scavenger.proofs.Counting.{still-open}
 use Rattle.scavenger.proofs.Lowest.{is-open, not-behind}
 use Rattle.scavenger.proofs.Tidying.{Tidy}
 
--- the word that is scanned stands behind those of its page that were
+-- the word that is scanned follows the scanned words of its page
 pub tidy-word : (m : Store) (t : Table) (s : Scan) (registers : List Parts) (at : ℕ) → ((i : ℕ) → used_of t i ≤ 4096) → slice_index s.pages (at / 256) ≡ at % 256 → at % 4096 < used_of t (at / 4096) → at / 256 < length s.pages
     → FreshOn t (word_at m.words at).content → Tidy m t s registers → Tidy m t (word_done s at) registers
 tidy-word m t s registers at full first used low fresh x = record {

@@ -20,7 +20,7 @@ register-moves {m} {m'} {t} {t'} registers r old new inside was settled =
     subst (λ (w : Parts). MovesFor m t m' t' w (get_or (slice_set registers r new) r null_word)) (sym was)
     (subst (λ (w : Parts). MovesFor m t m' t' old w) (sym (get_or-set_same registers r new null_word inside)) settled)
 
--- of the unit that is next
+-- the words of the next unit move
 pub next-moves : (m m' : Store) (t t' : Table) (scan : Scan) (registers registers' : List Parts) (next unit : Option ScanUnit) → next ≡ unit → UnitMoves m t scan registers m' t' registers' unit → UnitMoves m t scan registers m' t' registers' next
 next-moves m m' t t' scan registers registers' next unit is moves = subst (λ (u : Option ScanUnit). UnitMoves m t scan registers m' t' registers' u) (sym is) moves
 

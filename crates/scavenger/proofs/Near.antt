@@ -1,4 +1,4 @@
--- A page with a word left: the scan isn't over, and its next word may be next.
+-- A page with an unscanned word: the scan hasn't finished, and the page's next word may be next.
 use Rattle.std.proofs.Common.{◌≡◌, ℕ, ◌+◌, ◌*◌, ◌/◌, ◌%◌, ◌<◌, Bool, false, nat_le, length, slice_index, refl, sym, ◌∙◌, ap, subst, arith, Option, Some, None}
 use Rattle.std.specs.Prelude.{Contains}
 use Rattle.std.proofs.lemmas.Bool.{leb-false}
@@ -26,7 +26,7 @@ left-open s t page left =
     let on : (256 * page + slice_index s.pages page) / 256 ≡ page = omega arith in
     (256 * page + slice_index s.pages page, on, open-first s t page (slice_index s.pages page) refl (omega arith) (omega arith))
 
--- so the scan isn't over
+-- so the scan hasn't finished
 left-going : (s : Scan) (t : Table) (page : ℕ) → length t.used ≡ t.regions → IsPaged s t → page_done s t page ≡ false → is_none (next_of (opened s) t) ≡ false
 left-going s t page size x left = by-first (first_of t.pages) refl
   where
@@ -37,7 +37,7 @@ left-going s t page size x left = by-first (first_of t.pages) refl
     by-first None e = absurd (first-none t.pages page e has)
     by-first (Some lowest) e = going-on s t size x lowest e
 
--- A word was scanned, and another of its page is left
+-- A word was scanned, and another of its page remains
 
 module _ (m m' : Store) (t t' : Table) (s : Scan) (at : ℕ) (ending : EndsPage m t (word_done s at) m' t' (at / 256)) (size : length t.used ≡ t.regions) (x : IsPaged (word_done s at) t')
     (going : s.over ≡ false) (left : page_done (word_done s at) t (at / 256) ≡ false) where

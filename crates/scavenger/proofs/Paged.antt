@@ -85,7 +85,7 @@ module _ (s : Scan) (t : Table) (at : ℕ) (first : slice_index s.pages (at / 25
       let same = done-there o.0 (λ e. ne (omega arith)) in
       (o.0, o.1, is-open (word_done s at) t o.0 (omega arith) p.1)
 
-  -- where the next word of the page is used, the page stays
+  -- if the next word of the page is used, the page remains in the set
   pub paged-on : at % 256 + 1 < 256 → at % 4096 + 1 < used_of t (at / 4096) → IsPaged (word_done s at) t
   paged-on few more = record {
     ascending = x.ascending;
@@ -103,7 +103,7 @@ module _ (s : Scan) (t : Table) (at : ℕ) (first : slice_index s.pages (at / 25
     );
   }
 
-  -- where it isn't, the page goes
+  -- if it isn't, the page is removed
   pub paged-dropped : (t' : Table) → t'.used ≡ t.used → Drops (page_list t) (page_list t') (at / 256) → (256 ≤ at % 256 + 1) ⊎ (used_of t (at / 4096) ≤ at % 4096 + 1) → IsPaged (word_done s at) t'
   paged-dropped t' used drops last = record {
     ascending = drops.ascending;
@@ -242,14 +242,14 @@ page-inside s t size x page has =
 pub lowest-page : (s : Scan) (t : Table) → IsPaged s t → (page : ℕ) → first_of t.pages ≡ Some page → HasOpen s t page × ((other : ℕ) → other < page → HasOpen s t other → ⊥)
 lowest-page s t x page first = ((x.exact page).0 (Contains-first t.pages page first), λ other low o. first-least t.pages page other x.ascending first ((x.exact other).1 o) low)
 
--- where the set is empty no word is open
+-- if the set is empty no word is open
 pub no-page : (s : Scan) (t : Table) → IsPaged s t → first_of t.pages ≡ None → (a : ℕ) → is_open s t a ≡ false
 no-page s t x none a = elim (cases_Bool (is_open s t a)) [
   | inl here ↦ absurd (first-none t.pages (a / 256) none ((x.exact (a / 256)).1 (a, refl, here)))
   | inr not_here ↦ not_here
 ]
 
--- so it is whatever the set tells
+-- the same for any answer of the set
 pub lowest-is : (s : Scan) (t : Table) → IsPaged s t → (lowest : Option ℕ) → lowest ≡ first_of t.pages → IfSome lowest (λ page. HasOpen s t page × ((other : ℕ) → other < page → HasOpen s t other → ⊥))
 lowest-is s t x None e = tt
 lowest-is s t x (Some page) e = lowest-page s t x page (sym e)

@@ -1,4 +1,4 @@
--- A clean scan stays clean whatever a call writes that preserves the ground, and so many words are left as were placed.
+-- A clean scan stays clean over any call that preserves the ground, and the units that remain grow by the words placed.
 use Rattle.std.proofs.Common.{◌≡◌, ℕ, zero, suc, ◌+◌, ◌*◌, ◌/◌, ◌%◌, ◌^◌, ◌<◌, ◌≤◌, ◌⊎◌, inl, inr, true, false, nat_lt, nat_le, List, length, get_or, slice_index, refl, sym, ◌∙◌, ap, subst, IsTrue, arith}
 use Rattle.std.proofs.lemmas.Bool.{cases_lt, cases_Bool, and_parts, leb-true, lt-leb, ltb-true}
 use Rattle.store_word.specs.Words.{Parts, null_word}
@@ -32,7 +32,7 @@ use Rattle.scavenger.proofs.Sums.{where-none}
 use Rattle.scavenger.proofs.Nexts.{opened}
 use Rattle.scavenger.proofs.Tidying.{left-live, none-is, none-next}
 
--- What words are to be fresh, by registers and words alone
+-- Which words have to be fresh, for registers and words alone
 pub record Swept (m : Store) (t : Table) (s : Scan) (registers : List Parts) : Type 0 where
   pub registers_fresh : (r : ℕ) → r < length registers → register_left s r ≡ false → FreshOn t (get_or registers r null_word).content
   pub words_fresh : (a : ℕ) → IsLiveWord t a → word_left s t a ≡ false → FreshOn t (word_at m.words a).content
@@ -44,7 +44,7 @@ swept-of m t s registers v g x = record {
       (x.scanned.words a (live-inside m v g.size live) (live_standing m t (rest_of s t registers) v a live.live) left);
 }
 
--- where a scan is over none is left
+-- if a scan has finished no unit remains
 none_at : (f : ℕ → ℕ) (n : ℕ) → ((i : ℕ) → f i ≡ 0) → total f n ≡ 0
 none_at f zero h = total-zero f
 none_at f (suc n) h = let a = total-suc f n in let b = none_at f n h in let c = h n in omega arith
@@ -61,7 +61,7 @@ units-none m t s registers over =
     shut : (a : ℕ) → word_left s t a ≡ false
     shut a = cc
 
--- as many are left as are open, where the scan is over once nothing is
+-- the units that remain are those that are open, if the scan has finished once none is
 pub units-closed : (m : Store) (t : Table) (s : Scan) (registers : List Parts) → length m.words ≡ 4096 * t.regions → length registers ≡ s.registers → units_of m (closed s t) t registers ≡ open_units s t
 units-closed m t s registers size count = elim (cases_Bool (is_none (next_of (opened s) t))) [
   | inl over ↦
@@ -75,7 +75,7 @@ units-closed m t s registers size count = elim (cases_Bool (is_none (next_of (op
   | inr going ↦ units-open m t registers size (closed s t) count going
 ]
 
--- what is placed is left, and nothing else comes to be
+-- what is placed remains to be scanned, and no other unit is added
 pub units-added : (m m' : Store) (t t' : Table) (s : Scan) (registers registers' : List Parts) → IsTable t → IsGround m t → IsTable t' → IsGround m' t' → Clean m t s registers → PreservesScanned m t m' t' → length registers' ≡ length registers → s.over ≡ false
     → units_of m' s t' registers' + t.placed ≡ units_of m s t registers + t'.placed
 units-added m m' t t' s registers registers' v g v' g' x y count going =
@@ -96,7 +96,7 @@ module _ (m m' : Store) (t t' : Table) (s : Scan) (registers registers' : List P
   swept : Swept m t s registers
   swept = swept-of m t s registers v g x
 
-  -- a word that isn't open after was used and live before, and not open
+  -- a word that isn't open afterwards was used and live before, and not open
   shut-before : (a : ℕ) → IsLiveWord t' a → is_open s t' a ≡ false → IsLiveWord t a × (is_open s t a ≡ false)
   shut-before a live shut = by_use (cases_lt (a % 4096) (used_of t (a / 4096)))
     where
@@ -112,7 +112,7 @@ module _ (m m' : Store) (t t' : Table) (s : Scan) (registers registers' : List P
       by_use (inl used) = (record { live = class used (region_cases t (a / 4096)); used = used }, not-behind s t a (elim (cases_lt (a % 256) (slice_index s.pages (a / 256))) [ inl l ↦ l | inr h ↦ absurd (behind h) ]))
       by_use (inr past) = absurd (behind (few-ahead s t x.few a past))
 
-  -- a word that was open is open
+  -- a word that was open is still open
   open-after : (a : ℕ) → is_open s t a ≡ true → is_open s t' a ≡ true
   open-after a here =
       let parts = and_parts (nat_le (slice_index s.pages (a / 256)) (a % 256)) (nat_lt (a % 4096) (used_of t (a / 4096))) here in
@@ -195,11 +195,11 @@ module _ (m m' : Store) (t t' : Table) (s : Scan) (registers registers' : List P
             ]
           ]
 
--- registers that stay
+-- registers that are unchanged
 pub registers-same : (t : Table) (registers : List Parts) → RegistersPreserved t registers registers
 registers-same t registers = record { count = refl; each = λ r low. inl refl }
 
--- the pages of the set, where words are placed
+-- the pages of the set, when words are placed
 pub preserved-paged : {m m' : Store} {t t' : Table} {registers : List Parts} (s : Scan) → Clean m t s registers → PreservesScanned m t m' t' → IsPaged s t'
 preserved-paged {m} {m'} {t} {t'} s x y = paged-grown s t t' (few-ahead s t x.few) y.grows.used y.paged x.paged
 

@@ -29,7 +29,7 @@ moves-none = record { count = 0; few = omega arith; moves = nothing_moves }
 pub still-same : (m : Store) (t : Table) (scan : Scan) (registers : List Parts) → StillCollects m t scan registers m t scan registers 0
 still-same m t scan registers k top areas values s aim x = record { map = k; collects = x; refines = λ kind a n e. e; moves = omega arith; units = omega arith }
 
--- two after one another
+-- two, one after the other
 pub still-twice : (m m1 m2 : Store) (t t1 t2 : Table) (scan scan1 scan2 : Scan) (registers registers1 registers2 : List Parts) (a b : ℕ)
     → StillCollects m t scan registers m1 t1 scan1 registers1 a → StillCollects m1 t1 scan1 registers1 m2 t2 scan2 registers2 b → StillCollects m t scan registers m2 t2 scan2 registers2 (a + b)
 still-twice m m1 m2 t t1 t2 scan scan1 scan2 registers registers1 registers2 a b one two k top areas values s aim x =
@@ -41,13 +41,13 @@ still-twice m m1 m2 t t1 t2 scan scan1 scan2 registers registers1 registers2 a b
     let m2' = then.moves in
     record { map = then.map; collects = then.collects; refines = λ kind c n e. then.refines kind c n (first.refines kind c n e); moves = omega arith; units = omega arith }
 
--- so it collects after
+-- so it collects afterwards
 pub collecting-after : (m m' : Store) (t t' : Table) (scan scan' : Scan) (registers registers' : List Parts) (n : ℕ) → IsCollecting m t scan registers → StillCollects m t scan registers m' t' scan' registers' n → IsCollecting m' t' scan' registers'
 collecting-after m m' t t' scan scan' registers registers' n x still =
     let after = still x.map x.top x.areas x.values x.store x.aim x.collects in
     record { map = after.map; top = x.top; areas = x.areas; values = x.values; store = x.store; aim = x.aim; collects = after.collects }
 
--- what a scan leaves
+-- the state after a scan
 pub scanned-still : (m m' : Store) (t t' : Table) (scan scan' : Scan) (registers registers' : List Parts) → Scans m t scan registers m' t' scan' registers' Scanned → StillCollects m t scan registers m' t' scan' registers' 1
 scanned-still m m' t t' scan scan' registers registers' (register r x) = x.still
 scanned-still m m' t t' scan scan' registers registers' (word a x) = x.still
@@ -55,16 +55,16 @@ scanned-still m m' t t' scan scan' registers registers' (word a x) = x.still
 pub turn-cost : (s0 s1 s2 p0 p1 p2 i : ℕ) → p0 ≤ p1 → p1 ≤ p2 → s1 ≤ s0 + 4 * (p1 - p0) + 48 * i → s2 ≤ s1 + 4 * (p2 - p1) + 48 → s2 ≤ s0 + 4 * (p2 - p0) + 48 * (i + 1)
 turn-cost s0 s1 s2 p0 p1 p2 i a b c d = omega arith
 
--- as many units as were counted
+-- the number of units that was counted
 pub still-up-to : {m m' : Store} {t t' : Table} {scan scan' : Scan} {registers registers' : List Parts} (n : ℕ) → n ≡ scan'.done - scan.done → StillCollects m t scan registers m' t' scan' registers' n → StillCollects m t scan registers m' t' scan' registers' (scan'.done - scan.done)
 still-up-to {m} {m'} {t} {t'} {scan} {scan'} {registers} {registers'} n e x = subst (λ (k : ℕ). StillCollects m t scan registers m' t' scan' registers' k) e x
 
--- they and those that are left are those that were left and the words placed
+-- they and those that remain are those that remained before and the words placed
 pub units-add : {m m' : Store} {t t' : Table} {scan scan' : Scan} {registers registers' : List Parts} → IsCollecting m t scan registers → t.placed ≤ t'.placed → StillCollects m t scan registers m' t' scan' registers' (scan'.done - scan.done)
     → (scan'.done - scan.done) + units_of m' scan' t' registers' ≡ units_of m scan t registers + (t'.placed - t.placed)
 units-add {m} {m'} {t} {t'} {scan} {scan'} x grows still = let units = (still x.map x.top x.areas x.values x.store x.aim x.collects).units in omega arith
 
--- Nothing was left
+-- No unit remained
 
 pub finished-over : (m m' : Store) (t t' : Table) (scan scan' : Scan) (registers registers' : List Parts) → Scans m t scan registers m' t' scan' registers' Finished → (scan'.over ≡ true) × (scan'.done ≡ scan.done) × (t'.placed ≡ t.placed)
 finished-over m m' t t' scan scan' registers registers' (none next over em et es er) = (ap (λ (s : Scan). s.over) es ∙ over, ap (λ (s : Scan). s.done) es, ap (λ (u : Table). u.placed) et)
@@ -76,7 +76,7 @@ finished-still m m' t t' scan scan' registers registers' (none next over em et e
     (subst (λ (x : Scan). StillCollects m t scan registers m t x registers' 0) (sym es)
     (subst (λ (x : List Parts). StillCollects m t scan registers m t scan x 0) (sym er) (still-same m t scan registers))))
 
--- as many transports as before
+-- the number of transports is unchanged
 pub finished-moves : {m m1 m2 : Store} {t t1 t2 : Table} {scan scan' : Scan} {registers registers' : List Parts} {n : ℕ} → MovesAtMost m t m1 t1 n → Scans m1 t1 scan registers m2 t2 scan' registers' Finished → MovesAtMost m t m2 t2 n
 finished-moves {m} {m1} {m2} {t} {t1} {t2} {scan} {scan'} {registers} {registers'} {n} moves (none next over em et es er) =
     subst (λ (x : Store). MovesAtMost m t x t2 n) (sym em) (subst (λ (x : Table). MovesAtMost m t m1 x n) (sym et) moves)
@@ -104,7 +104,7 @@ scans-count {m} {m'} {t} {t'} {scan} {scan'} (register r x) = ap (λ (s : Scan).
 scans-count {m} {m'} {t} {t'} {scan} {scan'} (word a x) = ap (λ (s : Scan). s.done) x.done
 scans-count {m} {m'} {t} {t'} {scan} {scan'} (none next over em et es er) = (let e = ap (λ (s : Scan). s.done) es in omega arith)
 
--- What preserves the ground, but for the set of pages
+-- What preserves the ground, except for the set of pages
 
 pub preserves-same : {m : Store} {t : Table} → ScanPreserves m t m t
 preserves-same = record { grows = grows-same; young = λ r old. refl; placed = refl; words = λ a live. inl refl }

@@ -17,19 +17,19 @@ use Rattle.scavenger.specs.Collecting.{Clean}
 use Rattle.scavenger.specs.Scanning.{Scans}
 use Rattle.scavenger.specs.Sweeping.{ScansMany}
 
--- a scan stays clean over a call that preserves the ground, where it leaves an old address in no register and no word that isn't left
+-- a scan stays clean over a call that preserves the ground, if no register and no scanned word gets an old address
 abbrev pub CleanStays : Type 0
 CleanStays = (m m' : Store) (t t' : Table) (scan : Scan) (registers registers' : List Parts)
     → IsTable t → IsGround m t → IsTable t' → IsGround m' t' → Clean m t scan registers → PreservesScanned m t m' t' → RegistersPreserved t' registers registers'
     → (scan.over ≡ true → AllFresh m' t') → Clean m' t' scan registers'
 
--- no more units come to be left than words are placed
+-- the number of units that remain grows by at most the number of words placed
 abbrev pub UnitsStay : Type 0
 UnitsStay = (m m' : Store) (t t' : Table) (scan : Scan) (registers registers' : List Parts)
     → IsTable t → IsGround m t → IsTable t' → IsGround m' t' → Clean m t scan registers → PreservesScanned m t m' t' → length registers' ≡ length registers
     → units_of m' scan t' registers' + t.placed ≤ units_of m scan t registers + t'.placed
 
--- and while the scan isn't over, as many
+-- and while the scan hasn't finished, by that number
 abbrev pub UnitsCome : Type 0
 UnitsCome = (m m' : Store) (t t' : Table) (scan : Scan) (registers registers' : List Parts)
     → IsTable t → IsGround m t → IsTable t' → IsGround m' t' → Clean m t scan registers → PreservesScanned m t m' t' → length registers' ≡ length registers
@@ -37,25 +37,25 @@ UnitsCome = (m m' : Store) (t t' : Table) (scan : Scan) (registers registers' : 
 
 -- The next unit
 
--- a unit as the meaning of collections has it
+-- a unit as the definition of collections has it
 abbrev pub meant : Option Left → Option ScanUnit
 meant None = None
 meant (Some (Register r)) = Some (InRegister r)
 meant (Some (Word a)) = Some (InWord a)
 
--- the next unit is that of the meaning of collections
+-- the next unit is that of the definition of collections
 abbrev pub NextIsDefined : Type 0
 NextIsDefined = (m : Store) (t : Table) (scan : Scan) (registers : List Parts) → IsGround m t → Clean m t scan registers
     → meant (next_of scan t) ≡ next_unit (image_of m t (rest_of scan t registers))
 
 -- Each unit once
 
--- the scan is past the unit: the register is scanned, or the word is one of the first of its page that are scanned or no units
+-- the scan is past the unit: the register is scanned, or the word is one of the first of its page that are scanned or aren't units
 abbrev pub IsPast : Scan → Left → Type 0
 IsPast s (Register r) = r < s.scanned
 IsPast s (Word a) = a % 256 < slice_index s.pages (a / 256)
 
--- a scan isn't past the unit that it scans, then it is; and it stays past a unit whatever is scanned after
+-- a scan isn't past the unit that it scans, then it is; and it stays past a unit when others are scanned
 pub record ScansOnce : Type 0 where
   pub scanned : (m m' : Store) (t t' : Table) (scan scan' : Scan) (registers registers' : List Parts) → length scan.pages ≡ 16 * t.regions → Scans m t scan registers m' t' scan' registers' Scanned
       → (unit : Left) × (next_of scan t ≡ Some unit) × (IsPast scan unit → ⊥) × IsPast scan' unit

@@ -11,7 +11,7 @@ use Rattle.scavenger.specs.Scan.{Scan}
 use Rattle.scavenger.specs.Left.{next_of}
 use Rattle.scavenger.specs.Scanning.{EndsPage, word_done, Scans}
 
--- the word at an address is fetched, and then its page ends, if no word of it is left
+-- the word at an address is fetched, and then its page ends, if no word of it remains
 pub record WordMoves (m : Store) (t : Table) (scan : Scan) (m' : Store) (t' : Table) (a : ℕ) : Type 0 where
   pub memory : Store
   pub table : Table
@@ -24,7 +24,7 @@ UnitMoves m t scan registers m' t' registers' (Some (Register r)) = MovesFor m t
 UnitMoves m t scan registers m' t' registers' (Some (Word a)) = WordMoves m t scan m' t' a
 UnitMoves m t scan registers m' t' registers' None = (m' ≡ m) × (t' ≡ t)
 
--- so many units were scanned one after another, and by each of them the words of that unit moved
+-- this number of units was scanned one after another, and for each of them the words of that unit moved
 pub data MovesEach (m : Store) (t : Table) (scan : Scan) (registers : List Parts) : Store → Table → Scan → List Parts → ℕ → Type 0 where
   none_moved : MovesEach m t scan registers m t scan registers zero
   one_moved : (m1 m' : Store) (t1 t' : Table) (s1 s' : Scan) (r1 r' : List Parts) (n : ℕ)

@@ -1,4 +1,4 @@
--- A world file that is accepted says its world, line by line.
+-- An accepted world file means its world, line by line.
 use Rattle.std.proofs.Common.{◌≡◌, ℕ, ◌+◌, ◌⊎◌, inl, inr, List, [], ◌∷◌, Bool, true, false, Ok, Err, refl, sym, ap, ◌∙◌, subst, append-nil}
 use Rattle.std.specs.Prelude.{if◌then◌else◌}
 use Rattle.file_modes.specs.lisp_graph.declared.world.World.{World}

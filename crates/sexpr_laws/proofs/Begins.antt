@@ -19,7 +19,7 @@ Begins [] pieces rest = pieces ≡ rest
 Begins (token ∷ tokens) [] rest = ⊥
 Begins (token ∷ tokens) (piece ∷ pieces) rest = (piece.token ≡ token) × Begins tokens pieces rest
 
--- the first token and those behind it
+-- the first token and those after it
 pub record Takes (one : Token) (tokens : List Token) (pieces rest : List Piece) : Type 0 where
   pub token : token_at pieces ≡ one
   pub behind : Begins tokens (drop 1 pieces) rest
@@ -113,7 +113,7 @@ begins_less [] pieces rest is begins = absurd (cc (is))
 begins_less (token ∷ tokens) [] rest is begins = absurd begins
 begins_less (token ∷ tokens) (piece ∷ pieces) rest is begins = omega (arith, begins_long tokens pieces rest begins.1)
 
--- where an expression begins no bracket closes, and no dot stands
+-- at the first token of an expression no bracket closes, and there is no dot
 start_plain : (bracket : Bracket) (token : Token) → is_start token ≡ true → (closes bracket token ≡ false) × (is_dot token ≡ false)
 start_plain bracket (Atom value) is = (refl, refl)
 start_plain bracket (Label label) is = (refl, refl)

@@ -70,7 +70,7 @@ opening_last Round = refl
 opening_last Square = refl
 opening_last Curly = refl
 
--- a byte before which a piece ends, and with which none does
+-- a byte before which a piece ends, and which doesn't end a piece itself
 pub record IsStop (byte : ℕ) : Type 0 where
   pub edge : is_edge byte ≡ true
   pub behind : is_last byte ≡ false

@@ -1,4 +1,4 @@
--- What is made of the objects that were printed: the same objects by their places among the printed names.
+-- What is made when the printed objects are read: the same objects, named by their places among the printed names.
 use Rattle.std.proofs.Common.{◌≡◌, ℕ, ◌+◌, List, [], ◌∷◌, ◌++◌, length, map, drop, Bool, true, false, refl, ap, sym, ◌∙◌, arith, length-append, append-nil, append_assoc}
 use Rattle.std.proofs.lemmas.List.{drop_at, length-map, map-append}
 use Rattle.file_modes.specs.lisp_graph.Graph.{object_at}
@@ -57,7 +57,7 @@ since_one objects all printed after name grows =
     since_twice objects all printed (printed ++ name ∷ []) after (grows_one printed name) grows
     ∙ ap (λ (l : List Object). l ++ since objects all (printed ++ name ∷ []) after) (since_later objects all printed (printed ++ name ∷ []) (record { later = name ∷ []; is = refl }))
 
--- so many objects are made
+-- this many objects are made
 pub since_long : (objects : List Object) (all printed after : List ℕ) → Grows printed after → length printed + length (since objects all printed after) ≡ length after
 since_long objects all printed after grows =
     omega (
@@ -68,7 +68,7 @@ since_long objects all printed after grows =
       length-append printed grows.later,
     )
 
--- an object that is printed next stands behind those that were printed
+-- an object that is printed next follows those that were printed
 pub place_next : (printed all : List ℕ) (name : ℕ) → is_among printed name ≡ false → Grows (printed ++ name ∷ []) all → place_of all name ≡ length printed
 place_next printed all name fresh grows = ap (λ (l : List ℕ). place_of l name) grows.is ∙ place_front (printed ++ name ∷ []) grows.later name (numbered_last printed name) ∙ place_last printed name fresh
 

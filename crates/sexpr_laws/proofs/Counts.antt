@@ -14,7 +14,7 @@ use Rattle.file_modes.proofs.dump_laws.Numbered.{Within, key_same, numbered_appe
 abbrev pub refs : ℕ → List Value → ℕ
 refs name values = count_by (is_ref name) values
 
--- one where the value refers to the object
+-- 1 if the value refers to the object, and otherwise 0
 abbrev pub one_ref : ℕ → Value → ℕ
 one_ref name value = cond (is_ref name value) 1 0
 
@@ -44,7 +44,7 @@ held_push graph name last names =
       sum_by-append (λ n. refs name (parts_at graph n)) names (last ∷ []),
     )
 
--- Names that stand once
+-- Names that occur once
 
 pub same_name : (one two : ℕ) → (one == two) ≡ true → one ≡ two
 same_name one two same = grind (arith, nat_tests)
@@ -69,7 +69,7 @@ pub true_false : (b : Bool) → (b ≡ true) ⊎ (b ≡ false)
 true_false true = inl refl
 true_false false = inr refl
 
--- each name stands in the list once
+-- each name occurs in the list once
 abbrev pub Distinct : List ℕ → Type 0
 Distinct [] = Unit {0}
 Distinct (name ∷ names) = (is_among names name ≡ false) × Distinct names
@@ -87,7 +87,7 @@ distinct_push (one ∷ names) name distinct fresh =
 
 -- Sums over fewer names
 
--- a name that stands in the list, and those before and behind it
+-- a name that occurs in the list, and those before and after it
 pub record Picked (name : ℕ) (names : List ℕ) : Type 0 where
   pub before : List ℕ
   pub behind : List ℕ
@@ -104,7 +104,7 @@ left_among : (before behind : List ℕ) (name other : ℕ) → is_among (before 
 left_among before behind name other is differs =
     numbered_append before behind other ∙ ap (λ b. is_among before other || b) (sym (ap (λ b. b || is_among behind other) differs)) ∙ sym (numbered_append before (name ∷ behind) other) ∙ is
 
--- names that stand once have no greater sum than a list that has each of them
+-- names that occur once have no greater sum than a list that has each of them
 pub sum_within : (f : ℕ → ℕ) (names all : List ℕ) → Distinct names → Within names all → sum_by f names ≤ sum_by f all
 sum_within f [] all distinct within = omega arith
 sum_within f (name ∷ names) all distinct within =

@@ -1,4 +1,4 @@
--- Where a text is cut, and its last byte.
+-- The place at which a text is cut, and its last byte.
 use Rattle.std.proofs.Common.{◌≡◌, ℕ, ◌-◌, ◌<◌, List, [], ◌∷◌, ◌++◌, length, Bool, true, false, Some, refl, arith, length-append}
 use Rattle.std.specs.Prelude.{nat_lt, not, position, slice_index}
 use Rattle.std.specs.List.{list_all, position_or_len}
@@ -33,7 +33,7 @@ byte_at front byte rest = get_or_at front byte rest 0 (length front) refl
 pub first_byte : (text rest : List ℕ) → 0 < length text → slice_index (text ++ rest) 0 ≡ slice_index text 0
 first_byte text rest some = get_or_append_left text rest 0 0 some
 
--- the last byte passes where all do
+-- the last byte passes if all do
 pub last_passes : (test : ℕ → Bool) (text : List ℕ) → 0 < length text → list_all test text ≡ true → test (slice_index text (length text - 1)) ≡ true
 last_passes test text some good = AllPass-from_list_all test text good (length text - 1) 0 (omega arith)
 

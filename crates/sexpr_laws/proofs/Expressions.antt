@@ -34,7 +34,7 @@ pub record Context (objects : List Object) (shared : ℕ → Bool) : Type 0 wher
   pub all : List ℕ
   pub setting : IsSetting (graph_with registers objects) names shared
 
--- these values are still to be printed
+-- these values remain to be printed
 abbrev pub Left : (objects : List Object) (shared : ℕ → Bool) → Context objects shared → List ℕ → List Value → Type 0
 Left objects shared context printed values = Going (graph_with context.registers objects) context.names printed values
 
@@ -42,7 +42,7 @@ Left objects shared context printed values = Going (graph_with context.registers
 abbrev pub read_of : {A : Type 0} → List Object → (ℕ → Bool) → List ℕ → List ℕ → List ℕ → A → List Piece → Read A
 read_of objects shared all printed after value rest = record { value = value; objects = since objects all printed after; labels = labels_of shared after; rest = rest }
 
--- the same where an object begins it
+-- the same if an object begins it
 abbrev pub object_of : List Object → (ℕ → Bool) → List ℕ → List ℕ → List ℕ → ℕ → Object → List Piece → Read Value
 object_of objects shared all printed after next object rest = record { value = Ref next; objects = object ∷ since objects all printed after; labels = labels_of shared after; rest = rest }
 
@@ -101,7 +101,7 @@ field_is : (objects : List Object) (shared : ℕ → Bool) (all printed middle a
 field_is objects shared all printed middle after value values rest one two =
     ap (λ (os : List Object). record { value = value_in all value ∷ map (value_in all) values; objects = os; labels = labels_of shared after; rest = rest }) (sym (since_twice objects all printed middle after one two))
 
--- the reader has read as many objects as were printed
+-- the number of objects that the reader has made is the number of those that were printed
 middle_at : (objects : List Object) (all printed middle : List ℕ) (next : ℕ) → next + 1 ≡ length printed → Grows printed middle → next + 1 + length (since objects all printed middle) ≡ length middle
 middle_at objects all printed middle next at grows = omega (arith, since_long objects all printed middle grows)
 
@@ -141,7 +141,7 @@ first_is objects shared all printed after name rest fresh grown last =
     ap (λ (n : ℕ). object_of objects shared all (printed ++ name ∷ []) after n (object_in all (object_at objects name)) rest) (sym (place_next printed all name fresh last))
     ∙ ap (λ (os : List Object). record { value = Ref (place_of all name); objects = os; labels = labels_of shared after; rest = rest }) (sym (since_one objects all printed after name grown))
 
--- the fields behind the code of a block
+-- the fields after the code of a block
 abbrev pub fields_reader : ℕ → List Piece → ℕ → Labels → Result (Read (List Value)) SexprFault
 fields_reader depth pieces next labels = fields (expression depth) (length (drop 1 (drop 1 pieces))) 0 next labels (drop 1 (drop 1 pieces))
 

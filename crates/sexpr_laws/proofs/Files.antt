@@ -77,7 +77,7 @@ line_fits place (RunLine area cars) fits may = more_fit place (list_from area (l
 line_fits place (RootLine register value) fits may = record { roots = All-set IsInteger place.world.roots register value (written_fits value may.1.written) fits.roots; objects = fits.objects }
 line_fits place (ClosingLine file) fits may = fits
 
--- what is known of the place behind accepted lines
+-- what is known of the place after accepted lines
 record IsGood (place : WorldReader) : Type 0 where
   reached : IsReached place
   fits : FitsTypes place.world

@@ -1,4 +1,4 @@
--- How the objects that were printed and the values that are still to be printed hang together.
+-- The relation between the objects that were printed and the values that remain to be printed.
 use Rattle.std.proofs.Common.{◌≡◌, ℕ, ◌+◌, ◌≤◌, List, [], ◌∷◌, ◌++◌, Bool, true, false, Some, None, inl, inr, refl, ap, sym, ◌∙◌, subst, arith}
 use Rattle.std.specs.Prelude.{◌==◌, ◌||◌, ◌&&◌, not, cond, if◌then◌else◌}
 use Rattle.std.proofs.lemmas.Bool.Decides.{nat_tests}
@@ -17,13 +17,13 @@ use Rattle.sexpr_laws.proofs.Counts.{Distinct, distinct_push, held_push, held_re
 
 -- What is known of a graph
 
--- an object that a text can say
+-- an object that a text can mean
 pub record IsFine (object : Object) : Type 0 where
   pub charge : IsCharge object.body object.charge
   pub wide : width object.body ≤ 2047
   pub code : code_of object.body ≤ 65535
 
--- an object to which two of the values refer is shared; the named objects refer to named ones, and a text can say them
+-- an object to which two of the values refer is shared; the named objects refer to named ones, and a text can mean them
 pub record IsSetting (graph : Graph) (names : List ℕ) (shared : ℕ → Bool) : Type 0 where
   pub twice : (name : ℕ) → 2 ≤ refs name (held graph names) → shared name ≡ true
   pub closed : (name other : ℕ) → is_among names name ≡ true → 1 ≤ refs other (parts_at graph name) → is_among names other ≡ true
@@ -33,7 +33,7 @@ pub record IsSetting (graph : Graph) (names : List ℕ) (shared : ℕ → Bool) 
 abbrev pub one_printed : List ℕ → ℕ → ℕ
 one_printed printed name = cond (is_among printed name) 1 0
 
--- The values are those that the registers and the printed objects hold and that weren't printed. An object that was printed is referred to by a value that was printed; to one that wasn't only the values refer.
+-- The values are those that the registers and the printed objects hold and that weren't printed. To each printed object some printed value refers; to an object that wasn't printed only these values refer.
 pub record Going (graph : Graph) (names printed : List ℕ) (values : List Value) : Type 0 where
   pub fits : (name : ℕ) → one_printed printed name + refs name values ≤ refs name (held graph printed)
   pub left : (name : ℕ) → is_among printed name ≡ false → refs name (held graph printed) ≤ refs name values
@@ -45,9 +45,9 @@ pub record Going (graph : Graph) (names printed : List ℕ) (values : List Value
 abbrev pub graph_with : List Value → List Object → Graph
 graph_with registers objects = record { registers = registers; objects = objects }
 
--- One value more
+-- One more value
 
--- a value that is no reference
+-- a value that isn't a reference
 pub going_plain : (graph : Graph) (names printed : List ℕ) (value : Value) (values : List Value) → ((name : ℕ) → is_ref name value ≡ false) → Going graph names printed (value ∷ values) → Going graph names printed values
 going_plain graph names printed value values plain going = record {
   fits = λ name. omega (arith, going.fits name, same name);
@@ -142,7 +142,7 @@ again_shared graph names printed shared name values setting old going =
 
 -- Whole expressions
 
--- the cdr with which a list form goes on
+-- the cdr that continues a list form
 pub record GoesOn (objects : List Object) (shared : ℕ → Bool) (printed : List ℕ) (area charge : ℕ) (cdr : Value) (next : ℕ) : Type 0 where
   pub is : cdr ≡ Ref next
   pub like : is_cons_like area charge (object_at objects next) ≡ true
@@ -163,7 +163,7 @@ next_goes objects shared printed area charge (Ref name) next is = of_tests (is_c
     of_tests true true old one two three here = absurd (cc (here))
     of_tests false alone old one two three here = absurd (cc (here))
 
--- behind an expression the values behind it are left
+-- after an expression, the values after it remain
 mutual
   pub prints_going : {objects : List Object} {shared : ℕ → Bool} {printed : List ℕ} {value : Value} {tokens : List Token} {after : List ℕ} → Prints objects shared printed value tokens after
       → (registers : List Value) (names : List ℕ) (values : List Value) → IsSetting (graph_with registers objects) names shared → Going (graph_with registers objects) names printed (value ∷ values) → Going (graph_with registers objects) names after values

@@ -64,7 +64,7 @@ is_early line = slice_index line 0 == 97 || slice_index line 0 == 115
 abbrev IsEarly : List AreaRule → WorldLine → Type 0
 IsEarly areas line = is_early (spelled areas line) ≡ true
 
--- behind such a line no objects stand
+-- after such a line no objects were read yet
 bare_behind : (place : WorldReader) (line : WorldLine) → is_early (spelled place.world.areas line) ≡ true → has_objects (outcome place line).1.part ≡ false
 bare_behind place (FormatLine second) early = refl
 bare_behind place (SpaceLine space) early = refl
@@ -121,7 +121,7 @@ line_ends whole place number line rest said goes printable short is whole_header
     lines_last whole place said.1 number (line ++ 10 ∷ rest) goes (omega (arith, length-append line (10 ∷ rest))) (line_taken place number line rest said printable short is) whole_header
     ∙ ap (λ (left : List ℕ). Ok (record { world = said.1.world; line = number + 1; rest = left })) (line_left line rest (printable_none line printable))
 
--- the first of these lines, and what stands behind it
+-- the first of these lines, and what follows it
 text_split : (areas : List AreaRule) (line : WorldLine) (lines : List WorldLine) (rest : List ℕ) → text_of areas (line ∷ lines) ++ rest ≡ spelled areas line ++ 10 ∷ (text_of areas lines ++ rest)
 text_split areas line lines rest =
     append_assoc (spelled areas line ++ 10 ∷ []) (text_of areas lines) rest ∙ append_assoc (spelled areas line) (10 ∷ []) (text_of areas lines ++ rest)
@@ -198,7 +198,7 @@ early_lines world = SpaceLine world.space ∷ map AreaLine world.areas
 abbrev last_line : World → WorldLine
 last_line world = CapacityLine (take world.space.levels world.space.capacity)
 
--- all lines behind the first one
+-- all lines after the first one
 abbrev later_text : World → List ℕ
 later_text world = text_of world.areas (early_lines world ++ last_line world ∷ [])
 

@@ -39,7 +39,7 @@ place_last (one ∷ names) name fresh =
     let parts = or_none (name == one) (is_among names name) fresh in
     place_later one (names ++ name ∷ []) name parts.0 ∙ ap suc (place_last names name parts.1)
 
--- a name stands at its place
+-- a name is at its place
 pub record StandsAt (names : List ℕ) (name : ℕ) : Type 0 where
   pub below : place_of names name < length names
   pub is : (default : ℕ) → get_or names (place_of names name) default ≡ name
@@ -123,7 +123,7 @@ labels_stay shared names name is =
     ∙ ap (λ b. labels_of shared names ++ (if b then (0 + count_by shared names, 0 + length names) ∷ [] else [])) is
     ∙ append-nil (labels_of shared names)
 
--- a label is new where as many were given
+-- a label is new if it is at least the number of the labels that were given
 labels_new : (shared : ℕ → Bool) (label place : ℕ) (names : List ℕ) (other : ℕ) → label + count_by shared names ≤ other → name_of (labels_from shared label place names) other ≡ None
 labels_new shared label place [] other past = refl
 labels_new shared label place (one ∷ names) other past = elim (true_false (shared one)) [

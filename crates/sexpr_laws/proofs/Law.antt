@@ -49,7 +49,7 @@ use Rattle.sexpr_laws.proofs.Whole.{graph_read, in_order_append}
 
 -- Names
 
--- each named object stands in the list
+-- each named object occurs in the list
 shown_below : (objects : List Object) (graph : KeyedGraph) (key : ℕ) → ((k : ℕ) → graph.has k ≡ nat_lt k (length objects)) → Shows graph (seen_as (graph.cons key) key) → key < length objects
 shown_below objects graph key has shows = of_test (graph.cons key) shows
   where

@@ -25,7 +25,7 @@ use Rattle.sexpr_laws.proofs.Going.{Going, IsSetting, going_plain, graph_with, p
 use Rattle.sexpr_laws.proofs.Labels.{labels_of}
 use Rattle.sexpr_laws.proofs.Steps.{Labels}
 
--- Lines of roots, and the names that are printed behind them
+-- Lines of roots, and the names that were printed after them
 
 pub data PrintsAll (objects : List Object) (shared : ℕ → Bool) : ℕ → List ℕ → List Value → List (List Token) → List ℕ → Type 0 where
   no_more : (register : ℕ) (printed : List ℕ) → PrintsAll objects shared register printed [] [] printed
@@ -98,7 +98,7 @@ given_other (one ∷ given) zero (suc other) below = refl
 given_other (one ∷ given) (suc register) zero below = absurd (omega arith)
 given_other (one ∷ given) (suc register) (suc other) below = given_other given register other (omega arith)
 
--- a root more
+-- one more root
 stands_more : (now : Rooted) (objects : List Object) (shared : ℕ → Bool) (all printed middle : List ℕ) (register : ℕ) (had : List Value) (left : ℕ) (value : Value) → Stands now objects shared all printed register had (suc left) → Grows printed middle
     → Stands (with_root now register value (since objects all printed middle) (labels_of shared middle)) objects shared all middle (register + 1) (had ++ value ∷ []) left
 stands_more now objects shared all printed middle register had left value stands grows = record {

@@ -22,7 +22,7 @@ use Rattle.sexpr_laws.proofs.Cuts.{NonePass, byte_at, first_byte, first_found, n
 use Rattle.sexpr_laws.proofs.Bytes.{IsStop, closing_stops, decimal_name, name_edge, opening_last, signed_name}
 use Rattle.sexpr_laws.proofs.Spelled.{signed_some}
 
--- with this behind it the text is one piece
+-- followed by this rest, the text is one piece
 pub record IsPiece (text rest : List ℕ) : Type 0 where
   pub some : 0 < length text
   pub black : is_white (slice_index text 0) ≡ false
@@ -36,7 +36,7 @@ white_first (byte ∷ bytes) some none = of_parts (is_white byte) (is_some (clos
     of_parts true closes ends none = absurd (cc (none))
     of_parts false closes ends none = refl
 
--- where the piece ends at the first edge
+-- the piece ends before its first edge
 end_before : (place : ℕ) (last : Bool) → 0 < place → last ≡ false → (if place == 0 || last then place + 1 else place) ≡ place
 end_before place last some is = let first : (place == 0) ≡ false = grind (arith, nat_tests) in rw (first, is) refl
 
@@ -47,7 +47,7 @@ end_behind place last is = of_test (place == 0) last is
     of_test true last is = refl
     of_test false last is = rw is refl
 
--- a text that a byte behind it stops
+-- a text that ends as a piece because of the byte after it
 stopped : (text : List ℕ) (byte : ℕ) (rest : List ℕ) → 0 < length text → NonePass is_edge text → IsStop byte → IsPiece text (byte ∷ rest)
 stopped text byte rest some none stop =
     let whole : List ℕ = text ++ byte ∷ rest in
@@ -90,7 +90,7 @@ closed bracket rest = record {
     black_closing Square = refl
     black_closing Curly = refl
 
--- a text that begins with a byte that stops what stands before it
+-- a text whose first byte ends the piece before it
 pub record Stops (text : List ℕ) : Type 0 where
   pub byte : ℕ
   pub others : List ℕ

@@ -45,7 +45,7 @@ pub record AreWritable (areas : ℕ) (objects : List Object) (all : List ℕ) : 
 abbrev pub charges : List Object → List ℕ → ℕ
 charges objects names = sum_by (λ name. (object_at objects name).charge) names
 
--- these tokens can be spelled, and there are at most so many of them more than the charges since allow
+-- these tokens can be spelled; there are at most `count` of them, and 4 for each word that the objects printed since are charged
 pub record IsSmall (areas : List AreaRule) (objects : List Object) (printed after : List ℕ) (tokens : List Token) (count : ℕ) : Type 0 where
   pub spelled : AreSpellable areas tokens
   pub long : length tokens + 4 * charges objects printed ≤ count + 4 * charges objects after

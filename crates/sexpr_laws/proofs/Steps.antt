@@ -1,4 +1,4 @@
--- How the reader goes on, step by step.
+-- How the reader proceeds, step by step.
 use Rattle.std.proofs.Common.{◌≡◌, ℕ, ◌+◌, ◌-◌, ◌<◌, ◌≤◌, List, [], ◌∷◌, ◌++◌, length, drop, Bool, true, false, Option, Some, None, Result, Ok, refl, ap, ◌∙◌, arith}
 use Rattle.std.specs.Prelude.{if◌then◌else◌, ◌==◌, pos, nat_lt, nat_le, is_some}
 use Rattle.std.proofs.lemmas.Bool.Decides.{nat_tests}
@@ -25,7 +25,7 @@ use Rattle.sexpr_laws.proofs.Begins.{Begins, takes}
 abbrev pub Labels : Type 0
 Labels = List (ℕ × ℕ)
 
--- what is inside of the expression that was begun
+-- what the expression contains that was begun
 abbrev pub inside_of : ℕ → ℕ → Beginning → Result (Read Value) SexprFault
 inside_of depth next b = read_inside (expression depth) next b.value b.inside b.labels b.rest
 
@@ -80,7 +80,7 @@ list_in pieces area charge = of_test (charge == 2)
     of_test true = refl
     of_test false = refl
 
--- what a form has inside
+-- what a form contains
 abbrev pub opened : ℕ → ℕ → Labels → Result (Inside × List Piece) SexprFault → Result (Read Value) SexprFault
 opened depth next labels form = (form >>= λ f. Ok (record { value = Ref next; inside = f.0; labels = labels; rest = f.1 })) >>= inside_of depth next
 
@@ -134,7 +134,7 @@ cons_goes depth many area bracket next labels pieces car cdr few first behind =
     ∙ ap (λ (r : Result (Read Value) SexprFault). r >>= element (expression depth) (many - 1) area bracket next) first
     ∙ ap (λ (r : Result (Read Value) SexprFault). r >>= λ cdr. Ok (cons_read area bracket next car cdr)) behind
 
--- the bracket closes behind the car
+-- the bracket closes after the car
 abbrev pub nil_read : Labels → List Piece → Read Value
 nil_read labels pieces = record { value = Nil; objects = []; labels = labels; rest = drop 1 pieces }
 

@@ -32,9 +32,9 @@ piece_read areas past line text rest piece =
     ∙ ap (λ (front : List ℕ). record { line = line; token = token_of areas front } ∷ pieces_from areas past 0 line (drop (length text) (text ++ rest))) (take_at text rest (length text) refl)
     ∙ ap (λ (left : List ℕ). record { line = line; token = token_of areas text } ∷ pieces_from areas past 0 line left) (drop_at text rest (length text) refl)
 
--- What stands behind a token
+-- What follows a token
 
--- the gap, the other tokens of the line, and the lines behind it
+-- the gap, the other tokens of the line, and the lines after it
 abbrev behind : List AreaRule → Token → List Token → List ℕ → List ℕ
 behind areas token tokens rest = gap token tokens ++ (tokens_text areas tokens ++ 10 ∷ rest)
 
@@ -47,7 +47,7 @@ close_first areas (Close bracket) tokens rest is = record {
 }
 close_first areas next tokens rest is = absurd (cc (is))
 
--- it stops a token that doesn't bind
+-- it ends the piece of a token that doesn't bind
 stops_behind : (areas : List AreaRule) (token : Token) (tokens : List Token) (rest : List ℕ) → binds token ≡ false → Stops (behind areas token tokens rest)
 stops_behind areas token [] rest free = record { byte = 10; others = rest; is = refl; stop = record { edge = refl; behind = refl } }
 stops_behind areas token (next ∷ tokens) rest free = of_tests (binds token) (is_close next) free refl
@@ -57,7 +57,7 @@ stops_behind areas token (next ∷ tokens) rest free = of_tests (binds token) (i
     of_tests false true free is = close_first areas next tokens rest is
     of_tests false false free is = record { byte = 32; others = tokens_text areas (next ∷ tokens) ++ 10 ∷ rest; is = refl; stop = record { edge = refl; behind = refl } }
 
--- a gap is no piece
+-- a gap isn't a piece
 gap_passed : (areas : List AreaRule) (past line : ℕ) (token : Token) (tokens : List Token) (text : List ℕ) → pieces_from areas past 0 line (gap token tokens ++ text) ≡ pieces_from areas past 0 line text
 unfolding pieces_from
 gap_passed areas past line token [] text = refl

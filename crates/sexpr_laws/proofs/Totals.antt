@@ -34,7 +34,7 @@ charges_below objects (suc count) within =
     ∙ sym f
     ∙ ap (λ n. total (take n objects)) e
 
--- objects with names of their own are charged no more than all
+-- different objects are charged no more than all
 pub charges_within : (objects : List Object) (names : List ℕ) → Distinct names → ((name : ℕ) → is_among names name ≡ true → name < length objects) → charges objects names ≤ total objects
 charges_within objects names distinct below =
     let all = sum_within (λ n. (object_at objects n).charge) names (names_below (length objects)) distinct (λ name is. below_among (length objects) name (below name is)) in
@@ -44,6 +44,6 @@ ones : (names : List ℕ) → sum_by (λ (n : ℕ). 1) names ≡ length names
 ones [] = refl
 ones (name ∷ names) = sum_by-cons (λ (n : ℕ). 1) name names ∙ ap (λ k. 1 + k) (ones names) ∙ omega arith
 
--- names that stand once are no more than the names that have them
+-- names that occur once are no more than the names of a list that has each of them
 pub fewer_names : (names all : List ℕ) → Distinct names → Within names all → length names ≤ length all
 fewer_names names all distinct within = omega (arith, sum_within (λ (n : ℕ). 1) names all distinct within, ones names, ones all)

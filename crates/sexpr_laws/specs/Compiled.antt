@@ -1,4 +1,4 @@
--- What is compiled of a print.
+-- What the print of a world is compiled to.
 use Rattle.std.specs.Prelude.{◌≡◌, ℕ, ◌<◌, ◌≤◌, ◌^◌, pos, negsuc, ⊤, List, Ok}
 use Rattle.std.specs.List.{All}
 use Rattle.file_modes.specs.lisp_graph.KeyedGraph.{code_of, keyed}
@@ -28,7 +28,7 @@ pub record FitsTypes (world : World) : Type 0 where
   pub roots : All IsInteger world.roots
   pub objects : All HasIntegers world.objects
 
--- The text says a world that has this dump, and no other.
+-- The text means a world that has this dump, and no other.
 pub record IsCompiledBack (text dump : List ℕ) : Type 0 where
   pub back : World
   pub means : meaning text ≡ Ok back

@@ -1,4 +1,4 @@
--- What is read of a text that was written.
+-- What is read from a text that was written.
 use Rattle.std.specs.Prelude.{◌≡◌, ℕ, ◌+◌, ◌<◌, ◌≤◌, ◌^◌, List, [], ◌++◌, length, map, flat_map, codes, replicate, Result, Ok}
 use Rattle.file_modes.specs.store_word.declared.space.Space.{Space}
 use Rattle.file_modes.specs.lisp_graph.declared.object.Value.TheVariants.{Nil}
@@ -23,28 +23,28 @@ in_order lines = flat_map (λ line. line) lines
 
 -- Headers
 
--- what a header says: no objects, and nil in each register
+-- what a header means: no objects, and nil in each register
 abbrev pub bare_world : Space → List AreaRule → World
 bare_world space areas = record { space = space; areas = areas; objects = []; roots = replicate space.registers Nil }
 
--- the line behind a header, whose lines are the first one, that of the space, one for each area, and that of the capacities
+-- the number of the line after a header, whose lines are the first one, that of the space, one for each area, and that of the capacities
 abbrev pub line_behind : List AreaRule → ℕ
 line_behind areas = length areas + 4
 
--- the header of the world, and this text behind it
+-- the header of the world, followed by this text
 abbrev pub headed : World → List ℕ → List ℕ
 headed world text = header_text world.space world.areas ++ text
 
--- what is said where this text stands behind the header of the world
+-- what the header of the world means when this text follows it
 abbrev pub said_with : World → List ℕ → Result World SexprFault
 said_with world text =
     graph_behind world.areas world.space.registers (line_behind world.areas) text >>= λ graph. Ok (record world { objects = graph.0; roots = graph.1 })
 
--- what the lines behind the first one say
+-- what the lines after the first one mean
 abbrev pub header_behind : List ℕ → Result Head SexprFault
 header_behind text = header (length text) second_place 2 text
 
--- The header of the world is read back, whatever text stands behind it; it has less than 2^20 bytes.
+-- The header of the world is read back, whatever text follows it; it has less than 2^20 bytes.
 pub record IsHeaderReadBack (world : World) (text : List ℕ) : Type 0 where
   pub first : first_line (headed world text) ≡ codes "sexpr-world 1"
   pub read : header_behind (behind_line (headed world text)) ≡ Ok (record { world = bare_world world.space world.areas; line = line_behind world.areas; rest = text })

@@ -7,7 +7,7 @@ use Rattle.file_modes.specs.world_text.Spelling.{IsWritten}
 use Rattle.file_modes.specs.sexpr_text.declared.token.Token.{Token}
 use Rattle.file_modes.specs.sexpr_text.declared.token.Token.TheVariants.{Root, EndSexpr, Dot, Atom, Label, Again, Open, Close, Unknown, End}
 
--- A token that can be spelled where there are these areas: an integer of 32 bits, a label below 2^32, a form of one of the areas.
+-- A token that can be spelled in a world with these areas: an integer of 32 bits, a label below 2^32, a form of one of the areas.
 abbrev pub CanSpell : List AreaRule → Token → Type 0
 CanSpell areas Root = ⊤
 CanSpell areas EndSexpr = ⊤

@@ -10,8 +10,8 @@ ghost use Rattle.file_modes.specs.line_input.WorldFile.{verdict};
 ghost use Rattle.file_modes.specs.sexpr_print.Spelling.{IsPrint};
 ghost use Rattle.sexpr_laws.specs.Compiled.{FitsTypes, IsCompiledBack};
 
-/// The print of a world is compiled to a world that has the same dump: of each world that the lines of a world file say, or
-/// those of an input before `trace`, of each world file that is accepted, and of each accepted world whose integers fit their types.
+/// The print of a world is compiled to a world that has the same dump. So it is for each world that the lines of a world file, or
+/// those of an input before `trace`, mean; for each accepted world file; and for each accepted world whose integers fit their types.
 pub fn prints_are_compiled_back()
     ensures files { (file : Bool) (lines : List (List ℕ)) (world : World) (text dump : List ℕ) → SayWorld file lines world → IsPrint world text → IsDump (keyed (opening world)) world.space world.areas dump
         → IsCompiledBack text dump }

@@ -1,7 +1,7 @@
-//! What holds of prints and compiled texts together, whoever writes them.
+//! What is true of prints and compiled texts together, whoever writes them.
 //!
-//! The print of a world is compiled to a world that has the same dump (specs/Compiled). It stands on two laws of tokens: the pieces of a
-//! text that spells tokens spell those tokens again, and a header is read back whatever text stands behind it (specs/ReadBack).
+//! The print of a world is compiled to a world that has the same dump (specs/Compiled). This follows from two laws: the pieces of a
+//! text that spells tokens spell those tokens again, and a header is read back whatever text follows it (specs/ReadBack).
 #![tactic(auto)]
 
 mod laws;

@@ -12,7 +12,7 @@ ghost use Rattle.sexpr_laws.specs.Spellable.{AreSpellable};
 ghost use Rattle.sexpr_laws.specs.ReadBack.{IsHeaderReadBack, in_order, tokens_of};
 
 /// The pieces of lines of tokens spell these tokens, in order, and then the text ends. Each token takes at most 32 bytes with its
-/// gap, and each line a line feed more. Required: each area is found by its name, and each token can be spelled.
+/// gap, and each line one byte more for its line feed. Required: each area is found by its name, and each token can be spelled.
 pub fn tokens_are_read_back()
     ensures same { (areas : List AreaRule) (line : ℕ) (lines : List (List Token)) → AreNamed areas → All (AreSpellable areas) lines
         → tokens_of (pieces_of areas line (lines_text areas lines)) ≡ in_order lines ++ End ∷ [] }
@@ -20,8 +20,8 @@ pub fn tokens_are_read_back()
         → length (lines_text areas lines) ≤ 32 * length (in_order lines) + length lines }
 {}
 
-/// A text that begins with the header of an accepted world says its space and its areas, with the graph that the text behind the
-/// header says.
+/// A text that begins with the header of an accepted world means its space and its areas, with the graph that the text after the
+/// header means.
 pub fn header_is_read_back()
     ensures { (world : World) (text : List ℕ) → IsAccepted world → IsHeaderReadBack world text }
 {}

@@ -11,13 +11,13 @@ use Rattle.sexpr_print.specs.declared.sharing.References.{References}
 use Rattle.sexpr_print.specs.Marks.{AreLabelled, Marks, is_unmarked, label_in, marks_of, shared_in}
 use Rattle.sexpr_print.proofs.Counting.{count_push}
 
--- Names behind others
+-- Names after others
 
 among_more : (names : List ℕ) (name other : ℕ) → is_among (names ++ name ∷ []) other ≡ (is_among names other || other == name)
 among_more [] name other = elim (other == name) as (λ b. (b || false) ≡ b) [ true ↦ refl | false ↦ refl ]
 among_more (one ∷ names) name other = elim (other == one) as (λ b. (b || is_among (names ++ name ∷ []) other) ≡ ((b || is_among names other) || other == name)) [ true ↦ refl | false ↦ among_more names name other ]
 
--- what stands before the first one that passes stays
+-- what precedes the first one that passes is unchanged
 first_kept_if : {A : Type 0} (x : A) (xs ys : List A) (n m : ℕ) (b found : Bool) → (found ≡ true → take n ys ≡ take m xs) → (b || found) ≡ true → take (cond (not b) (1 + n) 0) (x ∷ ys) ≡ take (cond (not b) (1 + m) 0) (x ∷ xs)
 first_kept_if x xs ys n m true found same any = refl
 first_kept_if {A} x xs ys n m false found same any =
@@ -28,7 +28,7 @@ first_kept : {A : Type 0} (p : A → Bool) (xs back : List A) → list_any p xs 
 first_kept p [] back any = absurd cc
 first_kept p (x ∷ xs) back any = first_kept_if x xs (xs ++ back) (position_or_len p (xs ++ back)) (position_or_len p xs) (p x) (list_any p xs) (first_kept p xs back) any
 
--- before the first one that passes stand all others
+-- all others precede the first one that passes
 first_new_if : {A : Type 0} (x : A) (xs ys : List A) (n : ℕ) (b found : Bool) → (found ≡ false → take n ys ≡ xs) → (b || found) ≡ false → take (cond (not b) (1 + n) 0) (x ∷ ys) ≡ x ∷ xs
 first_new_if x xs ys n true found same none = absurd cc
 first_new_if {A} x xs ys n false found same none =

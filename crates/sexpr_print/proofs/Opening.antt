@@ -24,7 +24,7 @@ use Rattle.sexpr_print.specs.Tasks.{AllPrint, Opens, Steps}
 use Rattle.sexpr_print.proofs.TaskLaws.{block_opens, list_opens, rest_dotted}
 use Rattle.sexpr_print.proofs.Steps.{cons_sound, fields_few, object_sound, one_sound, steps_level, two_sound, work_one, work_two}
 
--- the conses of a list form wait
+-- the conses of a list form become tasks
 pub list_begun : (world : World) (name : ℕ) (object : Object) (car cdr : Value) (old new : Printer) → object ≡ object_at world.objects name → object.body ≡ B.Cons car cdr → IsGraph (opening world) → name < length world.objects
     → new.tasks.items ≡ old.tasks.items ++ (K.Rest object.area object.charge cdr ∷ K.Value car ∷ []) → new.printed ≡ old.printed → Adds world.areas (Open (Some object.area) (bracket_of object.charge) ∷ []) old.text new.text
     → Opens world name old new
@@ -78,14 +78,14 @@ block_opened world name object code fields old new at body graph within stack pr
           omega (arith, a, b, d));
     }
 
--- the fields of a block wait
+-- the fields of a block become a task
 pub block_begun : {E : Type 0} (world : World) (name : ℕ) (object : Object) (code : ℕ) (fields : List Value) (result : Result (Unit {0}) E) (old new : Printer) → object ≡ object_at world.objects name → object.body ≡ B.Block code fields
     → IsGraph (opening world) → name < length world.objects → OnOk result (new.tasks.items ≡ old.tasks.items ++ K.Fields name 0 ∷ []) → new.printed ≡ old.printed
     → OnOk result (Adds world.areas (Open (Some object.area) Curly ∷ Atom (Fix (pos code)) ∷ []) old.text new.text) → OnOk result (Opens world name old new)
 block_begun world name object code fields (Ok x) old new at body graph within stack printed adds = block_opened world name object code fields old new at body graph within stack printed adds
 block_begun world name object code fields (Err e) old new at body graph within stack printed adds = tt
 
--- What stands behind a car
+-- What follows a car
 
 pub next_some : (result : Option Next) (next : Next) (o : Option ℕ) → result ≡ Some next → option_map (λ (n : Next). n.name) result ≡ o → o ≡ Some next.name
 next_some result next o is same = sym same ∙ ap (option_map (λ (n : Next). n.name)) is
@@ -93,7 +93,7 @@ next_some result next o is same = sym same ∙ ap (option_map (λ (n : Next). n.
 pub next_none : (result : Option Next) (o : Option ℕ) → result ≡ None → option_map (λ (n : Next). n.name) result ≡ o → o ≡ None
 next_none result o is same = sym same ∙ ap (option_map (λ (n : Next). n.name)) is
 
--- a cons with which a list form goes on wasn't printed
+-- a cons that continues a list form wasn't printed
 pub next_fresh : (objects : List Object) (marks : Marks) (area charge name : ℕ) (cdr : Value) → next_of objects (shared_in marks.counts) marks.names area charge cdr ≡ Some name → label_in marks name ≡ None
 next_fresh objects marks area charge name (Fix n) is = absurd cc
 next_fresh objects marks area charge name Nil is = absurd cc

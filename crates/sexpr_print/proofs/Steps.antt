@@ -123,7 +123,7 @@ first_steps world name label old middle new fresh is stack adds counts names roo
     subst (λ ts. S ts after) e (first old.printed.names after name (opens.tokens ++ others) (not_among old.printed name fresh) form)))
     opens.sound opens.few
 
--- The objects of tasks are there
+-- The objects of tasks exist
 
 pub object_sound : (world : World) (name : ℕ) → IsGraph (opening world) → name < length world.objects → IsObject (length world.objects) (object_at world.objects name)
 object_sound world name graph within = All-get_or (IsObject (length world.objects)) world.objects name no_object within graph.objects
@@ -153,7 +153,7 @@ pub fields_few : (body : Body) → length (fields_in body) ≤ width body
 fields_few (B.Cons car cdr) = omega arith
 fields_few (B.Block code fields) = omega arith
 
--- What a call brings about is handed on
+-- What a call causes is passed on
 
 pub on_ok : {A E : Type 0} (one : Result A E) (P Q : Type 0) → (P → Q) → OnOk one P → OnOk one Q
 on_ok (Ok x) P Q leads here = leads here

@@ -21,7 +21,7 @@ marks_of counts names = record { counts = counts; names = names }
 abbrev pub label_in : Marks → ℕ → Option ℕ
 label_in marks name = if is_among marks.names name then Some (label_of (shared_in marks.counts) marks.names name) else None
 
--- the label that an object gets, where it is shared
+-- the label that an object gets if it is shared
 abbrev pub new_label : Marks → ℕ → Option ℕ
 new_label marks name = if shared_in marks.counts name then Some (count_by (shared_in marks.counts) marks.names) else None
 

@@ -17,7 +17,7 @@ parts (Block code fields) = fields
 abbrev pub held : Graph → List ℕ → List Value
 held graph names = graph.registers ++ flat_map (λ name. parts (object_at graph.objects name).body) names
 
--- An object is shared where more than one of these values refers to it.
+-- An object is shared if more than one of these values refers to it.
 abbrev pub is_shared : List Value → ℕ → Bool
 is_shared values name = nat_lt 1 (count_by (is_ref name) values)
 

@@ -26,13 +26,13 @@ mark shared printed name = if shared name then Label (count_by shared printed) �
 abbrev pub label_of : (ℕ → Bool) → List ℕ → ℕ → ℕ
 label_of shared printed name = count_by shared (take (position_or_len (λ other. name == other) printed) printed)
 
--- the cons with which a list form goes on: a cdr of the same area and charge that is neither shared nor printed
+-- the cons that continues a list form: a cdr of the same area and charge that is neither shared nor printed
 abbrev pub next_of : List Object → (ℕ → Bool) → List ℕ → ℕ → ℕ → Value → Option ℕ
 next_of objects shared printed area charge (Ref name) =
     if is_cons_like area charge (object_at objects name) && not (shared name) && not (is_among printed name) then Some name else None
 next_of objects shared printed area charge _ = None
 
--- Where some objects were printed, a value or a form is printed as these tokens, and then these objects were printed.
+-- After the objects `printed`, a value or a form is printed as these tokens; then the printed objects are the ones given last.
 mutual
   -- a value
   pub data Prints (objects : List Object) (shared : ℕ → Bool) : List ℕ → Value → List Token → List ℕ → Type 0 where

@@ -1,11 +1,11 @@
--- Counting the references to each object, as far as it matters.
+-- The references to each object, counted up to two.
 use Rattle.std.specs.Prelude.{◌≡◌, ℕ, zero, suc, ◌<◌, Bool, true, false, List, ◌++◌, length, count_by, slice_index_or}
 use Rattle.lisp_graph.specs.Graph.{is_ref}
 use Rattle.lisp_graph.specs.declared.object.Value.{Value}
 use Rattle.sexpr_print.specs.declared.sharing.References.{References}
 use Rattle.sexpr_print.specs.declared.sharing.References.TheVariants.{No, One, Many}
 
--- so many references
+-- this many references
 abbrev pub references : ℕ → References
 references zero = No
 references (suc zero) = One
@@ -26,7 +26,7 @@ is_many Many = true
 abbrev pub references_at : List References → ℕ → References
 references_at counts name = slice_index_or counts name No
 
--- of each object it is told how many of these values refer to it
+-- for each object, how many of these values refer to it
 abbrev pub AreCounted : List Value → List References → Type 0
 AreCounted values counts = (name : ℕ) → name < length counts → references_at counts name ≡ references (count_by (is_ref name) values)
 

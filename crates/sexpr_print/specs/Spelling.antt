@@ -14,7 +14,7 @@ use Rattle.sexpr_text.specs.Brackets.{closing, opening as opening_byte}
 use Rattle.sexpr_print.specs.Places.{held, is_shared}
 use Rattle.sexpr_print.specs.Printing.{PrintsRoots}
 
--- the bytes of a token, where areas have these names
+-- the bytes of a token, if areas have these names
 abbrev pub token_text : List AreaRule → Token → List ℕ
 token_text areas Root = codes "root"
 token_text areas EndSexpr = codes "end-sexpr"
@@ -28,18 +28,18 @@ token_text areas (Close bracket) = closing bracket ∷ []
 token_text areas Unknown = []
 token_text areas End = []
 
--- a token with nothing between it and the next
+-- a token with no space between it and the next
 abbrev pub binds : Token → Bool
 binds (Label label) = true
 binds (Open area bracket) = true
 binds _ = false
 
--- a token with nothing between it and the one before
+-- a token with no space between it and the one before
 abbrev pub is_close : Token → Bool
 is_close (Close bracket) = true
 is_close _ = false
 
--- a space between a token and the next, but none behind a label or an opening bracket, and none before a closing one
+-- a space between a token and the next, but none after a label or an opening bracket, and none before a closing one
 abbrev pub gap : Token → List Token → List ℕ
 gap token [] = []
 gap token (next ∷ tokens) = if binds token || is_close next then [] else 32 ∷ []

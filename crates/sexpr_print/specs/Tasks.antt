@@ -1,4 +1,4 @@
--- What is still to be printed of the forms that have begun, so that nesting takes no stack of the machine's.
+-- What remains to be printed of the forms that have begun, as a list of tasks: so nesting needs none of the machine's stack.
 use Rattle.std.specs.Prelude.{◌≡◌, ℕ, ◌+◌, ◌-◌, ◌*◌, ◌<◌, ◌≤◌, List, [], ◌∷◌, ◌++◌, length, drop, sum_by, Bool, ⊤}
 use Rattle.std.specs.List.{All}
 use Rattle.lisp_graph.specs.Graph.{RefersBelow, object_at}
@@ -22,13 +22,13 @@ abbrev pub fields_in : Body → List Value
 fields_in (B.Cons car cdr) = []
 fields_in (B.Block code fields) = fields
 
--- fields, and the bracket behind them
+-- fields, and the bracket after them
 pub record PrintsBlock (objects : List Object) (shared : ℕ → Bool) (printed : List ℕ) (values : List Value) (tokens : List Token) (after : List ℕ) : Type 0 where
   pub fields : List Token
   pub prints : PrintsFields objects shared printed values fields after
   pub is : tokens ≡ fields ++ T.Close Curly ∷ []
 
--- a task prints these tokens; behind a car are the others of its list form, whatever the car is
+-- a task prints these tokens; after a car these are the rest of its list form, whatever the car is
 abbrev pub DoesPrint : List Object → (ℕ → Bool) → Task → List ℕ → List Token → List ℕ → Type 0
 DoesPrint objects shared (K.Value value) printed tokens after = Prints objects shared printed value tokens after
 DoesPrint objects shared (K.Rest area charge cdr) printed tokens after =
@@ -51,25 +51,25 @@ AllPrint objects shared [] printed tokens after = (tokens ≡ []) × (after ≡ 
 AllPrint objects shared (task ∷ tasks) printed tokens after =
     PrintsBoth (λ front middle. AllPrint objects shared tasks printed front middle) (λ middle back. DoesPrint objects shared task middle back after) tokens
 
--- the objects of a task are there
+-- the objects of a task exist
 abbrev pub IsTask : ℕ → Task → Type 0
 IsTask count (K.Value value) = RefersBelow count value
 IsTask count (K.Rest area charge cdr) = RefersBelow count cdr
 IsTask count (K.Fields name index) = name < count
 IsTask count (K.Close bracket) = ⊤
 
--- how much a task wants where it enters no object
+-- how much work a task needs if it enters no object
 abbrev pub work_of : List Object → Task → ℕ
 work_of objects (K.Value value) = 1
 work_of objects (K.Rest area charge cdr) = 3
 work_of objects (K.Fields name index) = 2 * (length (fields_in (object_at objects name).body) - index) + 2
 work_of objects (K.Close bracket) = 1
 
--- How much is left to do. To enter an object is counted as 5,000, which is more than its form wants: a block has at most 2,047 fields.
+-- How much work remains. To enter an object is counted as 5,000, which is more than its form needs: a block has at most 2,047 fields.
 abbrev pub work_left : List Object → List Task → Marks → ℕ
 work_left objects tasks marks = sum_by (work_of objects) tasks + 5000 * (length marks.counts - length marks.names)
 
--- A step: some tokens are added, and some tasks in the place of one print the others.
+-- A step: some tokens are added, and the tasks that replace one print the rest of its tokens.
 pub record Steps (world : World) (task : Task) (before : List Task) (old new : Printer) : Type 0 where
   pub pushed : List Task
   pub tokens : List Token
@@ -81,7 +81,7 @@ pub record Steps (world : World) (task : Task) (before : List Task) (old new : P
   pub sound : All (IsTask (length world.objects)) pushed
   pub less : work_left world.objects pushed new.printed < work_left world.objects (task ∷ []) old.printed
 
--- The form of an object begins: some tokens are added, and some tasks print the others.
+-- The form of an object begins: some tokens are added, and some tasks print the rest.
 pub record Opens (world : World) (name : ℕ) (old new : Printer) : Type 0 where
   pub pushed : List Task
   pub tokens : List Token

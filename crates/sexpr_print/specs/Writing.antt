@@ -6,7 +6,7 @@ use Rattle.sexpr_text.specs.declared.token.Token.TheVariants.{Label}
 use Rattle.sexpr_print.specs.declared.token_text.TokenText.{TokenText}
 use Rattle.sexpr_print.specs.Spelling.{binds, is_close, token_text}
 
--- what stands before a token, where nothing need stand there or something need
+-- the bytes before a token: none if the token before it needs no space, or if it closes a bracket
 abbrev pub gap_before : Bool → Token → List ℕ
 gap_before joined token = if joined || is_close token then [] else 32 ∷ []
 
@@ -15,7 +15,7 @@ abbrev pub added : List AreaRule → Bool → List Token → List ℕ
 added areas joined [] = []
 added areas joined (token ∷ tokens) = gap_before joined token ++ (token_text areas token ++ added areas (binds token) tokens)
 
--- whether nothing need stand behind them
+-- whether no space is needed after them
 abbrev pub joined_behind : Bool → List Token → Bool
 joined_behind joined [] = joined
 joined_behind joined (token ∷ tokens) = joined_behind (binds token) tokens

@@ -1,7 +1,7 @@
 //! Worlds printed as S-expressions: `print_sexpr` writes the text that `sexpr_text` reads back.
 //!
 //! A print is a list of tokens (specs/Printing) and the text that spells them (specs/Spelling). `printer` prints a value with a
-//! stack of what is still to be printed; what its tasks print is specs/Tasks. Begin with `print`, then `printer`.
+//! stack of what remains to be printed; specs/Tasks says what its tasks print. Begin with `print`, then `printer`.
 #![tactic(auto)]
 
 mod print;

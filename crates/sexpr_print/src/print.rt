@@ -32,7 +32,7 @@ fn header(alloc: Global, world: &World) -> Result<TokenText, NoMemory>
     Ok(TokenText { text, joined: true })
 }
 
-/// The line of a register, unless it is nil.
+/// Prints the line of a register, unless it is nil.
 fn print_register(
     printer: &mut Printer,
     world: &World,
@@ -56,7 +56,7 @@ fn print_register(
     printer.text.end_line()
 }
 
-/// A line for each register that isn't nil.
+/// Prints a line for each register that isn't nil.
 fn print_roots(printer: &mut Printer, world: &World) -> Result<(), NoMemory>
     requires graph { IsGraph (opening world.now) }
     requires few { length world.now.roots ≤ 256 }
@@ -74,7 +74,7 @@ fn print_roots(printer: &mut Printer, world: &World) -> Result<(), NoMemory>
     Ok(())
 }
 
-/// The line `end-sexpr`.
+/// Prints the line `end-sexpr`.
 fn print_end(line: &mut TokenText, world: &World) -> Result<(), NoMemory>
     requires { line.old.joined ≡ true }
     ensures { OnOk result (line.new.text ≡ line.old.text ++ lines_text world.now.areas ((an_end ∷ []) ∷ [])) }
@@ -85,7 +85,7 @@ fn print_end(line: &mut TokenText, world: &World) -> Result<(), NoMemory>
 
 /// The text that a world is printed as: its header, a line for each register that isn't nil, and `end-sexpr`. A world may be
 /// nested as deep as memory allows; each of its objects and references is looked at a constant number of times. It fails only
-/// where memory runs out, or where the registers reach more than 2^32 - 1 objects.
+/// if memory runs out, or if the registers reach more than 2^32 - 1 objects.
 pub fn print_sexpr(alloc: Global, world: &World) -> Result<Text, NoMemory>
     requires { IsWorld world.now }
     ensures is { IfOk result (λ text. IsPrint world.now text) }

@@ -28,7 +28,7 @@ impl Printed {
     ghost use Rattle.std.specs.Prelude.{◌≡◌, ◌<◌, ◌≤◌, ◌++◌, [], ◌∷◌, length, IfOk, OnOk, None};
     ghost use Rattle.sexpr_print.specs.Marks.{label_in, new_label, shared_in};
 
-    /// No object was printed yet. Contracts see the references to each object, and the names that were printed.
+    /// Before any object is printed. Contracts see the references to each object, and the names that were printed.
     pub fn new(alloc: Global, counts: Sequence<References>) -> Result<Printed, NoMemory>
         ensures counts { IfOk result (λ printed. printed.counts ≡ counts) }
         ensures names { IfOk result (λ printed. printed.names ≡ []) }
@@ -51,7 +51,7 @@ impl Printed {
         is_many(self.counts.as_slice()[name as usize])
     }
 
-    /// The label of an object, where it was printed.
+    /// The label of an object; None if the object wasn't printed.
     pub fn label(&self, name: u64) -> Option<u32>
         requires { name < length self.now.counts }
         ensures { result ≡ label_in self.now name }
@@ -59,7 +59,7 @@ impl Printed {
         self.labels.as_slice()[name as usize]
     }
 
-    /// An object is printed for the first time. The answer is its label, where it is shared.
+    /// Adds an object that is printed for the first time. The result is its label; None if it isn't shared.
     pub fn add(&mut self, name: u64) -> Result<Option<u32>, NoMemory>
         requires within { name < length self.old.counts }
         requires first { label_in self.old name ≡ None }

@@ -1,4 +1,4 @@
-//! Printing values, with a stack of what is still to be printed.
+//! Printing values, with a stack of what remains to be printed.
 ghost use Rattle.std.specs.Prelude.{◌≡◌, ◌<◌, length, slice_get, IfSome};
 ghost use Rattle.lisp_graph.specs.Groups.{is_nil};
 ghost use Rattle.lisp_graph.specs.Graph.{RefersBelow, object_at};
@@ -32,7 +32,7 @@ pub fn is_nil(value: Value) -> bool
     matches!(value, Value::Nil)
 }
 
-/// A cons with which a list form goes on.
+/// A cons that continues a list form.
 #[derive(Clone, Copy)]
 struct Next {
     name: u64,
@@ -40,7 +40,7 @@ struct Next {
     cdr: Value,
 }
 
-/// The next cons of a list form, where the cdr is a cons of the same area and charge that is neither shared nor printed.
+/// The next cons of a list form: the cdr, if it is a cons of the same area and charge that is neither shared nor printed.
 fn next_of(objects: &[Object], printed: &Printed, area: u8, charge: u32, cdr: Value) -> Option<Next>
     requires size { length printed.now.counts ≡ length objects.now }
     requires refers { RefersBelow (length objects.now) cdr }
@@ -77,12 +77,12 @@ fn field_at(body: &Body, index: u64) -> Option<Value>
     }
 }
 
-/// What was printed so far, and what is still to be printed of the forms that have begun.
+/// What was printed so far, and what remains to be printed of the forms that have begun.
 #[derive(Drop)]
 pub struct Printer {
     pub printed: Printed,
     pub text: TokenText,
-    /// The last one comes first.
+    /// The last task is done first.
     pub tasks: Vec<Task>,
 }
 
@@ -99,7 +99,7 @@ impl Printer {
     ghost use Rattle.sexpr_text.specs.declared.bracket.Bracket.TheVariants.{Curly as a_curly};
     ghost use Rattle.sexpr_text.specs.declared.token.Token.TheVariants.{Atom as an_atom, Dot as a_dot, Open as an_open};
 
-    /// A cons, behind its opening bracket or the element before it.
+    /// Begins a cons, after its opening bracket or the element before it.
     fn cons(&mut self, area: u8, charge: u32, car: Value, cdr: Value) -> Result<(), NoMemory>
         ensures tasks { OnOk result (self.new.tasks.items ≡ self.old.tasks.items ++ (a_rest area charge cdr ∷ a_value car ∷ [])) }
         ensures printed { self.new.printed ≡ self.old.printed }
@@ -110,7 +110,7 @@ impl Printer {
         Ok(())
     }
 
-    /// The beginning of a block.
+    /// Begins a block.
     fn block(&mut self, areas: &[AreaRule], name: u64, area: u8, code: u16) -> Result<(), NoMemory>
         ensures tasks { OnOk result (self.new.tasks.items ≡ self.old.tasks.items ++ some_fields name 0 ∷ []) }
         ensures printed { self.new.printed ≡ self.old.printed }
@@ -126,7 +126,7 @@ impl Printer {
         Ok(())
     }
 
-    /// The form of an object, up to its first value.
+    /// Prints the form of an object, up to its first value.
     fn form(&mut self, world: &World, name: u64) -> Result<(), NoMemory>
         requires graph { IsGraph (opening world.now) }
         requires within { name < length world.now.objects }
@@ -147,7 +147,7 @@ impl Printer {
         }
     }
 
-    /// An object that wasn't printed: its label, where it is shared, and its form.
+    /// Prints an object for the first time: its label, if it is shared, and its form up to its first value.
     fn first(&mut self, world: &World, name: u64) -> Result<(), NoMemory>
         requires graph { IsGraph (opening world.now) }
         requires size { length self.old.printed.counts ≡ length world.now.objects }
@@ -160,7 +160,7 @@ impl Printer {
         self.form(world, name)
     }
 
-    /// A value, up to the first value in its form.
+    /// Prints a value, up to the first value in its form.
     fn value(&mut self, world: &World, value: Value) -> Result<(), NoMemory>
         requires graph { IsGraph (opening world.now) }
         requires size { length self.old.printed.counts ≡ length world.now.objects }
@@ -177,7 +177,7 @@ impl Printer {
         }
     }
 
-    /// The dot and the last cdr of a list form.
+    /// Prints the dot, and leaves the last cdr of a list form to be printed.
     fn dotted(&mut self, areas: &[AreaRule], bracket: Bracket, cdr: Value) -> Result<(), NoMemory>
         ensures tasks { OnOk result (self.new.tasks.items ≡ self.old.tasks.items ++ (a_close bracket ∷ a_value cdr ∷ [])) }
         ensures printed { self.new.printed ≡ self.old.printed }
@@ -189,7 +189,7 @@ impl Printer {
         Ok(())
     }
 
-    /// What stands behind the car of a cons, up to the next value.
+    /// Prints what follows the car of a cons, up to the next value.
     fn rest(&mut self, world: &World, area: u8, charge: u32, cdr: Value) -> Result<(), NoMemory>
         requires graph { IsGraph (opening world.now) }
         requires size { length self.old.printed.counts ≡ length world.now.objects }
@@ -209,7 +209,7 @@ impl Printer {
         self.cons(area, charge, next.car, next.cdr)
     }
 
-    /// The fields of a block from an index on, up to the next value.
+    /// Prints the fields of a block from an index on, up to the next value.
     fn fields(&mut self, world: &World, name: u64, index: u64) -> Result<(), NoMemory>
         requires graph { IsGraph (opening world.now) }
         requires within { name < length world.now.objects }

@@ -10,7 +10,7 @@ use lisp_graph::{Body, NoMemory, Object, Sequence, Value, World, object_at};
 use std::alloc::Global;
 use world_text::Keys;
 
-/// How many places refer to an object, as far as it matters.
+/// How many places refer to an object, counted up to two.
 #[derive(Clone, Copy, Debug, PartialEq, Eq)]
 pub enum References {
     No,

@@ -29,7 +29,7 @@ fn closing(bracket: Bracket) -> u8
     }
 }
 
-/// `#`, the number of a label and the byte behind it.
+/// Adds `#`, the number of a label and the byte after it.
 #[tactic(auto, using(std::proofs::Common::append_assoc))]
 fn push_label(text: &mut Text, label: u32, end: u8) -> Result<(), NoMemory>
     ensures { OnOk result (text.new ≡ text.old ++ (codes "#" ++ decimal label ++ end ∷ [])) }
@@ -39,7 +39,7 @@ fn push_label(text: &mut Text, label: u32, end: u8) -> Result<(), NoMemory>
     text.push(end)
 }
 
-/// The bytes of a token.
+/// Adds the bytes of a token.
 #[tactic(auto, using(std::proofs::Common::append_assoc))]
 fn push_token(text: &mut Text, areas: &[AreaRule], token: Token) -> Result<(), NoMemory>
     ensures { OnOk result (text.new ≡ text.old ++ token_text areas.now token) }
@@ -70,14 +70,14 @@ pub fn number_token(number: u16) -> Token
     Token::Atom(Value::Fix(i32::from(number)))
 }
 
-/// Whether nothing stands between a token and the next.
+/// Whether no space may separate the token from the next.
 fn binds(token: Token) -> bool
     ensures { result ≡ binds token }
 {
     matches!(token, Token::Label(_) | Token::Open { .. })
 }
 
-/// Whether nothing stands between a token and the one before.
+/// Whether no space may separate the token from the one before.
 fn is_close(token: Token) -> bool
     ensures { result ≡ is_close token }
 {
@@ -88,7 +88,7 @@ fn is_close(token: Token) -> bool
 #[derive(Drop)]
 pub struct TokenText {
     pub text: Text,
-    /// No space need stand before the next token.
+    /// The next token needs no space before it.
     pub joined: bool,
 }
 
@@ -96,7 +96,7 @@ impl TokenText {
     ghost use Rattle.std.specs.Prelude.{◌≡◌, ◌++◌, ◌∷◌, [], true, OnOk};
     ghost use Rattle.sexpr_print.specs.Writing.{Adds, label_tokens};
 
-    /// Adds a token, and a space before it where one must stand there.
+    /// Adds a token, and a space before it if one is needed.
     #[tactic(auto, using(std::proofs::Common::append_assoc))]
     pub fn add(&mut self, areas: &[AreaRule], token: Token) -> Result<(), NoMemory>
         ensures { OnOk result (Adds areas.now (token ∷ []) self.old self.new) }

@@ -11,7 +11,7 @@ use Rattle.sexpr_text.specs.declared.fault.SexprFault.TheVariants.{Bad, TooSmall
 use Rattle.sexpr_text.specs.Reading.{IsFault}
 use Rattle.sexpr_text.specs.Meaning.{Head, behind_line, first_line, header, header_line}
 
--- the header from here on is what is left of the whole
+-- the header from here on is what remains of the whole
 pub record LinesGo (whole : Result Head SexprFault) (place : WorldReader) (line : ℕ) (text : List ℕ) : Type 0 where
   pub more : ℕ
   pub few : length text ≤ more
@@ -20,7 +20,7 @@ pub record LinesGo (whole : Result Head SexprFault) (place : WorldReader) (line 
 pub lines_first : (place : WorldReader) (line : ℕ) (text : List ℕ) → LinesGo (header (length text) place line text) place line text
 lines_first place line text = record { more = length text; few = omega arith; is = refl }
 
--- the place behind a line, and the header from there on
+-- the place after a line, and the header from there on
 abbrev pub behind_place : ℕ → ℕ → List ℕ → WorldReader → Result Head SexprFault
 behind_place more line text next =
     if has_objects next.part then Ok (record { world = next.world; line = line + 1; rest = behind_line text })
@@ -47,7 +47,7 @@ behind_is : (whole : Result Head SexprFault) (place next : WorldReader) (line : 
 behind_is whole place next line text goes some is =
     sym (ap (λ (r : Result WorldReader SexprFault). r >>= behind_place (goes.more - 1) line text) is) ∙ sym (header_is goes.more line place text some goes.few) ∙ goes.is
 
--- behind a line that isn't the last one
+-- after a line that isn't the last one
 pub lines_more : (whole : Result Head SexprFault) (place next : WorldReader) (line : ℕ) (text : List ℕ) → LinesGo whole place line text → 0 < length text → header_line place line (first_line text) ≡ Ok next
     → has_objects next.part ≡ false → length (behind_line text) < length text → LinesGo whole next (line + 1) (behind_line text)
 lines_more whole place next line text goes some is part less = record {
@@ -56,7 +56,7 @@ lines_more whole place next line text goes some is part less = record {
   is = sym (ap (λ b. if b then Ok (record { world = next.world; line = line + 1; rest = behind_line text }) else header (goes.more - 1) next (line + 1) (behind_line text)) part) ∙ behind_is whole place next line text goes some is;
 }
 
--- behind the last one
+-- after the last one
 pub lines_last : (whole : Result Head SexprFault) (place next : WorldReader) (line : ℕ) (text : List ℕ) → LinesGo whole place line text → 0 < length text → header_line place line (first_line text) ≡ Ok next
     → has_objects next.part ≡ true → whole ≡ Ok (record { world = next.world; line = line + 1; rest = behind_line text })
 lines_last whole place next line text goes some is part =

@@ -28,7 +28,7 @@ roots_is zero rooted [] few = refl
 roots_is zero rooted (piece ∷ pieces) few = absurd (omega arith)
 roots_is (suc more) rooted pieces few = let e : suc more - 1 ≡ more = omega arith in rw e refl
 
--- the roots from here on are what is left of the whole
+-- the roots from here on are what remains of the whole
 pub record Goes (whole : Result Rooted SexprFault) (now : Rooted) (pieces : List Piece) : Type 0 where
   pub more : ℕ
   pub few : length pieces ≤ more
@@ -40,7 +40,7 @@ goes_first rooted pieces = record { more = length pieces; few = omega arith; is 
 here_root : (more : ℕ) (rooted : Rooted) (pieces : List Piece) → token_at pieces ≡ Root → roots_here more rooted pieces ≡ root_at rooted (drop 1 pieces) >>= λ x. roots_from more x.0 x.1
 here_root more rooted pieces is = rw is refl
 
--- behind one more root
+-- after one more root
 pub goes_root : (whole : Result Rooted SexprFault) (now next : Rooted) (pieces rest : List Piece) → Goes whole now pieces → token_at pieces ≡ Root → root_at now (drop 1 pieces) ≡ Ok (next, rest) → length rest < length pieces → Goes whole next rest
 goes_root whole now next pieces rest goes token is less = record {
   more = goes.more - 1;
@@ -86,7 +86,7 @@ pub expression_left : (objects : List Object) (labels : List (ℕ × ℕ)) (piec
 expression_left objects labels pieces value new is =
     left objects (length pieces) value new (expression (length pieces) (length objects) labels pieces) ((expression_takes (length pieces)).takes (length objects) labels pieces) is
 
--- which neither ends a root nor is one
+-- a token that neither ends the roots nor begins one
 neither : (token : Token) → (token ≡ EndSexpr → ⊥) → (token ≡ Root → ⊥) → (is_last_token token ≡ false) × (is_root token ≡ false)
 neither EndSexpr last root = absurd (last refl)
 neither Root last root = absurd (root refl)

@@ -15,7 +15,7 @@ use Rattle.sexpr_text.specs.Brackets.{closed_by, opened_by}
 use Rattle.sexpr_text.specs.Tokens.{atom_of, label_in, label_token, plain_token, token_by_bracket, token_by_mark, token_of}
 use Rattle.sexpr_text.specs.Pieces.{is_end, is_feed, is_white, piece_length, pieces_from}
 
--- behind the bytes of the piece before
+-- after the bytes of the piece before
 pub pieces_skip : (areas : List AreaRule) (past skip line : ℕ) (text : List ℕ) → pieces_from areas past skip line text ≡ pieces_from areas past 0 line (drop skip text)
 unfolding pieces_from
 pieces_skip areas past zero line [] = refl
@@ -91,7 +91,7 @@ no_end areas piece =
     let last = slice_index piece (length piece - 1) in
     no_end_bracket areas piece (take (length piece - 1) piece) last (opened_by last) (closed_by last)
 
--- a piece, and those behind it
+-- a piece, and those after it
 pub pieces_at : (areas : List AreaRule) (past line size : ℕ) (text front rest : List ℕ) (token : Token) → 0 < length text → is_white (slice_index text 0) ≡ false
     → size ≡ piece_length text → 0 < size → front ≡ take size text → rest ≡ drop size text → token ≡ token_of areas front
     → record { line = line; token = token } ∷ (if is_end token then [] else pieces_from areas past 0 line rest) ≡ pieces_from areas past 0 line text

@@ -107,7 +107,7 @@ closed_fewer : (bracket : Bracket) (one : Read Value) (count : ℕ) → length o
 closed_fewer bracket one count less =
     either_ok (closes bracket (token_at one.rest)) (Ok (record one { rest = drop 1 one.rest })) (refused one.rest _) (λ r. length r.rest < count) (omega (arith, fewer one.rest)) tt
 
--- what stands behind an element leaves no more pieces
+-- what follows an element leaves no more pieces
 cdr_fewer : (goes read : Reader) (bracket : Bracket) (next : ℕ) (labels : List (ℕ × ℕ)) (pieces : List Piece) → Takes goes → Takes read → IfOk (cdr_behind goes read bracket next labels pieces) (λ r. length r.rest ≤ length pieces)
 unfolding cdr_behind
 cdr_fewer goes read bracket next labels pieces first second =
@@ -146,7 +146,7 @@ fields_fewer read (suc more) had next labels pieces takes =
     (λ field here. then_ok (others field) (λ all. Ok (ending field all)) (λ r. length r.rest ≤ length field.rest) P
     (fields_fewer read more (had + 1) (next + length field.objects) field.labels field.rest takes) (λ all there. omega arith))))
 
--- what is inside of the brackets leaves no more pieces
+-- what the brackets contain leaves no more pieces
 pub inside_fewer : (read : Reader) (next : ℕ) (value : Value) (inside : Inside) (labels : List (ℕ × ℕ)) (pieces : List Piece) → Takes read → IfOk (read_inside read next value inside labels pieces) (λ r. length r.rest ≤ length pieces)
 inside_fewer read next value Nothing labels pieces takes = omega arith
 inside_fewer read next value (Conses area bracket) labels pieces takes =
@@ -166,7 +166,7 @@ expression_takes (suc depth) = record {
       (inside_fewer (expression depth) next b.value b.inside b.labels b.rest (expression_takes depth)));
 }
 
--- a fault that is passed on
+-- an error that is passed on
 pub passed_on : {A : Type 0} (one : Result A SexprFault) (fault : SexprFault) (P : SexprFault → Type 0) → (x : SexprFault) → one ≡ Err x → x ≡ fault → P fault → IfErr one P
 passed_on {A} one fault P x is same here =
     let Q : Result A SexprFault → Type 0 = λ r. IfErr r P in subst Q (sym is) (subst P (sym same) here)

@@ -1,4 +1,4 @@
--- Tasks in the place of a task lead where it led.
+-- The tasks that replace a task lead to the state to which it led.
 use Rattle.std.proofs.Common.{◌≡◌, ℕ, ◌+◌, ◌-◌, ◌<◌, ◌≤◌, List, [], ◌∷◌, ◌++◌, length, drop, Bool, true, false, Some, Result, Ok, Err, refl, ap, sym, subst, ◌∙◌, arith, append_assoc, length-append, length-drop}
 use Rattle.std.specs.Prelude.{IfOk, IfErr, OnOk, if◌then◌else◌, nat_le, slice_set}
 use Rattle.std.specs.List.{All}
@@ -54,7 +54,7 @@ fields_wait objects value area code (Ok all) =
     ap (λ (os : List Object). Ok (state os all.labels all.rest)) (sym (append_assoc objects (block_with area code all.value ∷ []) all.objects) ∙ ap (λ (os : List Object). os ++ all.objects) (sym e))
 fields_wait objects value area code (Err fault) = refl
 
--- what waits where a form is entered leads to what is inside
+-- the tasks of a form that is entered lead to what is inside
 pub enters : (inside : Inside) (depth : ℕ) (value : Value) (objects : List Object) (labels : List (ℕ × ℕ)) (pieces : List Piece) → length pieces ≤ depth
     → AllLead (tasks_in inside (length objects)) (Ok (state (objects ++ holes_in inside) labels pieces)) (grown (λ _. objects) (read_inside (expression depth) (length objects) value inside labels pieces))
 enters I.Nothing depth value objects labels pieces deep = refl
@@ -90,7 +90,7 @@ entered_made (I.Block area code) objects =
     let here : IsMade (length (objects ++ hole ∷ [])) (Fields (length objects) area code []) = (omega (arith, count_more objects hole), omega arith) in
     All-cons (IsMade (length (objects ++ hole ∷ []))) (Fields (length objects) area code []) [] here (All-nil _)
 
--- Where a beginning is refused
+-- A beginning that is refused
 
 refused_first : {A : Type 0} (fault : SexprFault) (first : Result Beginning SexprFault) (next : Beginning → Result A SexprFault) → IsFault fault first → IsFault fault (first >>= next)
 refused_first (Bad line reason) first next is = ap (λ f. f >>= next) is
@@ -131,7 +131,7 @@ cons_fails fault area bracket old is after does =
     (fault_of fault _ _ (conses_is does.depth does.many area bracket next old.labels old.pieces does.few)
     (refused_then fault (read (next + 1) old.labels old.pieces) (element read (does.many - 1) area bracket next) (expression_fails fault does.depth (next + 1) old.labels old.pieces does.deep is))))
 
--- the beginning that was asked for
+-- the beginning that was requested
 pub next_name : (fault : SexprFault) (next : ℕ) (old : TaskState) → next ≡ length old.objects + 1 → IsFault fault (begun next old.labels old.pieces) → IsFault fault (begun (length old.objects + 1) old.labels old.pieces)
 next_name fault next old at is = fault_of fault (begun (length old.objects + 1) old.labels old.pieces) (begun next old.labels old.pieces) (ap (λ n. begun n old.labels old.pieces) (sym at)) is
 
@@ -142,7 +142,7 @@ fault_at fault labels one other first second same equal is =
 pub begun_at : (labels : List (ℕ × ℕ)) (one other : ℕ) (first second : List Piece) (b : Beginning) → one ≡ other → first ≡ second → begun one labels first ≡ Ok b → begun other labels second ≡ Ok b
 begun_at labels one other first second b same equal is = ap (λ n. begun n labels second) (sym same) ∙ ap (begun one labels) (sym equal) ∙ is
 
--- what a call brings about is handed on
+-- what a call causes is passed on
 pub on_ok_of : {A E : Type 0} (one : Result A E) (P Q : Type 0) → (P → Q) → OnOk one P → OnOk one Q
 on_ok_of (Ok x) P Q leads here = leads here
 on_ok_of (Err e) P Q leads here = tt
@@ -206,7 +206,7 @@ cons_leads area bracket old b after is does =
 grown_count : (objects others : List Object) (one : Object) → length objects ≤ length ((objects ++ one ∷ []) ++ others)
 grown_count objects others one = omega (arith, length-append (objects ++ one ∷ []) others, count_more objects one)
 
--- the next cons, of which the car has begun
+-- the next cons, whose car has begun
 pub cons_steps : (area : ℕ) (bracket : Bracket) (before now : List Task) (old new : TaskState) (b : Beginning) (next : ℕ)
     → begun next old.labels old.pieces ≡ Ok b → next ≡ length old.objects + 1
     → now ≡ (before ++ Behind (length old.objects) area bracket b.value ∷ []) ++ tasks_in b.inside (length (old.objects ++ cons_in area bracket b.value Nil ∷ []))
@@ -229,7 +229,7 @@ cons_steps area bracket before now old new b next is at tasks there =
       takes = less;
     })
 
--- a step that leaves nothing to do
+-- a step after which nothing remains to be done
 done : (task : Task) (before : List Task) (old new : TaskState) → ((after : Result TaskState SexprFault) → Does task old after → Ok new ≡ after) → length old.objects ≤ length new.objects → length new.pieces < length old.pieces
     → Steps task before old before new
 done task before old new leads grows takes =
@@ -253,7 +253,7 @@ closing_goes bracket (Open area other) is = refl
 closing_goes bracket Unknown is = refl
 closing_goes bracket End is = absurd (cc)
 
--- The cdr behind an element
+-- The cdr after an element
 
 -- the objects with this cdr in the cons
 abbrev pub with_cdr : List Object → ℕ → ℕ → Bracket → Value → Value → List Object
@@ -274,7 +274,7 @@ cdr_goes : (goes read : Reader) (bracket : Bracket) (next : ℕ) (labels : List 
 unfolding cdr_behind
 cdr_goes goes read bracket next labels pieces not_shut no_dot = rw (not_shut, no_dot) refl
 
--- a closing bracket behind an element
+-- a closing bracket after an element
 pub shut_steps : (name area : ℕ) (bracket : Bracket) (car : Value) (before : List Task) (old new : TaskState) → closes bracket (token_at old.pieces) ≡ true
     → new ≡ state (with_cdr old.objects name area bracket car Nil) old.labels (drop 1 old.pieces) → Steps (Behind name area bracket car) before old before new
 shut_steps name area bracket car before old new shuts there =
@@ -301,7 +301,7 @@ at_dot bracket (Shut other) is = absurd (cc)
 at_dot bracket Unknown is = refl
 at_dot bracket End is = refl
 
--- another element behind it
+-- another element after it
 goes_same : (objects : List Object) (name area : ℕ) (bracket : Bracket) (car first : Value) (all : Result (Read Value) SexprFault) → IfOk all (λ r. r.value ≡ first)
     → grown (with_cdr objects name area bracket car) all ≡ grown (λ _. with_cdr objects name area bracket car first) all
 goes_same objects name area bracket car first (Err fault) is = refl
@@ -348,7 +348,7 @@ goes_fails fault name area bracket car old between not_shut no_dot there fails a
     let P : TaskState → Type 0 = λ s. Fails (Conses area bracket) s fault in
     subst P there fails after (goes_leads name area bracket car old not_shut no_dot after does)
 
--- a dot behind it
+-- a dot after it
 dot_fewer : (pieces : List Piece) → length (drop 1 pieces) ≤ length pieces
 dot_fewer pieces = omega (arith, length-drop 1 pieces)
 
@@ -546,7 +546,7 @@ pub lead_join : (tasks pushed : List Task) (now between after : Result TaskState
 lead_join [] pushed now between after first second = let P : Result TaskState SexprFault → Type 0 = λ r. AllLead pushed now r in subst P second first
 lead_join (task ∷ tasks) pushed now between after first second = (second.0, lead_join tasks pushed now between second.0 first second.1, second.2)
 
--- a refusal stays
+-- a refusal remains
 pub lead_refused : (fault : SexprFault) (tasks : List Task) (now after : Result TaskState SexprFault) → IsFault fault now → AllLead tasks now after → IsFault fault after
 lead_refused fault [] now after is lead = fault_of fault after now (sym lead) is
 lead_refused fault (task ∷ tasks) now after is lead = stays fault task lead.0 after (lead_refused fault tasks now lead.0 is lead.1) lead.2
@@ -573,7 +573,7 @@ last_leads items before task old after is lead =
     let Q : Result TaskState SexprFault → Type 0 = λ r. Leads task r split.0 in
     (split.0, subst Q (sym split.1.1) split.1.2, split.2)
 
--- after a step the tasks lead where they led
+-- after a step the tasks lead to the same state
 pub step_leads : (items before now : List Task) (task : Task) (old new : TaskState) (after : Result TaskState SexprFault) → items ≡ before ++ task ∷ [] → Steps task before old now new → AllLead items (Ok old) after → AllLead now (Ok new) after
 step_leads items before now task old new after is steps lead =
     let last = last_leads items before task old after is lead in
@@ -594,7 +594,7 @@ step_fails fault items before task old after is fails lead =
 
 -- An expression
 
--- the tasks behind the beginning of an expression lead to the whole of it
+-- the tasks that remain after the beginning of an expression lead to the whole of it
 pub beginning_leads : (depth : ℕ) (b : Beginning) (old between : TaskState) (tasks : List Task) → begun (length old.objects) old.labels old.pieces ≡ Ok b → length old.pieces ≤ depth
     → tasks ≡ tasks_in b.inside (length old.objects) → between ≡ state (old.objects ++ holes_in b.inside) b.labels b.rest
     → AllLead tasks (Ok between) (grown (λ _. old.objects) (expression depth (length old.objects) old.labels old.pieces))
@@ -639,7 +639,7 @@ pub first_refused : (fault : SexprFault) (depth : ℕ) (old : TaskState) → len
     → IsFault fault (grown_value old.objects (expression depth (length old.objects) old.labels old.pieces))
 first_refused fault depth old deep is = refused_then fault (expression depth (length old.objects) old.labels old.pieces) _ (expression_fails fault depth (length old.objects) old.labels old.pieces deep is)
 
--- a fault that is passed on is what reading gives
+-- an error that is passed on is what reading gives
 pub may_pass : {X Y : Type 0} (view : X → Y) (one : Result X SexprFault) (read : Result Y SexprFault) (fault x : SexprFault) → one ≡ Err x → x ≡ fault → IsFault fault read → MayGive view one read
 may_pass {X} view one read fault x is same here =
     let P : Result X SexprFault → Type 0 = λ r. MayGive view r read in

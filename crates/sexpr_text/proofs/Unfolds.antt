@@ -1,4 +1,4 @@
--- What readers give, where their depth and their count are enough.
+-- What readers give, if their depth and their count are enough.
 use Rattle.std.proofs.Common.{◌≡◌, ℕ, zero, suc, ◌+◌, ◌-◌, ◌≤◌, List, [], ◌∷◌, ◌++◌, length, drop, Bool, true, false, Result, Ok, Err, refl, ap, sym, arith}
 use Rattle.std.specs.Prelude.{IfOk, if◌then◌else◌, nat_le}
 use Rattle.lisp_graph.specs.declared.object.Value.{Value}
@@ -26,13 +26,13 @@ expression_is zero next labels (piece ∷ pieces) deep = absurd (omega arith)
 expression_is (suc depth) next labels pieces deep =
     let e : suc depth - 1 ≡ depth = omega arith in rw e refl
 
--- nothing is an expression where no pieces are left
+-- if no pieces remain there is no expression
 expression_none : (depth next : ℕ) (labels : List (ℕ × ℕ)) → expression depth next labels [] ≡ Err (Bad 0 NoEnd)
 unfolding expression object_begun
 expression_none zero next labels = refl
 expression_none (suc depth) next labels = refl
 
--- the conses from an element on are the element and the cdr behind it
+-- the conses from an element on are the element and the cdr after it
 abbrev pub element : Reader → ℕ → ℕ → Bracket → ℕ → Read Value → Result (Read Value) SexprFault
 element read many area bracket next car =
     cdr_behind (conses read many area bracket) read bracket (next + 1 + length car.objects) car.labels car.rest >>= λ cdr.
@@ -46,7 +46,7 @@ conses_is depth zero area bracket next labels (piece ∷ pieces) few = absurd (o
 conses_is depth (suc many) area bracket next labels pieces few =
     let e : suc many - 1 ≡ many = omega arith in rw e refl
 
--- a field, and those behind it
+-- a field, and those after it
 abbrev pub field_more : Reader → ℕ → ℕ → ℕ → Read Value → Result (Read (List Value)) SexprFault
 field_more read many had next field =
     fields read many (had + 1) (next + length field.objects) field.labels field.rest >>= λ others.

@@ -4,6 +4,6 @@ use Rattle.sexpr_text.specs.declared.token.Piece.{Piece}
 use Rattle.sexpr_text.specs.declared.begun.Begun.{Begun}
 use Rattle.sexpr_text.specs.Reading.{Beginning}
 
--- with the labels and pieces behind it
+-- with the labels and pieces after it
 abbrev pub beginning : Begun → List (ℕ × ℕ) → List Piece → Beginning
 beginning begun labels rest = record { value = begun.value; inside = begun.inside; labels = labels; rest = rest }

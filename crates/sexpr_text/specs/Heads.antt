@@ -9,7 +9,7 @@ use Rattle.sexpr_text.specs.Meaning.{Head}
 abbrev pub head_of : Header → Head
 head_of header = record { world = header.world; line = header.line; rest = header.rest.now }
 
--- the world is what the lines of a header say
+-- the world is what the lines of a header mean
 pub record IsHead (world : World) : Type 0 where
   pub place : WorldReader
   pub reached : IsReached place

@@ -22,16 +22,16 @@ is_last byte = is_some (opened_by byte) || byte == 61
 abbrev pub is_edge : ℕ → Bool
 is_edge byte = is_white byte || is_some (closed_by byte) || is_last byte
 
--- where the piece ends whose first edge is there
+-- the length of a piece with this first edge
 abbrev pub piece_end : List ℕ → Option ℕ → ℕ
 piece_end text None = length text
 piece_end text (Some edge) = if edge == 0 || is_last (slice_index text edge) then edge + 1 else edge
 
--- How many bytes the piece has that begins here. It ends before white space or a closing bracket, and behind an opening bracket or `=`; a closing bracket is a piece by itself.
+-- How many bytes the first piece of the text has. It ends before white space or a closing bracket, and after an opening bracket or `=`; a closing bracket is a piece by itself.
 abbrev pub piece_length : List ℕ → ℕ
 piece_length text = piece_end text (position is_edge text)
 
--- the pieces of a text from this line on, behind some bytes of the piece before; the end of the text is the last one, in the line `past`
+-- the pieces of a text from this line on, after `skip` bytes of the piece before; the end of the text is the last one, in the line `past`
 unfoldable pub pieces_from : List AreaRule → ℕ → ℕ → ℕ → List ℕ → List Piece
 pieces_from areas past skip line [] = record { line = past; token = End } ∷ []
 pieces_from areas past (suc skip) line (byte ∷ bytes) = pieces_from areas past skip line bytes
@@ -46,7 +46,7 @@ pieces_from areas past zero line (byte ∷ bytes) =
 abbrev pub is_unfinished : List ℕ → Bool
 is_unfinished text = not (length text == 0) && not (is_feed (slice_index text (length text - 1)))
 
--- the line behind the last one, where the text begins in this line
+-- the number of the line after the last one, for a text that begins in this line
 abbrev pub line_past : ℕ → List ℕ → ℕ
 line_past line text = line + count_by is_feed text + (if is_unfinished text then 1 else 0)
 
@@ -58,7 +58,7 @@ abbrev pub is_end : Token → Bool
 is_end End = true
 is_end _ = false
 
--- a piece, and those behind it in the text, which goes on in this line
+-- a piece, and those after it in the text, which goes on in this line
 abbrev pub pieces_left : Piece → List AreaRule → ℕ → ℕ → List ℕ → List Piece
 pieces_left piece areas past line text = piece ∷ (if is_end piece.token then [] else pieces_from areas past 0 line text)
 

@@ -1,4 +1,4 @@
--- What the pieces of a text say: the grammar, the objects that it names, and the first piece that can't go on a text.
+-- What the pieces of a text mean: the grammar, the objects that it names, and the first piece that can't continue a text.
 use Rattle.std.specs.Prelude.{◌≡◌, ℕ, zero, suc, ◌+◌, pos, negsuc, ℤ, List, [], ◌∷◌, ◌++◌, length, drop, Bool, true, false, nat_le, nat_lt, if◌then◌else◌, is_some, Option, Some, None, Result, Ok, Err}
 use Rattle.lisp_graph.specs.declared.object.Value.{Value}
 use Rattle.lisp_graph.specs.declared.object.Value.TheVariants.{Fix, Nil, Ref}
@@ -27,7 +27,7 @@ use Rattle.sexpr_text.specs.Pieces.{line_at, token_at}
 abbrev pub refused : {A : Type 0} → List Piece → SexprReason → Result A SexprFault
 refused pieces reason = Err (Bad (line_at pieces) reason)
 
--- the reason where the grammar doesn't allow a token
+-- why the grammar doesn't allow a token
 abbrev pub misplaced : Token → SexprReason
 misplaced Unknown = BadToken
 misplaced End = NoEnd
@@ -43,7 +43,7 @@ abbrev pub is_dot : Token → Bool
 is_dot Dot = true
 is_dot _ = false
 
--- the number, where it is below the count
+-- the number, if it is at least 0 and below the count
 abbrev pub natural_below : ℕ → ℤ → Option ℕ
 natural_below count (pos number) = if nat_lt number count then Some number else None
 natural_below count (negsuc number) = None
@@ -56,7 +56,7 @@ integer_in pieces token = refused pieces (misplaced token)
 abbrev pub integer_at : List Piece → Result ℤ SexprFault
 integer_at pieces = integer_in pieces (token_at pieces)
 
--- what is found, or a refusal of the next piece
+-- what was found, or a refusal of the next piece
 abbrev pub found_at : {A : Type 0} → List Piece → SexprReason → Option A → Result A SexprFault
 found_at pieces reason None = refused pieces reason
 found_at pieces reason (Some x) = Ok x
@@ -69,7 +69,7 @@ code_at pieces = do
 
 -- The beginning of an expression
 
--- a block of an area, behind its bracket: what is still to be read, and the pieces there
+-- a block of an area, from the piece after its bracket: what remains to be read, and the pieces there
 unfoldable pub block_begun : List Piece → ℕ → Result (Inside × List Piece) SexprFault
 block_begun pieces area = do
   code ← code_at pieces
@@ -89,7 +89,7 @@ form_by pieces token = refused pieces (misplaced token)
 abbrev pub form_begun : List Piece → Result (Inside × List Piece) SexprFault
 form_begun pieces = form_by pieces (token_at pieces)
 
--- the value of an expression, what is still to be read of it, and the labels and pieces there
+-- the value of an expression, what remains to be read of it, and the labels and pieces there
 pub record Beginning : Type 0 where
   pub value : Value
   pub inside : Inside
@@ -123,14 +123,14 @@ begun next labels pieces = begun_by next labels pieces (token_at pieces)
 
 -- Whole expressions
 
--- what was read: a value, the objects that were made, and the labels and pieces behind it
+-- what was read: a value, the objects that were made, and the labels and pieces after it
 pub record Read (A : Type 0) : Type 0 where
   pub value : A
   pub objects : List Object
   pub labels : List (ℕ × ℕ)
   pub rest : List Piece
 
--- reads an expression, where the next object gets this name
+-- reads an expression; the next new object gets this name
 abbrev pub Reader : Type 0
 Reader = ℕ → List (ℕ × ℕ) → List Piece → Result (Read Value) SexprFault
 
@@ -142,13 +142,13 @@ cons_charge _ = 3
 abbrev pub cons_in : ℕ → Bracket → Value → Value → Object
 cons_in area bracket car cdr = record { area = area; charge = cons_charge bracket; body = Cons car cdr }
 
--- the bracket closes behind what was read
+-- the bracket closes after what was read
 abbrev pub closed : Bracket → Read Value → Result (Read Value) SexprFault
 closed bracket read =
     if closes bracket (token_at read.rest) then Ok (record read { rest = drop 1 read.rest })
     else refused read.rest (misplaced (token_at read.rest))
 
--- the cdr behind an element of a list form: nil where the bracket closes, an expression between a dot and the bracket, or the conses that go on
+-- the cdr after an element of a list form: nil if the bracket closes, an expression between a dot and the bracket, or the conses that go on
 unfoldable pub cdr_behind : Reader → Reader → Bracket → Reader
 cdr_behind conses read bracket next labels pieces =
     if closes bracket (token_at pieces) then Ok (record { value = Nil; objects = []; labels = labels; rest = drop 1 pieces })
@@ -157,7 +157,7 @@ cdr_behind conses read bracket next labels pieces =
       closed bracket cdr)
     else conses next labels pieces
 
--- the conses of a list form from an element on, with at most so many elements: each has the element as its car
+-- the conses of a list form from an element on, with at most this many elements: each has the element as its car
 unfoldable pub conses : Reader → ℕ → ℕ → Bracket → Reader
 conses read zero area bracket next labels pieces = refused pieces NoEnd
 conses read (suc more) area bracket next labels pieces = do
@@ -165,7 +165,7 @@ conses read (suc more) area bracket next labels pieces = do
   cdr ← cdr_behind (conses read more area bracket) read bracket (next + 1 + length car.objects) car.labels car.rest
   Ok (record { value = Ref next; objects = cons_in area bracket car.value cdr.value ∷ (car.objects ++ cdr.objects); labels = cdr.labels; rest = cdr.rest })
 
--- the reason for which a token begins no 2,048th field
+-- the reason for which a token can't begin a 2,048th field
 abbrev pub surplus : Token → SexprReason
 surplus (Atom value) = TooManyFields
 surplus (Label label) = TooManyFields
@@ -174,7 +174,7 @@ surplus (Open (Some area) bracket) = TooManyFields
 surplus (Open None bracket) = NoArea
 surplus token = misplaced token
 
--- the fields of a block up to its closing bracket, at most so many, behind the first ones
+-- the fields of a block up to its closing bracket, at most this many, after the first ones
 unfoldable pub fields : Reader → ℕ → ℕ → ℕ → List (ℕ × ℕ) → List Piece → Result (Read (List Value)) SexprFault
 fields read zero had next labels pieces = refused pieces NoEnd
 fields read (suc more) had next labels pieces =
@@ -185,7 +185,7 @@ fields read (suc more) had next labels pieces =
       others ← fields read more (had + 1) (next + length field.objects) field.labels field.rest
       Ok (record { value = field.value ∷ others.value; objects = field.objects ++ others.objects; labels = others.labels; rest = others.rest }))
 
--- what is inside of the brackets of a form whose beginning was read, which has this value
+-- what the brackets of a form contain; its beginning was read, and has this value
 abbrev pub read_inside : Reader → ℕ → Value → Inside → List (ℕ × ℕ) → List Piece → Result (Read Value) SexprFault
 read_inside read next value Nothing labels pieces = Ok (record { value = value; objects = []; labels = labels; rest = pieces })
 read_inside read next value (Conses area bracket) labels pieces =
@@ -195,7 +195,7 @@ read_inside read next value (Block area code) labels pieces =
     fields read (length pieces) 0 (next + 1) labels pieces >>= λ all.
     Ok (record { value = value; objects = block_with area code all.value ∷ all.objects; labels = all.labels; rest = all.rest })
 
--- An expression that is nested less than so deep.
+-- An expression that is nested less deep than this number.
 unfoldable pub expression : ℕ → Reader
 expression zero next labels pieces = refused pieces NoEnd
 expression (suc depth) next labels pieces = do
@@ -204,13 +204,13 @@ expression (suc depth) next labels pieces = do
 
 -- What a function returned
 
--- the fault is what reading gives, or memory ran out
+-- the error is what reading gives, or memory ran out
 abbrev pub IsFault : {Y : Type 0} → SexprFault → Result Y SexprFault → Type 0
 IsFault (Bad line reason) read = read ≡ Err (Bad line reason)
 IsFault (TooSmall line) read = read ≡ Err (TooSmall line)
 IsFault NoMemory read = Unit {0}
 
--- it is what reading gives, seen by view, unless memory ran out
+-- it is what reading gives, seen through `view`, unless memory ran out
 abbrev pub MayGive : {X Y : Type 0} → (X → Y) → Result X SexprFault → Result Y SexprFault → Type 0
 MayGive view (Ok x) read = read ≡ Ok (view x)
 MayGive view (Err fault) read = IsFault fault read

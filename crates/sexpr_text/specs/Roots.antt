@@ -1,4 +1,4 @@
--- What the lines of a text behind its header say: the roots, up to `end-sexpr`.
+-- What the lines of a text after its header mean: the roots, up to `end-sexpr`.
 use Rattle.std.specs.Prelude.{ℕ, zero, suc, List, [], ◌++◌, length, drop, replicate, slice_set, slice_get, Bool, true, false, if◌then◌else◌, unwrap_or, Result, Ok}
 use Rattle.lisp_graph.specs.declared.object.Value.{Value}
 use Rattle.lisp_graph.specs.declared.object.Value.TheVariants.{Nil}
@@ -41,23 +41,23 @@ register_at registers given pieces = do
   register ← found_at pieces NoRegister (natural_below registers number)
   if has_root given register then refused pieces RegisterTwice else Ok register
 
--- with a root more
+-- with one more root
 abbrev pub with_root : Rooted → ℕ → Value → List Object → List (ℕ × ℕ) → Rooted
 with_root rooted register value objects labels =
     record { roots = slice_set rooted.roots register value; given = slice_set rooted.given register true; objects = rooted.objects ++ objects; labels = labels }
 
--- the register and the expression behind `root`, and the pieces behind them
+-- the register and the expression after `root`, and the pieces after them
 unfoldable pub root_at : Rooted → List Piece → Result (Rooted × List Piece) SexprFault
 root_at rooted pieces = do
   register ← register_at (length rooted.roots) rooted.given pieces
   read ← expression (length (drop 1 pieces)) (length rooted.objects) rooted.labels (drop 1 pieces)
   Ok (with_root rooted register read.value read.objects read.labels, read.rest)
 
--- behind `end-sexpr` the text ends
+-- after `end-sexpr` the text ends
 abbrev pub ended : Rooted → List Piece → Result Rooted SexprFault
 ended rooted pieces = if is_end (token_at pieces) then Ok rooted else refused pieces TextAfterEnd
 
--- The roots from here on, at most so many, up to the end of the text.
+-- The roots from here on up to the end of the text, at most this many.
 unfoldable pub roots_from : ℕ → Rooted → List Piece → Result Rooted SexprFault
 roots_from zero rooted pieces = refused pieces NoEnd
 roots_from (suc more) rooted pieces =

@@ -1,4 +1,4 @@
--- What the forms that have begun still want, so that nesting takes no stack of the machine's.
+-- What remains to be read of the forms that have begun, as a list of tasks: so nesting needs none of the machine's stack.
 use Rattle.std.specs.Prelude.{◌≡◌, ℕ, ◌<◌, ◌≤◌, List, [], ◌∷◌, ◌++◌, length, drop, if◌then◌else◌, slice_set, ⊤, Result, Ok, Err}
 use Rattle.std.specs.List.{All}
 use Rattle.lisp_graph.specs.declared.object.Value.{Value}
@@ -26,7 +26,7 @@ pub record TaskState : Type 0 where
 abbrev pub state_of : Forms → TaskState
 state_of forms = record { objects = forms.objects; labels = forms.labels; pieces = forms.pieces }
 
--- the state behind what was read, whose objects stand behind those that there are
+-- the state after what was read; the objects that it made follow those before
 abbrev pub grown : {A : Type 0} → (A → List Object) → Result (Read A) SexprFault → Result TaskState SexprFault
 grown had read = read >>= λ r. Ok (record { objects = had r.value ++ r.objects; labels = r.labels; pieces = r.rest })
 
@@ -34,11 +34,11 @@ grown had read = read >>= λ r. Ok (record { objects = had r.value ++ r.objects;
 abbrev pub grown_value : List Object → Result (Read Value) SexprFault → Result (Value × TaskState) SexprFault
 grown_value had read = read >>= λ r. Ok (r.value, record { objects = had ++ r.objects; labels = r.labels; pieces = r.rest })
 
--- what stands in the place of a block whose fields are not read yet
+-- what takes the place of a block whose fields aren't read yet
 abbrev pub hole : Object
 hole = cons_in 0 Round Nil Nil
 
--- what waits where a form is entered, and the place that its block takes
+-- the tasks of a form that is entered, and the place that its block takes
 abbrev pub tasks_in : Inside → ℕ → List Task
 tasks_in I.Nothing next = []
 tasks_in (I.Conses area bracket) next = Conses area bracket ∷ []
@@ -57,14 +57,14 @@ pub record Enough (pieces : List Piece) (Is : ℕ → ℕ → Type 0) : Type 0 w
   pub few : length pieces ≤ many
   pub is : Is depth many
 
--- the state behind a closing bracket
+-- the state after a closing bracket
 abbrev pub shut : TaskState → Task → Result TaskState SexprFault
 shut state (Close bracket) =
     if closes bracket (token_at state.pieces) then Ok (record state { pieces = drop 1 state.pieces })
     else refused state.pieces (misplaced (token_at state.pieces))
 shut state _ = Ok state
 
--- a task leads from a state to this
+-- a task leads from a state to this one
 abbrev pub Does : Task → TaskState → Result TaskState SexprFault → Type 0
 Does (Conses area bracket) state after =
     Enough state.pieces (λ depth many. after ≡ grown (λ _. state.objects) (conses (expression depth) many area bracket (length state.objects) state.labels state.pieces))
@@ -76,7 +76,7 @@ Does (Fields name area code values) state after =
     Enough state.pieces (λ depth many. after ≡ grown (λ others. slice_set state.objects name (block_with area code (values ++ others)))
     (fields (expression depth) many (length values) (length state.objects) state.labels state.pieces))
 
--- a refusal stays
+-- a refusal remains
 abbrev pub Leads : Task → Result TaskState SexprFault → Result TaskState SexprFault → Type 0
 Leads task (Ok state) after = Does task state after
 Leads task (Err fault) after = after ≡ Err fault
@@ -86,14 +86,14 @@ abbrev pub AllLead : List Task → Result TaskState SexprFault → Result TaskSt
 AllLead [] now after = now ≡ after
 AllLead (task ∷ tasks) now after = (between : Result TaskState SexprFault) × AllLead tasks now between × Leads task between after
 
--- the objects of a task are there, and a block has at most 2,047 fields
+-- the objects of a task exist, and a block has at most 2,047 fields
 abbrev pub IsMade : ℕ → Task → Type 0
 IsMade count (Conses area bracket) = ⊤
 IsMade count (Behind name area bracket car) = name < count
 IsMade count (Close bracket) = ⊤
 IsMade count (Fields name area code values) = (name < count) × (length values ≤ 2047)
 
--- A step: some tasks in the place of one lead from the new state to where that one led from the old one, and pieces were taken.
+-- A step: the tasks that replace one lead from the new state to the state to which that one led from the old state, and pieces were taken.
 pub record Steps (task : Task) (before : List Task) (old : TaskState) (now : List Task) (new : TaskState) : Type 0 where
   pub pushed : List Task
   pub tasks : now ≡ before ++ pushed

@@ -10,7 +10,7 @@ use Rattle.sexpr_text.specs.declared.token.Token.{Token}
 use Rattle.sexpr_text.specs.declared.token.Token.TheVariants.{Root, EndSexpr, Dot, Atom, Label, Again, Open, Close, Unknown}
 use Rattle.sexpr_text.specs.Brackets.{closed_by, opened_by}
 
--- the number of a label, of which this is spelled without its last byte: `#` and a number
+-- the number of a label, from its spelling without the last byte: `#` and a number
 abbrev pub label_in : List ℕ → Option ℕ
 label_in front =
     if length front == 0 || not (slice_index front 0 == 35) then None
@@ -31,11 +31,11 @@ plain_token piece =
     else if bytes_eq piece (codes ".") then Dot
     else atom_of (value_of piece)
 
--- a name with an opening bracket behind it
+-- a name followed by an opening bracket
 abbrev pub open_token : List AreaRule → List ℕ → Bracket → Token
 open_token areas front bracket = if is_name front then Open (area_of areas front) bracket else Unknown
 
--- a closing bracket stands alone
+-- a closing bracket is a piece by itself
 abbrev pub close_token : List ℕ → Bracket → Token
 close_token front bracket = if length front == 0 then Close bracket else Unknown
 
@@ -44,7 +44,7 @@ abbrev pub label_token : (ℕ → Token) → Option ℕ → Token
 label_token token None = Unknown
 label_token token (Some label) = token label
 
--- the token that ends in no bracket
+-- a token that doesn't end in a bracket
 abbrev pub token_by_mark : List ℕ → List ℕ → ℕ → Token
 token_by_mark piece front last =
     if last == 61 then label_token Label (label_in front)
@@ -57,7 +57,7 @@ token_by_bracket areas piece front last (Some bracket) closed = open_token areas
 token_by_bracket areas piece front last None (Some bracket) = close_token front bracket
 token_by_bracket areas piece front last None None = token_by_mark piece front last
 
--- The token that a piece spells, where areas have these names.
+-- The token that a piece spells, if areas have these names.
 abbrev pub token_of : List AreaRule → List ℕ → Token
 token_of areas piece =
     let front = take (length piece - 1) piece in

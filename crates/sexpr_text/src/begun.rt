@@ -11,7 +11,7 @@ use crate::piece_reader::PieceReader;
 use crate::{Bracket, SexprFault, SexprReason, Token};
 use lisp_graph::Value;
 
-/// What is still to be read of an expression whose beginning was read.
+/// What remains to be read of an expression whose beginning was read.
 #[derive(Clone, Copy, Debug, PartialEq, Eq)]
 pub enum Inside {
     Nothing,
@@ -21,7 +21,7 @@ pub enum Inside {
     Block { area: u8, code: u16 },
 }
 
-/// The beginning of an expression: its value, and what is still to be read of it.
+/// The beginning of an expression: its value, and what remains to be read of it.
 #[derive(Clone, Copy, Debug, PartialEq, Eq)]
 pub struct Begun {
     pub value: Value,
@@ -41,7 +41,7 @@ fn code_at(pieces: &PieceReader) -> Result<u16, SexprFault>
     }
 }
 
-/// A block, behind its bracket.
+/// A block, from the piece after its bracket.
 #[tactic(auto, unfolding(crate::specs::Reading::block_begun))]
 fn block_begun(pieces: &mut PieceReader, area: u8) -> Result<Inside, SexprFault>
     ensures { MayGive (λ inside. (inside, pieces.new)) result (block_begun pieces.old area) }
@@ -99,7 +99,7 @@ fn again(labels: &Labels, pieces: &mut PieceReader, label: u32) -> Result<Begun,
     })
 }
 
-/// A form behind its new label.
+/// A form, from the piece after its new label.
 fn labelled(
     labels: &mut Labels,
     pieces: &mut PieceReader,
@@ -117,7 +117,7 @@ fn labelled(
     object_begun(labels, pieces, next)
 }
 
-/// The beginning of an expression, where the next object gets this name.
+/// The beginning of an expression; the next new object gets the name `next`.
 pub fn begin(labels: &mut Labels, pieces: &mut PieceReader, next: u64) -> Result<Begun, SexprFault>
     ensures { MayGive (λ b. beginning b labels.new pieces.new) result (begun next labels.old pieces.old) }
 {

@@ -2,7 +2,7 @@
 ghost use Rattle.std.specs.Prelude.{◌≡◌};
 ghost use Rattle.sexpr_text.specs.Brackets.{closed_by, opened_by};
 
-/// What stands between a pair of brackets.
+/// What a pair of brackets contains.
 #[derive(Clone, Copy, Debug, PartialEq, Eq)]
 pub enum Bracket {
     /// Conses that are charged 2 words each.

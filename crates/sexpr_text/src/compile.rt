@@ -12,7 +12,7 @@ use lisp_graph::{Areas, Fields, Objects, World};
 use std::alloc::Global;
 use world_text::Reason;
 
-/// The objects and the roots of a text behind its header, which begins in this line.
+/// The objects and the roots of a text after its header; that text begins in this line.
 #[tactic(auto, unfolding(crate::specs::Meaning::graph_behind))]
 fn graph_behind(
     alloc: Global,
@@ -32,7 +32,7 @@ fn graph_behind(
     Ok((forms.objects, registers.roots))
 }
 
-/// What a text says behind its first line.
+/// The world of a text, from the text after its first line.
 #[tactic(auto, unfolding(crate::specs::Meaning::said_behind))]
 fn said_behind(alloc: Global, text: &[u8]) -> Result<World, SexprFault>
     requires { length text.now < 2 ^ 62 }
@@ -63,7 +63,7 @@ fn line_of_byte(index: usize, text: &[u8]) -> u64
     1 + feeds as u64
 }
 
-/// What a text of at most so many bytes says.
+/// The world that a text of at most `limit` bytes means.
 fn compile_within(alloc: Global, limit: usize, text: &[u8]) -> Result<World, SexprFault>
     requires { limit ≤ 2 ^ 40 }
     ensures is { MayGive (λ x. x) result (meaning_within limit text.now) }
@@ -88,9 +88,9 @@ fn compile_within(alloc: Global, limit: usize, text: &[u8]) -> Result<World, Sex
     })
 }
 
-/// The world that a text says, or why it says none: it has more than 2^40 bytes, or else the first line of its header that
-/// breaks a rule, or else the first piece behind it that can't go on a text. It also fails where memory runs out. Quotas
-/// aren't asked for. The text may be nested as deep as memory allows.
+/// The world that a text means, or why it means none: it has more than 2^40 bytes; or else the first line of its header that
+/// breaks a rule; or else the first piece after the header that can't continue a text. It also fails if memory runs out. Quotas
+/// aren't tested. The text may be nested as deep as memory allows.
 pub fn compile_sexpr(alloc: Global, text: &[u8]) -> Result<World, SexprFault>
     ensures is { MayGive (λ x. x) result (meaning text.now) }
 {

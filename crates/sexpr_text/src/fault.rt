@@ -12,7 +12,7 @@ pub enum SexprReason {
     /// A line of the header breaks a rule of world files.
     Header(Reason),
     BadToken,
-    /// The token may not come there.
+    /// The token isn't allowed in this place.
     BadForm,
     NoRegister,
     RegisterTwice,
@@ -20,18 +20,18 @@ pub enum SexprReason {
     BadNumber,
     TooManyFields,
     LabelTwice,
-    /// `#k#` stands before `#k=`.
+    /// `#k#` precedes `#k=`, or there is no `#k=`.
     NoLabel { label: u32 },
     NoEnd,
     TextAfterEnd,
     InputTooLong,
 }
 
-/// Why a text gives no world. Lines are counted from 1.
+/// Why a text doesn't give a world. Lines are counted from 1.
 #[derive(Clone, Copy, Debug, Drop, PartialEq, Eq)]
 pub enum SexprFault {
     Bad { line: u64, reason: SexprReason },
-    /// The areas up to this line want more regions than there are.
+    /// The areas up to this line need more regions than there are.
     TooSmall { line: u64 },
     NoMemory,
 }

@@ -1,4 +1,4 @@
-//! Reading forms, with a stack of what is still to be read.
+//! Reading forms, with a stack of what remains to be read.
 use crate::begun::{Inside, begin};
 use crate::grammar::{closes, is_dot, misplaced, refusal, surplus};
 use crate::labels::Labels;
@@ -16,7 +16,7 @@ pub struct Forms<'a> {
     pub pieces: PieceReader<'a>,
     pub labels: Labels,
     pub objects: Objects,
-    /// What is still to be read of the forms that have begun; the last one comes first.
+    /// What remains to be read of the forms that have begun. The last task is done first.
     pub tasks: Vec<Task>,
 }
 
@@ -29,7 +29,7 @@ impl<'a> Forms<'a> {
     ghost use Rattle.sexpr_text.specs.Reading.{IsFault, MayGive, expression, is_dot};
     ghost use Rattle.sexpr_text.specs.Tasks.{AllLead, Fails, IsMade, TaskState, Steps, grown_value, holes_in, state_of, tasks_in};
 
-    /// Nothing was read yet of a text behind its header, which begins in this line.
+    /// Begins to read a text after its header; that text begins in this line.
     pub fn new(alloc: Global, areas: &'a Areas, line: u64, text: &'a [u8]) -> Forms<'a>
         requires few { length areas.now ≤ 16 }
         requires countable { line + length text.now < 2 ^ 63 }
@@ -47,7 +47,7 @@ impl<'a> Forms<'a> {
         }
     }
 
-    /// Begins with what is inside of a form whose beginning was read.
+    /// Enters a form whose beginning was read.
     fn enter(&mut self, inside: Inside) -> Result<(), NoMemory>
         ensures tasks { OnOk result (self.new.tasks.items ≡ self.old.tasks.items ++ tasks_in inside (length self.old.objects)) }
         ensures objects { OnOk result (self.new.objects ≡ self.old.objects ++ holes_in inside) }
@@ -73,7 +73,7 @@ impl<'a> Forms<'a> {
         Ok(())
     }
 
-    /// The next cons of a list form, whose car is the next expression.
+    /// Reads the next cons of a list form, whose car is the next expression.
     fn cons(&mut self, area: u8, bracket: Bracket) -> Result<(), SexprFault>
         ensures ok { OnOk result (Steps (a_conses area bracket) self.old.tasks.items (state_of self.old) self.new.tasks.items (state_of self.new)) }
         ensures err { IfErr result (λ fault. Fails (a_conses area bracket) (state_of self.old) fault) }
@@ -95,7 +95,7 @@ impl<'a> Forms<'a> {
         Ok(())
     }
 
-    /// The cdr behind the dot.
+    /// Reads the cdr after the dot.
     fn dotted(
         &mut self,
         name: u64,
@@ -117,7 +117,7 @@ impl<'a> Forms<'a> {
         Ok(())
     }
 
-    /// What stands behind the car of a cons.
+    /// Reads what follows the car of a cons.
     fn behind(
         &mut self,
         name: u64,
@@ -145,7 +145,7 @@ impl<'a> Forms<'a> {
         self.cons(area, bracket)
     }
 
-    /// The closing bracket behind a dotted cdr.
+    /// Reads the closing bracket after a dotted cdr.
     fn close(&mut self, bracket: Bracket) -> Result<(), SexprFault>
         ensures ok { OnOk result (Steps (a_close bracket) self.old.tasks.items (state_of self.old) self.new.tasks.items (state_of self.new)) }
         ensures err { IfErr result (λ fault. Fails (a_close bracket) (state_of self.old) fault) }
@@ -158,7 +158,7 @@ impl<'a> Forms<'a> {
         Ok(())
     }
 
-    /// The next field of a block, or its closing bracket.
+    /// Reads the next field of a block, or its closing bracket.
     fn field(&mut self, name: u64, area: u8, code: u16, fields: Fields) -> Result<(), SexprFault>
         requires made { name < length self.old.objects }
         requires few { length fields ≤ 2047 }

@@ -1,4 +1,4 @@
-//! Where the grammar allows a token, and how a piece is refused.
+//! Which tokens the grammar allows in a place, and how a piece is refused.
 ghost use Rattle.std.specs.Prelude.{◌≡◌, ◌<◌, false, IfSome, OnOk};
 ghost use Rattle.sexpr_text.specs.Brackets.{same_bracket};
 ghost use Rattle.sexpr_text.specs.declared.fault.SexprFault.TheVariants.{Bad as a_fault};
@@ -50,7 +50,7 @@ pub fn refusal(pieces: &PieceReader, reason: SexprReason) -> SexprFault
     }
 }
 
-/// The number, where it is below the count.
+/// The number, if it is at least 0 and below the count.
 pub fn natural_below(count: u32, number: i32) -> Option<u32>
     ensures is { result ≡ natural_below count number }
     ensures within { IfSome result (λ n. n < count) }
@@ -80,7 +80,7 @@ pub fn is_dot(token: Token) -> bool
     matches!(token, Token::Dot)
 }
 
-/// Why a token begins no 2,048th field.
+/// Why a token can't begin a 2,048th field.
 pub fn surplus(token: Token) -> SexprReason
     ensures { result ≡ surplus token }
 {

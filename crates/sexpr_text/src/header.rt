@@ -12,7 +12,7 @@ use lisp_graph::World;
 use std::alloc::Global;
 use world_text::{Part, Reason, WorldBuilder, WorldFault};
 
-/// The first line of a text, and the text behind it.
+/// The first line of a text, and the text after it.
 pub fn split_feed(text: &[u8]) -> (&[u8], &[u8])
     ensures line { result.0.now ≡ first_line text.now }
     ensures rest { result.1.now ≡ behind_line text.now }
@@ -31,7 +31,7 @@ fn first_feed(text: &[u8]) -> Option<usize>
     text.iter().position(|byte| is_feed(*byte))
 }
 
-/// Why a line of the header is refused. None of them makes objects, so that none is refused for a quota.
+/// The refusal of a line of the header. No such line makes objects, so none is refused for a quota.
 fn header_fault(line: u64, fault: WorldFault) -> SexprFault
     ensures { result ≡ header_fault line fault }
 {
@@ -61,16 +61,16 @@ fn header_line(builder: &mut WorldBuilder, line: u64, text: &[u8]) -> Result<(),
     }
 }
 
-/// What a header says, and the text behind it.
+/// What a header means, and the text after it.
 #[derive(Drop)]
 pub struct Header<'a> {
     pub world: World,
-    /// The line in which the text behind the header begins.
+    /// The line in which the text after the header begins.
     pub line: u64,
     pub rest: &'a [u8],
 }
 
-/// A builder behind the first line, which takes the lines of a world file of format 2.
+/// A builder that has taken the first line, and takes the further lines of a world file of format 2.
 fn second_builder(alloc: Global) -> Result<WorldBuilder, SexprFault>
     ensures { MayGive (λ x. x) result (Ok second_place) }
 {
@@ -87,7 +87,7 @@ fn has_objects(part: Part) -> bool
     matches!(part, Part::Objects | Part::Roots | Part::Closed)
 }
 
-/// The lines of a header behind its first one, up to the `capacity` line.
+/// Reads the lines of a header after its first one, up to the `capacity` line.
 pub fn read_header(alloc: Global, text: &[u8]) -> Result<Header, SexprFault>
     requires { length text.now < 2 ^ 62 }
     ensures is { MayGive head_of result (header (length text.now) second_place 2 text.now) }

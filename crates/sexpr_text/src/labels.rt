@@ -37,7 +37,7 @@ impl Labels {
         self.names.get(&label).copied()
     }
 
-    /// Names an object by a new label.
+    /// Gives an object a new label.
     pub fn add(&mut self, label: u32, name: u64) -> Result<(), NoMemory>
         requires { name_of self.old label ≡ None }
         ensures { OnOk result (self.new ≡ self.old ++ (label, name) ∷ []) }

@@ -39,7 +39,7 @@ pub fn block_with(area: u8, code: u16, fields: Fields) -> Object
     }
 }
 
-/// What stands in the place of a block whose fields are not read yet.
+/// What takes the place of a block whose fields aren't read yet.
 pub fn hole() -> Object
     ensures { result ≡ hole }
 {

@@ -5,15 +5,15 @@ use crate::{Piece, Token};
 use lisp_graph::Areas;
 use std::marker::Model;
 
-/// Shows one piece of a text after another. Contracts see the pieces that are left; the last one is the end of the text.
+/// Shows one piece of a text after another. Contracts see the pieces that remain; the last one is the end of the text.
 #[derive(Drop)]
 pub struct PieceReader<'a> {
     areas: &'a Areas,
     piece: Piece,
-    /// The text behind the piece, which begins in the line `line`.
+    /// The text after the piece; it begins in the line `line`.
     rest: &'a [u8],
     line: u64,
-    /// The line behind the last one of the text.
+    /// The number of the line after the last one of the text.
     past: u64,
 }
 
@@ -33,7 +33,7 @@ impl<'a> PieceReader<'a> {
     ghost use Rattle.std.specs.Prelude.{◌≡◌, ◌+◌, ◌<◌, ◌≤◌, ◌^◌, false, length, drop};
     ghost use Rattle.sexpr_text.specs.Pieces.{is_end, line_at, pieces_from, pieces_of, token_at};
 
-    /// At the first piece of a text that begins in this line.
+    /// A reader at the first piece of a text that begins in this line.
     fn at_first(areas: &'a Areas, past: u64, line: u64, text: &'a [u8]) -> PieceReader<'a>
         requires few { length areas.now ≤ 16 }
         requires countable { line + length text.now < 2 ^ 63 }
@@ -64,7 +64,7 @@ impl<'a> PieceReader<'a> {
         }
     }
 
-    /// At the first piece of a text that begins in this line.
+    /// A reader at the first piece of a text that begins in this line.
     pub fn new(areas: &'a Areas, line: u64, text: &'a [u8]) -> PieceReader<'a>
         requires few { length areas.now ≤ 16 }
         requires countable { line + length text.now < 2 ^ 63 }
@@ -86,7 +86,7 @@ impl<'a> PieceReader<'a> {
         self.piece.line
     }
 
-    /// Goes on to the next piece, where the text doesn't end here.
+    /// Goes on to the next piece. The text must not end here.
     pub fn advance(&mut self)
         requires { is_end (token_at self.old) ≡ false }
         ensures { self.new ≡ drop 1 self.old }

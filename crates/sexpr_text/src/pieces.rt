@@ -1,4 +1,4 @@
-//! Where the pieces of a text begin and end.
+//! The length of a piece, the white space before it, and line numbers.
 ghost use Rattle.std.specs.Prelude.{◌≡◌, ℕ, ◌+◌, ◌<◌, ◌≤◌, ◌^◌, List, false, length, position, IfSome, slice_index};
 ghost use Rattle.lisp_graph.specs.declared.world.AreaRule.{AreaRule};
 ghost use Rattle.sexpr_text.specs.Pieces.{is_edge, is_feed, is_last, is_unfinished, is_white, line_past, piece_length, pieces_from};
@@ -53,7 +53,7 @@ fn is_unfinished(text: &[u8]) -> bool
     !text.is_empty() && !is_feed(text[text.len() - 1])
 }
 
-/// The line behind the last one, where the text begins in this line.
+/// The number of the line after the last one, for a text that begins in this line.
 pub fn line_past(line: u64, text: &[u8]) -> u64
     requires { line + length text.now < 2 ^ 63 }
     ensures { result ≡ line_past line text.now }
@@ -62,7 +62,7 @@ pub fn line_past(line: u64, text: &[u8]) -> u64
     line + feeds as u64 + u64::from(is_unfinished(text))
 }
 
-/// The text behind the white space of one that begins in this line, and the line in which that begins.
+/// The text after the white space of one that begins in this line, and the line in which it begins.
 #[tactic(auto, unfolding(crate::specs::Pieces::pieces_from))]
 pub fn skip_white(first: u64, text: &[u8]) -> (u64, &[u8])
     requires { first + length text.now < 2 ^ 63 }

@@ -35,7 +35,7 @@ impl Registers {
     }
 }
 
-/// The register of a root, which has none yet.
+/// The register of a root; it must have none yet.
 #[tactic(auto, unfolding(crate::specs::Roots::register_at))]
 fn register_at(registers: &Registers, pieces: &PieceReader) -> Result<usize, SexprFault>
     requires { length registers.now.roots ≤ 256 }
@@ -54,7 +54,7 @@ fn register_at(registers: &Registers, pieces: &PieceReader) -> Result<usize, Sex
     Ok(register)
 }
 
-/// The register and the expression behind `root`.
+/// Reads the register and the expression after `root`.
 #[tactic(auto, unfolding(crate::specs::Roots::root_at))]
 fn root(forms: &mut Forms, registers: &mut Registers) -> Result<(), SexprFault>
     requires few { length registers.old.roots ≤ 256 }
@@ -72,7 +72,7 @@ fn root(forms: &mut Forms, registers: &mut Registers) -> Result<(), SexprFault>
     Ok(())
 }
 
-/// Whether the text ends here, and with it what was read.
+/// Tests that the text ends here.
 fn ended(forms: &Forms) -> Result<(), SexprFault>
     ensures { (r : Rooted) → MayGive (λ _. r) result (ended r forms.now.pieces) }
 {
@@ -82,7 +82,7 @@ fn ended(forms: &Forms) -> Result<(), SexprFault>
     }
 }
 
-/// The roots up to the end of the text.
+/// Reads the roots up to the end of the text.
 pub fn roots(forms: &mut Forms, registers: &mut Registers) -> Result<(), SexprFault>
     requires few { length registers.old.roots ≤ 256 }
     requires idle { forms.old.tasks.items ≡ [] }

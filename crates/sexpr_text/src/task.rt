@@ -1,8 +1,8 @@
-//! What is still to be read of the forms that have begun.
+//! What remains to be read of the forms that have begun.
 use crate::Bracket;
 use lisp_graph::{Fields, Value};
 
-/// A part of a form that is still to be read.
+/// A part of a form that remains to be read.
 #[derive(Drop)]
 pub enum Task {
     /// The conses of a list form, from an element on.
@@ -10,18 +10,18 @@ pub enum Task {
         area: u8,
         bracket: Bracket,
     },
-    /// What stands behind the element that is the car of this cons.
+    /// What follows the element that is the car of this cons.
     Behind {
         name: u64,
         area: u8,
         bracket: Bracket,
         car: Value,
     },
-    /// The closing bracket behind a dotted cdr.
+    /// The closing bracket after a dotted cdr.
     Close {
         bracket: Bracket,
     },
-    /// The fields of this block behind the first ones, up to the closing bracket.
+    /// The fields of this block after the first ones, up to the closing bracket.
     Fields {
         name: u64,
         area: u8,

@@ -22,7 +22,7 @@ pub enum Token {
     Label(u32),
     /// `#k#`, the object of a label.
     Again(u32),
-    /// A name with an opening bracket behind it, and the area of this name, if there is one.
+    /// A name followed by an opening bracket, and the area of this name, if there is one.
     Open { area: Option<u8>, bracket: Bracket },
     /// A closing bracket.
     Close(Bracket),
@@ -39,7 +39,7 @@ pub struct Piece {
     pub token: Token,
 }
 
-/// The number of a label, of which this is spelled without its last byte.
+/// The number of a label, from its spelling without the last byte.
 fn label_in(front: &[u8]) -> Option<u32>
     ensures { result ≡ label_in front.now }
 {
@@ -68,7 +68,7 @@ fn plain_token(piece: &[u8]) -> Token
     }
 }
 
-/// The token that a piece with at least one byte spells, where areas have these names.
+/// The token that a piece with at least one byte spells, if areas have these names.
 pub fn token_of(areas: &Areas, piece: &[u8]) -> Token
     requires some { 0 < length piece.now }
     requires few { length areas.now ≤ 16 }

@@ -53,7 +53,7 @@ has_both a b l =
       (λ d. omega (arith, one, d.0, d.1)),
     )
 
--- what is left where a set is removed
+-- what remains after a set is removed
 pub has_without : (a b l : ℕ) → b < 2 ^ 8 → l ≤ 8 → 0 < l → HasLevel (without 8 a b) l ↔ (HasLevel a l × ¬ HasLevel b l)
 has_without a b l small low first =
     let one = bit_at_and a (bit_not w8 b) (l - 1) in
@@ -64,7 +64,7 @@ has_without a b l small low first =
       (λ d. let ne : bit_at b (l - 1) ≢ 1 = d.1 in omega (arith, one, off, d.0, x, y)),
     )
 
--- a set contains another exactly where it has each level of it
+-- a set contains another if and only if it has each level of it
 pub has_all : (a b : ℕ) → (bit_and a b ≡ b) ↔ ((l : ℕ) → HasLevel b l → HasLevel a l)
 has_all a b = (
   (λ e l h. ((has_both a b l).0 (let p : HasLevel (bit_and a b) l = rw e h in p)).0),
@@ -82,7 +82,7 @@ has_all a b = (
 pub meets_at : (a b l : ℕ) → HasLevel a l → HasLevel b l → Meets a b
 meets_at a b l x y z = omega (arith, (has_both a b l).1 (x, y), ap (λ n. bit_at n (l - 1)) z, bit_at-zero (l - 1))
 
--- sets don't meet exactly where they have no level in common
+-- sets don't meet if and only if they have no level in common
 pub apart_at : (a b : ℕ) → (bit_and a b ≡ 0) ↔ ((l : ℕ) → HasLevel a l → ¬ HasLevel b l)
 apart_at a b = (
   (λ none l x y. meets_at a b l x y none),

@@ -45,7 +45,7 @@ cdr_small Nil = omega arith
 cdr_small Normal = omega arith
 cdr_small Second = omega arith
 
--- another cdr code before the same content
+-- another cdr code with the same content
 pub parts_from-with_cdr : (c : CdrCode) (f n : ℕ) → f ≡ cdr_bits c → parts_from (f * 2 ^ 34 + n % 2 ^ 34) ≡ record { cdr = c; content = (parts_from n).content }
 parts_from-with_cdr c f n is =
     let small : f < 4 = rw is (cdr_small c) in

@@ -1,4 +1,4 @@
--- What a word says, and the number that it is kept as.
+-- The parts of a word, and the number that it is kept as.
 use Rattle.std.specs.Prelude.{ℕ, ℤ, Bool, ◌==◌, ◌+◌, ◌*◌, ◌/◌, ◌%◌, ◌^◌, ◌<◌, ◌≤◌, ◌≡◌, ◌⊎◌, Option, Some, None, if◌then◌else◌, nat_lt, ◌&&◌, ◌||◌, FitsSigned}
 use Rattle.std.specs.Int.{cast_signed, cast_unsigned, w32}
 use Rattle.store_word.specs.declared.word.CdrCode.{CdrCode}
@@ -8,7 +8,7 @@ use Rattle.store_word.specs.declared.word.Tag.TheVariants.{Null as NullTag, Nil 
 use Rattle.store_word.specs.declared.word.Content.{Content}
 use Rattle.store_word.specs.declared.word.Content.TheVariants.{Null, Nil, List as ListAt, Struct as StructAt, Header, HeaderForward, GcForward, Fixnum}
 
--- a word: its cdr code, and what it says beside that
+-- a word: its cdr code and its content
 pub record Parts : Type 0 where
   pub cdr : CdrCode
   pub content : Content
@@ -24,7 +24,7 @@ tag_of (HeaderForward at) = HeaderForwardTag
 tag_of (GcForward at) = GcForwardTag
 tag_of (Fixnum number) = FixnumTag
 
--- the address that a word has, which LIST, STRUCT and the two forwards do
+-- the address in a word; only LIST, STRUCT and the two forwards have one
 abbrev pub address_of : Content → Option ℕ
 address_of Null = None
 address_of Nil = None
@@ -35,7 +35,7 @@ address_of (HeaderForward at) = Some at
 address_of (GcForward at) = Some at
 address_of (Fixnum number) = None
 
--- the number that a word has, which a fixnum does
+-- the number in a word; only a fixnum has one
 abbrev pub number_of : Content → Option ℤ
 number_of Null = None
 number_of Nil = None
@@ -46,7 +46,7 @@ number_of (HeaderForward at) = None
 number_of (GcForward at) = None
 number_of (Fixnum number) = Some number
 
--- the code and the length that a header has
+-- the code and the length in a header
 abbrev pub header_of : Content → Option (ℕ × ℕ)
 header_of Null = None
 header_of Nil = None
@@ -83,7 +83,7 @@ bits_of p = cdr_bits p.cdr * 2 ^ 34 + content_bits p.content
 abbrev pub cdr_from : ℕ → CdrCode
 cdr_from n = if n == 0 then Next else if n == 1 then CodedNil else if n == 2 then Normal else Second
 
--- what the bits below the cdr code say, by the major tag, the minor tag and the low 32 bits
+-- the content that the bits below the cdr code represent, by the major tag, the minor tag and the low 32 bits
 abbrev pub content_from : ℕ → ℕ → ℕ → Content
 content_from major minor low =
     if major == 1 then Fixnum (cast_signed w32 low)
@@ -95,7 +95,7 @@ content_from major minor low =
     else if minor == 5 then HeaderForward (low % 2 ^ 28)
     else GcForward (low % 2 ^ 28)
 
--- what a number says as a word
+-- the word that a number represents
 abbrev pub parts_from : ℕ → Parts
 parts_from n = record { cdr = cdr_from (n / 2 ^ 34); content = content_from (n / 2 ^ 32 % 4) (n / 2 ^ 28 % 16) (n % 2 ^ 32) }
 
@@ -124,7 +124,7 @@ is_word n =
     let low = n % 2 ^ 28 in
     nat_lt n (2 ^ 36) && (major == 1 || (major == 0 && (if nat_lt minor 2 then low == 0 else if minor == 4 then nat_lt low (2 ^ 27) else nat_lt minor 7)))
 
--- the word that a number is kept for
+-- the word that is kept as a number, if there is one
 abbrev pub word_from : ℕ → Option Parts
 word_from n = if is_word n then Some (parts_from n) else None
 

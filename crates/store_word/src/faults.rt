@@ -2,16 +2,16 @@
 
 use std::alloc::{AllocError, AllocFailed};
 
-/// There was no memory. No clause says when this comes. Unless a call says otherwise, it has then
+/// There was no memory. No clause says when this occurs. Unless a call says otherwise, it has then
 /// changed nothing.
 #[derive(Clone, Copy, PartialEq, Eq, Debug)]
 pub struct NoMemory;
 
-/// The swap device failed. It comes only where the memory's count of faults rose in the call.
+/// The swap device failed. It is returned only if the count of swap errors rose in the call.
 #[derive(Clone, Copy, PartialEq, Eq, Debug)]
 pub struct SwapFault;
 
-/// A call that consumes a value found no memory, and gives the value back as it was.
+/// A call that consumes a value found no memory, and gives the value back unchanged.
 #[derive(Debug, Drop)]
 pub struct Refused<T> {
     /// The value that the call took, unchanged.

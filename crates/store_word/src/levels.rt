@@ -9,7 +9,7 @@ use bitflags::{Flag, Flags};
 /// A set of the levels 1 to 6.
 ///
 /// Its calls `empty`, `all`, `contains`, `intersects`, `insert`, `remove` and `union` are those of
-/// the trait `Flags`, whose contracts speak of numbers; `calls_are_of_sets` says what these come to
+/// the trait `Flags`, whose contracts speak of numbers; `calls_are_of_sets` says what they mean
 /// for levels.
 #[derive(Clone, Copy, PartialEq, Eq, Debug)]
 pub struct Levels(u8);
@@ -63,7 +63,7 @@ impl Levels {
         Levels(1 << (level - 1))
     }
 
-    /// The levels from 1 to this one, which is 0 to 6; none at 0.
+    /// The levels from 1 to `level`, which is 0 to 6; for 0 the empty set.
     pub fn up_to(level: u8) -> Levels
         requires { level ≤ 6 }
         ensures { result.0 ≡ 2 ^ level - 1 }
@@ -71,8 +71,8 @@ impl Levels {
         Levels((1 << level) - 1)
     }
 
-    /// The set that these bits say. It is None exactly where a bit of value 64 or more is set, as
-    /// no level has one.
+    /// The set that has these bits. It is None if and only if a bit of value 64 or more is set, as
+    /// no level has such a bit.
     pub fn from_bits(bits: u8) -> Option<Levels>
         ensures value { IfSome result (λ levels. levels.0 ≡ bits) }
         ensures none { IsNone result ↔ (64 ≤ bits) }
@@ -103,10 +103,10 @@ impl Flags for Levels {
     }
 }
 
-/// The calls of `Levels` are those of sets: what their contracts say of numbers, said of levels.
+/// The calls of `Levels` are those of sets: what contracts state of numbers, stated of levels.
 ///
 /// `empty` is 0, `one(k)` is 2^(k - 1) and `up_to(k)` is 2^k - 1. `union` and `insert` give
-/// `bit_or`, and `remove` gives `without`. `contains(b)` of a tests that `bit_and a b` is b, and
+/// `bit_or`, and `remove` gives `without`. `a.contains(b)` tests that `bit_and a b` is b, and
 /// `intersects` that it isn't 0.
 pub fn calls_are_of_sets()
     ensures empty { (l : ℕ) → ¬ HasLevel 0 l }

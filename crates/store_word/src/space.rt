@@ -18,7 +18,7 @@ pub struct Space {
     /// Units scanned for each word of an allocation's charge while a collection runs: 0 to 16.
     pub rate: u32,
 
-    /// The charge, in words, at which level l is collected by itself, at index l - 1; 0 for never.
-    /// It is 0 above `levels`.
+    /// At index l - 1: the charge, in words, at which level l is flipped without a command; 0 for
+    /// never. It is 0 above `levels`.
     pub capacity: [u32; 6],
 }

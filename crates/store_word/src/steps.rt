@@ -1,4 +1,4 @@
-//! A counter of steps that costs nothing at run time.
+//! A counter of memory accesses, called steps, that costs nothing at run time.
 //!
 //! A step is one word read or written through a memory, or one page that is held. Bounds on the
 //! work of a call are clauses on this counter.
@@ -7,7 +7,7 @@ ghost use Rattle.std.specs.Prelude.{◌≡◌, ◌+◌};
 use std::marker::Model;
 use std::sync::ledger::{Blank, Book, Ledger, Share};
 
-/// How many steps were taken, as a number without an upper bound that contracts alone can see. It
+/// How many steps were taken: a number without an upper bound that only contracts see. It
 /// takes no bytes.
 #[derive(Drop)]
 pub struct Steps<L: Ledger> {
@@ -26,7 +26,7 @@ impl<L: Ledger> Model for Steps<L> {
 }
 
 impl<L: Ledger> Steps<L> {
-    /// A counter at no steps, over the ledger that the blank opens.
+    /// A counter of 0 steps, over the ledger that the blank opens.
     pub fn new(blank: Blank) -> Steps<L>
         requires name { blank.name ≡ L.name }
         requires parts { blank.parts ≡ L.parts }

@@ -3,13 +3,17 @@
 //! Bits 35 and 34 are the cdr code. Bits 33 and 32 are the major tag: 1 for a fixnum, whose number
 //! is bits 31 to 0 in two's complement, and 0 for all others, which have a minor tag in bits 31 to
 //! 28 and an address or a payload in bits 27 to 0.
-ghost use Rattle.std.specs.Prelude.{◌≡◌, ◌<◌, ◌≤◌, ◌^◌, ◌↔◌, IfSome, IsNone};
+ghost use Rattle.std.specs.Prelude.{◌≡◌, ◌%◌, ◌<◌, ◌≤◌, ◌^◌, ◌↔◌, Some, None, IfSome, IsNone};
 ghost use Rattle.std.specs.Bool.{OnTrue, OnFalse};
-ghost use Rattle.store_word.specs.Words.{cdr_bits, tag_of, address_of, number_of, header_of, bits_of, word_from, IsWord, NoWord, IsContent};
+ghost use Rattle.store_word.specs.Words.{cdr_bits, tag_of, address_of, number_of, header_of, bits_of, parts_from, word_from, IsWord, NoWord, IsContent};
 
 use std::marker::Model;
 
-/// Where the cdr of the object that begins at a word is.
+// The tags with an address, a bit for each: LIST, STRUCT, HEADER-FORWARD and GC-FORWARD. A tag is read here as the number of its
+// major and minor tag together, bits 33 to 28 of a word.
+const ADDRESS_TAGS: u64 = 0b110_1100;
+
+/// How to find the cdr of the cons that begins at a word.
 #[derive(Clone, Copy, PartialEq, Eq, Debug)]
 pub enum CdrCode {
     /// In a cell: the cdr is the list that begins at the next word. Words that are no cell or pair
@@ -26,7 +30,7 @@ pub enum CdrCode {
     Second,
 }
 
-/// What kind of word it is, without its number, address or header.
+/// What kind of word it is: the content without its number, address or header.
 #[derive(Clone, Copy, PartialEq, Eq, Debug)]
 pub enum Tag {
     Null,
@@ -39,7 +43,7 @@ pub enum Tag {
     Fixnum,
 }
 
-/// What a word says beside its cdr code. Addresses count words from 0, and are below 2^28.
+/// The content of a word: all but its cdr code. Addresses count words from 0, and are below 2^28.
 #[derive(Clone, Copy, PartialEq, Eq, Debug)]
 pub enum Content {
     /// Nothing: the word of an empty place.
@@ -57,8 +61,8 @@ pub enum Content {
     /// The first word of a block: its code, and its number of fields, at most 2,047.
     Header { code: u16, length: u16 },
 
-    /// What a cell or a header leaves where its object went on elsewhere in its class: the address
-    /// of the pair or block there.
+    /// The forward that a cell or a header leaves when its object is relocated in its class: the
+    /// address of the pair or the larger block.
     HeaderForward(u32),
 
     /// What a transported object leaves: the address of its copy.
@@ -93,8 +97,8 @@ impl Model for Word {
 }
 
 impl Word {
-    /// The word of an empty place: its number is 0. Like every maker's word it has the cdr code
-    /// `Next`.
+    /// The word of an empty place: its number is 0. Like each word made by a call below, it has the
+    /// cdr code `Next`.
     pub fn null() -> Word
         ensures { result ≡ record { cdr = CdrCode.Next; content = Content.Null } }
     {
@@ -228,22 +232,20 @@ impl Word {
         }
     }
 
-    /// The address that it has. It is None exactly for the other tags than LIST, STRUCT,
-    /// HEADER-FORWARD and GC-FORWARD.
+    /// The address in the word. It is None if and only if the tag isn't LIST, STRUCT,
+    /// HEADER-FORWARD or GC-FORWARD.
     pub fn address(self) -> Option<u32>
         ensures value { result ≡ address_of self.content }
         ensures below { IfSome result (λ at. at < 2 ^ 28) }
     {
-        match self.content() {
-            Content::List(at) => Some(at),
-            Content::Struct(at) => Some(at),
-            Content::HeaderForward(at) => Some(at),
-            Content::GcForward(at) => Some(at),
-            _ => None,
+        if has_address(self.bits) {
+            Some((self.bits % (1 << 28)) as u32)
+        } else {
+            None
         }
     }
 
-    /// The number that it has. It is None exactly for the other tags than FIXNUM.
+    /// The number in the word. It is None if and only if the tag isn't FIXNUM.
     pub fn number(self) -> Option<i32>
         ensures { result ≡ number_of self.content }
     {
@@ -253,7 +255,7 @@ impl Word {
         }
     }
 
-    /// The code and the number of fields in a header. It is None exactly for the other tags than
+    /// The code and the number of fields in a header. It is None if and only if the tag isn't
     /// HEADER.
     pub fn header_parts(self) -> Option<(u16, u16)>
         ensures value { result ≡ header_of self.content }
@@ -274,7 +276,7 @@ impl Word {
         self.bits
     }
 
-    /// The word that is kept as this number. It is None exactly where the number is 2^36 or more;
+    /// The word that is kept as this number. It is None if and only if the number is 2^36 or more;
     /// the major tag is 2 or 3; the major tag is 0 and the minor tag is 7 or more; the tag is NULL
     /// or NIL and the payload isn't 0; or the tag is HEADER and the payload is 2^27 or more.
     pub fn read_bits(bits: u64) -> Option<Word>
@@ -300,6 +302,15 @@ fn front_bits(code: CdrCode) -> u64
         CdrCode::Normal => 2,
         CdrCode::Second => 3,
     }
+}
+
+// Whether the word that is kept as this number has an address.
+fn has_address(bits: u64) -> bool
+    requires { IsWord bits }
+    ensures yes { OnTrue result (address_of (parts_from bits).content ≡ Some (bits % 2 ^ 28)) }
+    ensures no { OnFalse result (address_of (parts_from bits).content ≡ None) }
+{
+    (ADDRESS_TAGS >> (bits >> 28) % 64) % 2 == 1
 }
 
 // Whether a number is kept for a word.

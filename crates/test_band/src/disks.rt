@@ -1,11 +1,11 @@
-//! A disk in memory that stops at a call and tears what wasn't synced.
+//! A disk in memory that crashes at a call and tears what wasn't synced.
 ghost use Rattle.std.specs.Prelude.{◌≤◌, length};
 
 use band_store::{BandDisk, BandMemory};
 use std::alloc::Global;
 use std::test::Fail;
 
-// How a write, a sync and a read after a restart went, and a digit for each byte then, `*` for 255.
+// Whether a write, a sync and a read after a restart succeeded (`+` or `-`), and a digit for each byte then, `*` for 255.
 fn story<D: BandDisk>(disk: &mut D, log: &mut [u8; 8])
     requires { 1 ≤ length (D.bytes disk.old) }
 {
@@ -27,7 +27,7 @@ fn went(ok: bool) -> u8 {
     if ok { b'+' } else { b'-' }
 }
 
-// The room, the call that stops, how it tears, and the story.
+// The room, the call at which the disk crashes, how it tears, and the story.
 const STORIES: [(u32, u32, u8, &[u8; 8]); 9] = [
     (16, 0, 0, b"+++1789 "),
     (16, 1, 0, b"--+123  "),
@@ -59,7 +59,7 @@ fn stops_and_tears(rt: HostRuntime) -> Result<(), Fail> {
     Ok(())
 }
 
-// Whether a write, a read and, after a restart, another read went.
+// Whether a write and a read succeeded, and another read after a restart.
 fn reads<D: BandDisk>(disk: &mut D) -> [bool; 3]
     requires { 1 ≤ length (D.bytes disk.old) }
 {
@@ -77,7 +77,7 @@ fn reads<D: BandDisk>(disk: &mut D) -> [bool; 3]
     ]
 }
 
-// The same of a disk with the bytes 1, 2 and 3 that stops at this call.
+// The same for a disk with the bytes 1, 2 and 3 that crashes at this call.
 fn reads_of(alloc: Global, stop: u32) -> Result<[bool; 3], Fail> {
     let mut disk = BandMemory::new(alloc, &[1, 2, 3], 16, stop, 0)?;
     Ok(reads(&mut disk))
@@ -91,7 +91,7 @@ fn reads_fail_until_a_restart(rt: HostRuntime) -> Result<(), Fail> {
     Ok(())
 }
 
-// How many writes of the piece at byte 0 go, each with a restart behind it or none, until one fails; 99 at most.
+// How many writes of the piece at byte 0 succeed, each followed by a restart or not, until one fails; at most 99.
 fn writes<D: BandDisk>(disk: &mut D, piece: &[u8], restarts: bool) -> u32
     requires { length piece.now ≤ D.space disk.old }
 {
@@ -106,7 +106,7 @@ fn writes<D: BandDisk>(disk: &mut D, piece: &[u8], restarts: bool) -> u32
     99
 }
 
-// How many syncs go, until one fails; 99 at most.
+// How many syncs succeed, until one fails; at most 99.
 fn syncs<D: BandDisk>(disk: &mut D) -> u32 {
     for i in 0..99 {
         if disk.sync().is_err() {
@@ -116,7 +116,7 @@ fn syncs<D: BandDisk>(disk: &mut D) -> u32 {
     99
 }
 
-// How many writes go, and then how many syncs.
+// How many writes succeed, and then how many syncs.
 fn fills<D: BandDisk>(disk: &mut D, piece: &[u8], restarts: bool) -> (u32, u32) {
     if piece.len() as u64 > disk.room() {
         return (0, 0);
@@ -124,8 +124,8 @@ fn fills<D: BandDisk>(disk: &mut D, piece: &[u8], restarts: bool) -> (u32, u32) 
     (writes(disk, piece, restarts), syncs(disk))
 }
 
-// The room, the length of the piece, whether there are restarts, and how many writes and syncs go: the log has place for a quarter of
-// the room in entries, and for three times the room in bytes.
+// The room, the length of the piece, whether there are restarts, and how many writes and syncs succeed: the log has a quarter of
+// the room in entries, and three times the room in bytes.
 const FILLS: [(u32, usize, bool, (u32, u32)); 9] = [
     (64, 64, false, (3, 10)),
     (64, 25, false, (7, 2)),
@@ -138,7 +138,7 @@ const FILLS: [(u32, usize, bool, (u32, u32)); 9] = [
     (3, 0, true, (0, 0)),
 ];
 
-// The same of an empty disk of this room, with a piece of this length.
+// The same for an empty disk of this room, with a piece of this length.
 fn fills_of(alloc: Global, room: u32, len: usize, restarts: bool) -> Result<(u32, u32), Fail> {
     let mut disk = BandMemory::new(alloc, &[], room, 0, 1)?;
     Ok(fills(&mut disk, &[9; 68][..len.min(68)], restarts))

@@ -6,14 +6,14 @@ use std::alloc::Global;
 use std::process::Abort;
 use std::test::Fail;
 
-/// The lines of a world file, which `F` stands for, but for its last line feed.
+/// The lines of a world file, without the last line feed; in the table `F`.
 const FILE: &[u8] =
     b"lispm-world 2\nspace 16 32 8 1 2\narea work dynamic 100\ncapacity 0\nend-world";
 
-/// The first lines of a world in format 1, which `G` stands for.
+/// The first lines of a world in format 1; in the table `G`.
 const FIRST: &[u8] = b"lispm-world 1\nspace 16 32 8 1 2\narea work dynamic 100\n";
 
-/// Inputs with what becomes of them, one a line: its commands, with the length of each text, or its error line. `;` stands for a
+/// Inputs with their outcomes, one a line: the commands, with the length of each text, or the error line. `;` represents a
 /// line feed.
 const INPUTS: &str = "\
 end = accepted
@@ -79,7 +79,7 @@ save a;F;save b;Gblock work 0 1 2;cons work nil nil;area more dynamic 1;end; = e
 open;save a;lispm-world 1;space 16 32 8 1 2;area work dynamic 3;cons work 1 2;cons work 3 4;end-world;end; = error line 7: exhausted work 2 2 3
 save a;F;end-world;end; = error line 7: unknown command";
 
-/// The input that is written so in the table.
+/// The input for an abbreviation of the table.
 fn input_of(alloc: Global, short: &str) -> Result<Vec<u8>, Fail> {
     let mut input = Vec::new(alloc);
     for byte in short.as_bytes() {
@@ -93,13 +93,13 @@ fn input_of(alloc: Global, short: &str) -> Result<Vec<u8>, Fail> {
     Ok(input)
 }
 
-/// Writes a word and a name behind a line.
+/// Adds a word and a name to a line.
 fn named(alloc: Global, line: &str, word: &str, name: &Name) -> Result<String, Fail> {
     let name = std::str::from_utf8(name.as_bytes()).ok().ok_or("no name")?;
     Ok(format!(in alloc; "{line} {word} {name}")?)
 }
 
-/// Writes a command behind a line, as the table does.
+/// Adds a command to a line, as the table does.
 fn shown(alloc: Global, line: &str, command: &BandCommand) -> Result<String, Fail> {
     match command {
         BandCommand::Open => Ok(format!(in alloc; "{line} open")?),
@@ -130,7 +130,7 @@ fn refused(alloc: Global, trouble: &RunError) -> Result<String, Fail> {
     Ok(String::from_str(alloc, line.trim_end())?)
 }
 
-/// What becomes of an input that comes in pieces of this length, and of whose source this call fails, or none at 0.
+/// The outcome of an input that arrives in pieces of this length, and of whose source this call fails, or none at 0.
 fn outcome(alloc: Global, input: Vec<u8>, piece: usize, fail: u64) -> Result<String, Fail> {
     let mut source = SourceBytes::new(input, piece.max(1), vec![in alloc; fail]?);
     match read_bands(alloc, &mut source) {
@@ -139,7 +139,7 @@ fn outcome(alloc: Global, input: Vec<u8>, piece: usize, fail: u64) -> Result<Str
     }
 }
 
-/// Compares what becomes of an input, which stands behind its equals sign.
+/// Compares the outcome of an input with the one after its equals sign.
 fn compare(
     rt: &impl Abort,
     alloc: Global,
@@ -162,7 +162,7 @@ fn each_reason_has_its_line(rt: HostRuntime) -> Result<(), Fail> {
     Ok(())
 }
 
-/// The start of an input, the length of a line behind it, which stands between two commands or in a file, and what becomes of it.
+/// The start of an input, the length of a line after it, which lies between two commands or in a file, and the outcome.
 const LONG: [(&str, u32, &str); 5] = [
     ("open;", 32_768, "error line 2: unknown command"),
     ("open;", 32_769, "error line 2: line too long"),
@@ -190,7 +190,7 @@ fn long_lines_are_refused(rt: HostRuntime) -> Result<(), Fail> {
     Ok(())
 }
 
-/// A source that fails ends the reading, unless a line was refused before.
+/// A source that fails ends the reading, unless a line was already refused.
 const FAULTS: &str = "\
 open;list;end; = error: read failed
 open;x;list;end; = error line 2: unknown command";

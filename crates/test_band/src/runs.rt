@@ -5,11 +5,11 @@ use std::alloc::Global;
 use std::process::Abort;
 use std::test::Fail;
 
-/// The lines of a world file, which `F` stands for, but for its last line feed.
+/// The lines of a world file, without the last line feed; in the tables `F`.
 const FILE: &[u8] =
     b"lispm-world 2\nspace 16 32 8 1 2\narea work dynamic 100\ncapacity 0\nend-world";
 
-/// Those of another one of the same length, which `G` stands for.
+/// Those of another one of the same length; in the tables `G`.
 const OTHER: &[u8] =
     b"lispm-world 2\nspace 16 32 8 1 2\narea work dynamic 200\ncapacity 0\nend-world";
 
@@ -22,7 +22,7 @@ type Disk = (&'static [u8], u32, u32, u8);
 /// An empty store with room for 10,000 bytes, whose calls don't fail.
 const SOUND: Disk = (EMPTY, 10_000, 0, 0);
 
-/// The bytes that are written so in a table: `;` stands for a line feed.
+/// The bytes for an abbreviation of a table: `;` represents a line feed.
 fn expanded(alloc: Global, short: &str) -> Result<Vec<u8>, Fail> {
     let mut bytes = Vec::new(alloc);
     for byte in short.as_bytes() {
@@ -43,7 +43,7 @@ type Ports = (usize, u64, u64);
 /// Ports that never fail.
 const WHOLE: Ports = (100_000, 0, 0);
 
-/// The words of a line; an empty line has none.
+/// The arguments in a line; an empty line has none.
 fn words_of(alloc: Global, word: &str) -> Result<Vec<String>, Fail> {
     let mut words = Vec::new(alloc);
     if !word.is_empty() {
@@ -100,7 +100,7 @@ fn outcome(
     Ok((status, sink))
 }
 
-/// A run: its word, its input, its ports, its disk, its status and what it writes.
+/// A run: its argument, its input, its ports, its disk, its status and what it writes.
 type Run<'a> = (&'a str, &'a str, Ports, Disk, u8, &'a str);
 
 /// Compares the status of a run and what was written.
@@ -118,10 +118,10 @@ fn wants(rt: &impl Abort, alloc: Global, run: Run) -> Result<(), Fail> {
 /// One save and a look at the list.
 const ROW: &str = "open;save a;F;list;load b;end;";
 
-/// One save, and a look at the list behind another opening.
+/// One save, and a look at the list after another opening.
 const SAVE: &str = "open;save a;F;list;open;list;end;";
 
-/// Two saves of one name, and a load behind another opening.
+/// Two saves of one name, and a load after another opening.
 const SAVES: &str = "open;save a;F;save a;G;open;load a;end;";
 
 /// Every kind of reply.
@@ -202,7 +202,7 @@ const REPLIES: [Run; 11] = [
     ),
 ];
 
-/// A disk that stops at the last call of a save, or before it.
+/// A disk that crashes at the last call of a save, or before it.
 const STOPS: [Run; 4] = [
     (
         "",
@@ -238,7 +238,7 @@ const STOPS: [Run; 4] = [
     ),
 ];
 
-/// Each status but 5.
+/// Each status except 5.
 const STATUSES: [Run; 11] = [
     (
         "",
@@ -298,8 +298,8 @@ fn statuses(rt: HostRuntime) -> Result<(), Fail> {
     Ok(())
 }
 
-/// What is to be written where a disk stops at a call of two saves, of four calls each: behind the second opening stands the text that
-/// was acknowledged last, or that of the save that faulted, where its gate was opened and is kept.
+/// What has to be written if a disk crashes at a call of two saves, of four calls each: after the second opening the text that
+/// was acknowledged last, or that of the save that replied `fault`, if its gate was opened and is kept.
 fn demanded(stop: u32, tear: u8) -> &'static str {
     let kept = tear == 1 && stop % 4 == 0;
     match (stop <= 4, kept) {
@@ -310,7 +310,7 @@ fn demanded(stop: u32, tear: u8) -> &'static str {
     }
 }
 
-/// A disk that stops at each call of two saves of one name, and tears what wasn't synced in each way.
+/// A disk that crashes at each call of two saves of one name, and tears what wasn't synced in each way.
 #[test]
 fn stops_of_two_saves(rt: HostRuntime) -> Result<(), Fail> {
     for stop in 1..9 {
@@ -323,7 +323,7 @@ fn stops_of_two_saves(rt: HostRuntime) -> Result<(), Fail> {
     Ok(())
 }
 
-/// The last value of a long text, and what its save is answered: of the longest text, and of one that is a byte longer.
+/// The last value of a long text, and the reply to its save: for the longest text, and for one that is a byte longer.
 const LONG: [(&str, &str); 2] = [
     ("2222222", "opened 0;saved a;band a 1048576;"),
     ("22222222", "opened 0;too-large 1048577;"),

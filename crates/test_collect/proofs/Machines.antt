@@ -1,4 +1,4 @@
--- The machine stands for some state after each call.
+-- The machine represents some state after each call.
 use Rattle.std.proofs.Common.{◌≡◌, ◌≢◌, ℕ, ◌*◌, ◌<◌, inl, inr, refl, sym, ◌∙◌, ap, subst, arith, Bool, true, false, List, length, get_or, Option, Some, None}
 use Rattle.std.specs.Prelude.{IfNone, IfSome, MatchBool, Vec}
 use Rattle.std.specs.Vec.{with_items}
@@ -37,7 +37,7 @@ use Rattle.heap_collect.proofs.ScannedAhead.{running_phase}
 use Rattle.test_collect.specs.Machines.{IsMachine, IsMade, IsPlayed}
 use Rattle.test_collect.proofs.Played.{unplayed}
 
--- Steps change neither the sizes nor the areas
+-- Transitions change neither the sizes nor the areas
 
 record SameWorld (s new : State) : Type 0 where
   space : new.space ≡ s.space
@@ -77,7 +77,7 @@ same_reclaim : (s : State) (a : Answer) (new : State) → Step s C.Reclaim a new
 same_reclaim s a new (inl x) = same_end_of s s.phase a new x
 same_reclaim s a new (inr x) = same_end s C.Reclaim R.Fault s a new (record { space = refl; areas = refl }) x.1
 
--- What is paid where an allocation scans nothing
+-- What is paid if an allocation scans nothing
 
 no_product : (rate charge : ℕ) → rate ≡ 0 → rate * charge ≡ 0
 no_product rate charge none = let zero_is : 0 * charge ≡ 0 = omega arith in ap (λ (n : ℕ). n * charge) none ∙ zero_is
@@ -112,7 +112,7 @@ module _ {m : Store} {t : Table} {scan : Scan} {registers : List Parts} {areas :
     count = count ∙ x.count;
   }
 
-  -- after a step
+  -- after a transition
   stepped : {m' : Store} {t' : Table} {scan' : Scan} {registers' : List Parts} (c : Command) (r : Reply) → StepsRepresent → MarksHold m' → IsAllowed c → (y : StepsTo m' t' scan' registers' x.state c r)
       → SameWorld x.state y.next → length registers' ≡ length registers → IsMachine m' t' scan' registers' areas
   stepped {m'} {t'} {scan'} {registers'} c r law marks allowed y same count =
@@ -178,7 +178,7 @@ module _ {m : Store} {t : Table} {scan : Scan} {registers : List Parts} {areas :
   pub read_machine : {m' : Store} → PerformsIsStep → StepsRepresent → MarksHold m' → StoresNothing m m' → IsMachine m' t scan registers areas
   read_machine {m'} law bear marks stays = performed_machine law bear marks (unplayed m m' t registers stays)
 
--- The registers stand in a vector, and are lent
+-- The registers are stored in a vector, and are lent
 
 module _ {Z : Type 0} {m : Store} {t : Table} {scan : Scan} {areas : List AreaRule} {registers : List Parts} (v : Vec Parts Z) (x : IsMachine m t scan v.items areas) (lent : registers ≡ v.items) where
   here : IsMachine m t scan registers areas
@@ -230,7 +230,7 @@ level_is rules areas area rule level low same is =
     ∙ ap (λ (r : AreaRule). new_level r.kind) (get_or_default rules area rule no_rule low)
     ∙ ap (λ (rs : List AreaRule). new_level (rule_of rs area).kind) same
 
--- What is left to scan
+-- What remains to be scanned
 
 pub clean_of : {m : Store} {t : Table} {scan : Scan} {registers : List Parts} {areas : List AreaRule} → IsMachine m t scan registers areas → (t.aim ≡ None → ⊥) → Clean m t scan registers
 clean_of {m} {t} {scan} {registers} x some =

@@ -32,7 +32,7 @@ quotas_are name (suc area) low = absurd (omega arith)
 pub small_fits : (world : World) → IsSmall world → FitsQuotas world
 small_fits world x = subst FitsQuotas (sym x.is) (quotas_are x.name)
 
--- a new ground and NIL registers bear it without objects
+-- a new ground and NIL registers represent it without objects
 pub small_represents : (m : Store) (t : Table) (world : World) → IsSmall world → IsFresh m 16 1 → t ≡ fresh world.space.regions world.space.levels world.areas → IsTable t → RepresentsWorld m t (replicate 3 (plain NilWord)) (emptied world)
 small_represents m t world x f is v = subst (λ (w : World). RepresentsWorld m t (replicate 3 (plain NilWord)) (emptied w)) (sym x.is) (here x.name (is ∙ ap (λ (w : World). fresh w.space.regions w.space.levels w.areas) x.is))
   where

@@ -1,4 +1,4 @@
--- What the machine stands for.
+-- What the machine represents.
 use Rattle.std.specs.Prelude.{◌≡◌, ℕ, ◌<◌, List, length, Some}
 use Rattle.store_word.specs.Words.{Parts}
 use Rattle.lisp_graph.specs.declared.command.Command.{Command}
@@ -16,7 +16,7 @@ use Rattle.heap_state.specs.RepresentsAll.{RepresentsAll}
 use Rattle.heap_state.specs.Performs.{Performs, PerformsAt}
 use Rattle.heap_collect.specs.Admitting.{HasLeft, Wants}
 
--- some state is represented, of a world of these areas with eight registers, in which an allocation scans nothing
+-- some state is represented, of a world of these areas with eight registers, whose allocations scan nothing
 pub record IsMachine (m : Store) (t : Table) (scan : Scan) (registers : List Parts) (areas : List AreaRule) : Type 0 where
   pub map : RoleMap
   pub state : State
@@ -35,7 +35,7 @@ pub record IsPlayed (m : Store) (t : Table) (registers : List Parts) (m' : Store
   pub acts : (s : State) → (e : Effect) × (effect (graph_of s) command ≡ Some e)
   pub performs : Performs m t registers m' t' registers' command reply
 
--- there are this area and this level, and the quota leaves so many words, which are some
+-- the area and the level exist, and the quota allows this many words, at least one
 pub record HasRoomAt (t : Table) (area level charge : ℕ) : Type 0 where
   pub some : 0 < charge
   pub area_in : area < areas_of t

@@ -1,4 +1,4 @@
-//! Calls that make nothing, and blocks that grow.
+//! Calls that make nothing, and calls that grow a block.
 ghost use Rattle.std.specs.Prelude.{◌≡◌, ◌<◌, ◌≤◌, length, IfSome, IfNone};
 ghost use Rattle.area_space.specs.View.{view};
 ghost use Rattle.heap_commands.specs.Views.{WantsGrowth};
@@ -13,7 +13,7 @@ use mem_port::Memory;
 use std::sync::ledger::Ledger;
 use store_word::{Steps, SwapFault, Word};
 
-/// The reply to a command: what it answered, or that a page call failed.
+/// The reply to a command: its answer, or `fault` if a page call failed.
 pub(crate) fn reply_of(answer: Result<Reply, SwapFault>) -> Reply
     ensures { result ≡ reply_of answer }
 {
@@ -23,7 +23,7 @@ pub(crate) fn reply_of(answer: Result<Reply, SwapFault>) -> Reply
     }
 }
 
-/// Does a command that makes nothing, lets nothing grow and doesn't collect; None where it is another one, or a register is none.
+/// Does a command that makes nothing, grows nothing and doesn't collect; None if it is another command or names no register.
 pub(crate) fn act<M: Memory, L: Ledger>(
     ground: &mut Ground<M>,
     registers: &mut [Word],
@@ -71,7 +71,7 @@ pub(crate) fn act<M: Memory, L: Ledger>(
     }
 }
 
-/// The block in a register grows, where the quota of its area leaves what it will be charged; None where it doesn't.
+/// Grows the block in a register; None if the quota of its area doesn't allow the new charge, or if it isn't a block.
 pub(crate) fn grow<M: Memory, L: Ledger>(
     ground: &mut Ground<M>,
     registers: &mut [Word],
@@ -92,7 +92,7 @@ pub(crate) fn grow<M: Memory, L: Ledger>(
     }
 }
 
-// A block that was found grows, where the quota leaves its charge.
+// Grows a block that was found, if the quota allows its charge.
 fn grow_found<M: Memory, L: Ledger>(
     ground: &mut Ground<M>,
     registers: &[Word],

@@ -1,13 +1,13 @@
-//! What a machine is asked to do.
+//! What a machine is called to do.
 use lisp_graph::{Condemn, Short};
 use store_word::Levels;
 
-/// One command of a machine, plain data. It is refused where a register or an area is none.
+/// One command of a machine, plain data. It is refused if it names a register or an area that doesn't exist.
 #[derive(Clone, Copy)]
 pub enum Call {
-    /// A command as it stands. `Set`, a `List` without its registers, `Stats` and `Dump` are refused.
+    /// A command as it is. `Set`, a `List` without its registers, `Stats` and `Dump` are refused.
     Do(Short),
-    /// A new compact list of so many conses, 1 to 1,024, of the values of this register and those behind it, in turn.
+    /// A new compact list of `count` conses, 1 to 1,024, of the values of this register and those after it, in turn.
     List {
         to: u8,
         area: u8,
@@ -21,7 +21,7 @@ pub enum Call {
 }
 
 impl Call {
-    /// What a flip condemns; None where the call is no flip.
+    /// What a flip condemns; None if the call isn't a flip.
     pub fn condemned(self) -> Option<Condemn> {
         match self {
             Call::Do(Short::Flip { what }) => Some(what),

@@ -1,4 +1,4 @@
-//! The sessions. Areas 0, 1 and 2 are dynamic, ephemeral and static, and register 7 stays nil.
+//! The sessions. Areas 0, 1 and 2 are dynamic, ephemeral and static; register 7 is always nil.
 use crate::call::Call;
 use lisp_graph::{Condemn, Short};
 
@@ -14,7 +14,7 @@ const FLIP: Call = Call::Do(Short::Flip {
 
 const RECLAIM: Call = Call::Do(Short::Reclaim);
 
-// Conses in pairs and in cells, a cell that became a pair, blocks, and what is no cons and no block; of each area.
+// Conses in pairs and in cells, a cell that becomes a pair, blocks, and registers that hold neither a cons nor a block; in each area.
 static SHAPES: [Call; 41] = [
     Call::Do(Short::Car { to: 0, from: 7 }),
     Call::Do(Short::Size { of: 7 }),
@@ -213,7 +213,7 @@ static LEVELS: [Call; 30] = [
     RECLAIM,
 ];
 
-// Base pages that are used in part at the flip, behind which objects are made, stored and grow between single scans.
+// Base pages that are partly used at the flip. Between single scans, objects after their used words are made, written and grown.
 static CUT_PAGE: [Call; 36] = [
     Call::Do(Short::Make {
         to: 0,
@@ -422,7 +422,7 @@ static CHAIN: [Call; 27] = [
     RECLAIM,
 ];
 
-// Blocks that grow before they were scanned and after it, in old places and in new ones.
+// Blocks that grow before they are scanned and after it, in old places and in new ones.
 static GROWING: [Call; 25] = [
     Call::List {
         to: 0,
@@ -562,7 +562,7 @@ static RELAID: [Call; 23] = [
     RECLAIM,
 ];
 
-// A list of 1,024 cells that is cut, and a block of 2,047 fields behind a cell, whose words are on nine pages.
+// A list of 1,024 cells that is cut, and a block of 2,047 fields after a cell, whose words are on nine pages.
 static LARGE: [Call; 18] = [
     Call::List {
         to: 0,
@@ -603,7 +603,7 @@ static LARGE: [Call; 18] = [
     RECLAIM,
 ];
 
-/// The end of each session: the collection that runs, if one does, comes to its end; and then a full one leaves what the registers
+/// The end of each session: a running collection is ended; then a full one leaves only what the registers
 /// lead to, and what is static.
 pub(crate) const END: [Call; 5] = [ALL, RECLAIM, FLIP, ALL, RECLAIM];
 

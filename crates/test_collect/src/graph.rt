@@ -19,7 +19,7 @@ pub(crate) const TOP: u8 = 2;
 /// Nil, or an object by its number.
 pub(crate) type Kept = Option<usize>;
 
-/// An object: a block of this code, or a cons, and where its parts begin among those of all objects.
+/// An object: a block of this code, or a cons; and the index of its first part among the parts of all objects.
 #[derive(Clone, Copy)]
 pub(crate) struct Node {
     pub area: u8,
@@ -29,7 +29,7 @@ pub(crate) struct Node {
     pub first: usize,
     pub count: u16,
     pub held: bool,
-    /// Whether the collection that runs has condemned it.
+    /// Whether the running collection has condemned it.
     pub doomed: bool,
 }
 
@@ -38,11 +38,11 @@ pub(crate) struct Graph {
     registers: [Kept; 8],
     pub nodes: Vec<Node>,
     parts: Vec<Kept>,
-    // Words of husks by area and level, and those by area that the collection that runs has condemned.
+    // Words of husks by area and level, and by area those that the running collection has condemned.
     husks: [[u32; 3]; 3],
     gone: [u32; 3],
     aim: Option<Condemn>,
-    // Whether anything was called since the flip but scans, and whether it is known of each object if it is held.
+    // Whether anything except scans was called since the flip, and whether it is known for each object if it is held.
     changed: bool,
     exact: bool,
 }
@@ -66,7 +66,7 @@ fn survivor(what: Condemn, level: u8) -> u8 {
     }
 }
 
-// How many fields a block has behind a growth to so many: at least twice as many and one, up to 2,047.
+// How many fields a block has after a growth to this many: one more than twice the old number at least, up to 2,047.
 fn grown(count: u16, fields: u16) -> u16 {
     ((count & 4095) * 2 + 1).min(2047).max(fields)
 }
@@ -132,7 +132,7 @@ impl Graph {
         }
     }
 
-    /// The level of the place of an object, which is old or not.
+    /// The level of the place of an object; `stale` says whether that is in from-space.
     pub fn level_at(&self, node: Node, stale: bool) -> Option<u8> {
         if stale && !node.doomed {
             None
@@ -143,7 +143,7 @@ impl Graph {
         }
     }
 
-    /// What an area has to be charged, where it is known of each object if it is held.
+    /// What an area has to be charged, if it is known for each object whether it is held.
     pub fn account(&self, area: u8) -> Option<u32> {
         if !self.exact {
             return None;
@@ -209,13 +209,13 @@ impl Graph {
         Ok(())
     }
 
-    // A new object goes to a register.
+    // Puts a new object into a register.
     fn made(&mut self, to: u8, name: usize) -> Option<Reply> {
         self.set_register(to, Some(name));
         Some(Reply::Fine)
     }
 
-    // Makes an object whose charge the quota leaves.
+    // Makes an object whose charge the quota allows.
     fn make(&mut self, call: Call) -> Result<Option<Reply>, Fail> {
         let name = self.nodes.len();
         match call {
@@ -270,14 +270,14 @@ impl Graph {
         }
     }
 
-    // A part of the object in a register goes to another.
+    // Copies a part of an object to a register.
     fn fetch(&mut self, to: u8, node: Node, index: usize) -> Reply {
         let value = self.part(node, index);
         self.set_register(to, value);
         self.shown(value)
     }
 
-    // The value of a register goes into a part of an object.
+    // Copies the value of a register to a part of an object.
     fn store(&mut self, node: Node, index: usize, from: u8) -> Reply {
         let value = self.register(from);
         if let Some(place) = self.parts.get_mut(node.first.wrapping_add(index)) {
@@ -302,7 +302,7 @@ impl Graph {
         }
     }
 
-    // The block in a register gets at least so many fields, if the machine had room for it.
+    // Gives the block in a register at least this many fields, if the machine had room for it.
     fn grow(&mut self, target: u8, fields: u16, room: bool) -> Result<Option<Reply>, Fail> {
         let (Some(name), Some(node)) = (self.register(target), self.block(target)) else {
             return Ok(Some(Reply::WrongType));
@@ -337,8 +337,8 @@ impl Graph {
         Ok(Some(Reply::Fine))
     }
 
-    /// What a call that doesn't collect has to answer, where its registers, its area and its sizes are some; `room` says whether the
-    /// quota leaves what it wants. The graph is then the one behind the call.
+    /// What a call that doesn't collect has to answer, if its registers, its area and its sizes exist; `room` says whether the
+    /// quota allows what it needs. The graph is then the one after the call.
     pub fn play(&mut self, call: Call, room: bool) -> Result<Option<Reply>, Fail> {
         self.changed = true;
         let reply = match call {
@@ -396,7 +396,7 @@ impl Graph {
         Ok(Some(reply))
     }
 
-    /// What a call will be charged, and to which area; None where it makes nothing.
+    /// What a call will be charged, and to which area; None if it makes nothing.
     pub fn wanted(&self, call: Call) -> Option<(u8, u32)> {
         match call {
             Call::Do(Short::Cons { area, .. }) => Some((area, 2)),
@@ -410,7 +410,7 @@ impl Graph {
         }
     }
 
-    /// A collection begins.
+    /// Begins a collection.
     pub fn flip(&mut self, what: Condemn) {
         self.aim = Some(what);
         self.changed = false;
@@ -472,7 +472,7 @@ impl Graph {
         Ok(reached)
     }
 
-    /// The collection that runs ends.
+    /// Ends the running collection.
     pub fn reclaim(&mut self, alloc: Global) -> Result<(), Fail> {
         let Some(what) = self.aim else {
             return Ok(());
@@ -489,7 +489,7 @@ impl Graph {
         }
         self.gone = [0; 3];
         self.aim = None;
-        // What was copied and then let go isn't known: it goes in the next full collection.
+        // It isn't known whether an object remains that was copied and then released: the next full collection frees it.
         if self.changed && lost {
             self.exact = false;
         } else if what == Condemn::Full && !self.changed {
@@ -499,7 +499,7 @@ impl Graph {
     }
 }
 
-// Notes that a value is reached.
+// Records that a value is reached.
 fn reach(reached: &mut [bool], order: &mut Vec<usize>, value: Kept) -> Result<(), Fail> {
     let Some(name) = value else {
         return Ok(());

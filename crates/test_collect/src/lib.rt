@@ -1,7 +1,7 @@
 //! Whole collections: a machine of eight registers over any memory, on which they are run.
 //!
-//! There is nothing to call. Objects are made, read, changed and grown while a collection runs, by levels or in full, and each
-//! scan can be asked for alone. A small world is loaded, too. Contracts say that the machine stands for some state all the time
+//! The crate has no public item. Objects are made, read, changed and grown while a collection runs, by levels or in full, and each
+//! scan can be called alone. A small world is loaded, too. Contracts say that the machine represents some state at all times
 //! (`specs/Machines.antt`). Begin reading at `Machine`.
 #![tactic(auto)]
 

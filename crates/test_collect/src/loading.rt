@@ -1,4 +1,4 @@
-//! A small world is loaded over a flat memory, and each word is where the layout says.
+//! Loads a small world over a flat memory, and compares each word with the layout.
 ghost use Rattle.std.specs.Prelude.{◌≡◌, length, replicate, IfOk};
 ghost use Rattle.area_space.specs.View.{view};
 ghost use Rattle.heap_load.specs.Views.{RepresentsWorld};
@@ -101,7 +101,7 @@ fn new_ground<M: Memory + Drop>(alloc: Global, mem: M, world: &World) -> Result<
     Ok(Ground { mem, table })
 }
 
-// What a word says, where there is one.
+// What a word contains, if there is one.
 fn word_at<M: Memory, L: Ledger>(
     mem: &mut M,
     at: u32,

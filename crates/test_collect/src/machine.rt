@@ -69,8 +69,8 @@ impl<M: Memory + Drop> Machine<M> {
 }
 
 impl<M: Memory> Machine<M> {
-    /// Does a call, and answers its reply; None where it is refused: a register, an area or a size is none, or the quota doesn't leave
-    /// the words. After a fault the call may be given again.
+    /// Does a call, and returns its reply; None if it is refused: a register, an area or a size doesn't exist, or the quota doesn't allow
+    /// the words. After a swap error the call may be repeated.
     pub fn call<L: Ledger>(&mut self, call: Call, steps: &mut Steps<L>) -> Option<Reply> {
         if let Some(what) = call.condemned() {
             return Some(self.flip(what));
@@ -139,14 +139,14 @@ impl<M: Memory> Machine<M> {
         reply
     }
 
-    // Does a command that makes nothing, lets nothing grow and doesn't collect.
+    // Does a command that makes nothing, grows nothing and doesn't collect.
     fn act<L: Ledger>(&mut self, command: Short, steps: &mut Steps<L>) -> Option<Reply> {
         let reply = act(&mut self.ground, &mut self.registers, command, steps);
         command_laws(&self.ground.mem);
         reply
     }
 
-    // The block in a register grows.
+    // Grows the block in a register.
     fn grow<L: Ledger>(&mut self, target: u8, fields: u16, steps: &mut Steps<L>) -> Option<Reply> {
         if target >= 8 || fields > 2047 {
             return None;
@@ -161,7 +161,7 @@ impl<M: Memory> Machine<M> {
         flip(&mut self.ground, &mut self.scan, what)
     }
 
-    // Scans so many units.
+    // Scans this many units.
     fn scan<L: Ledger>(&mut self, count: u32, steps: &mut Steps<L>) -> Reply {
         let reply = scavenge(
             &mut self.ground,
@@ -174,14 +174,14 @@ impl<M: Memory> Machine<M> {
         reply
     }
 
-    // Ends a collection, where its scan is over.
+    // Ends a collection, if its scan has finished.
     fn reclaim(&mut self) -> Reply {
         let reply = reclaim(&mut self.ground, &self.scan);
         command_laws(&self.ground.mem);
         reply
     }
 
-    // Evicts so many pages.
+    // Evicts this many pages.
     fn evict(&mut self, count: u32) -> Reply {
         let evicted = self.ground.mem.evict_oldest(count);
         command_laws(&self.ground.mem);
@@ -191,7 +191,7 @@ impl<M: Memory> Machine<M> {
         }
     }
 
-    /// The word at an address; NULL where it is in no region.
+    /// The word at an address; NULL if it is in no region.
     pub fn read<L: Ledger>(&mut self, at: u32, steps: &mut Steps<L>) -> Result<Word, SwapFault> {
         if at / 256 >= self.ground.mem.pages() {
             return Ok(Word::null());
@@ -206,12 +206,12 @@ impl<M: Memory> Machine<M> {
         &self.registers
     }
 
-    /// What no call changes but those above.
+    /// The table of regions, which only the calls above change.
     pub fn table(&self) -> &RegionTable {
         &self.ground.table
     }
 
-    /// How many units are left to scan.
+    /// How many units remain to be scanned.
     pub fn units_left(&self) -> u64 {
         if self.ground.table.condemned().is_none() {
             return 0;
@@ -219,7 +219,7 @@ impl<M: Memory> Machine<M> {
         self.scan.units_left(&self.ground, &self.registers)
     }
 
-    /// The lowest page with a word left to scan.
+    /// The lowest page with a word that remains to be scanned.
     pub fn lowest_page(&self) -> Option<u32> {
         if self.ground.table.condemned().is_none() {
             return None;
@@ -235,8 +235,8 @@ fn nils(alloc: Global) -> Result<Vec<Word>, NoMemory>
     Ok(vec![in alloc; Word::nil(); 8]?)
 }
 
-// Where a call ends it is known that its memory keeps the law of marks, and that what it performed is a
-// step, after which the machine stands for a state.
+// At the end of a call it is known that its memory obeys the law of marks, and that what it performed is a
+// transition, after which the machine represents a state.
 fn command_laws<M: Memory>(mem: &M)
     ensures marks { MarksHold (M.seen mem.now) }
     ensures performs { PerformsIsStep }

@@ -21,7 +21,7 @@ pub(crate) enum New {
     Block { code: u16, fields: u16 },
 }
 
-// Whether there is such an area and such a level, and the quota leaves so many words, which are some.
+// Whether the area and the level exist, and the quota allows this many words, at least one.
 fn has_room(table: &RegionTable, area: u8, level: u8, charge: u32) -> bool
     ensures { IsTrue result → HasRoomAt table.now area level charge }
 {
@@ -32,7 +32,7 @@ fn has_room(table: &RegionTable, area: u8, level: u8, charge: u32) -> bool
     charge <= table.quota(area) - table.account(area)
 }
 
-// So many of the registers from this one on; behind the last the first one follows.
+// This many of the registers from this one on; register 0 follows the last one.
 fn items_from(item: u8, count: u16) -> Items
     requires { count ≤ 1024 }
     ensures many { length result ≡ count }
@@ -45,8 +45,8 @@ fn items_from(item: u8, count: u16) -> Items
     items
 }
 
-/// Makes an object in an area, at a level, where the quota leaves its charge; None where it doesn't,
-/// or where a register, the area or a size is none.
+/// Makes an object in an area, at a level; None if the quota doesn't allow its charge,
+/// or if a register, the area or a size doesn't exist.
 pub(crate) fn make<M: Memory, L: Ledger>(
     ground: &mut Ground<M>,
     registers: &mut [Word],

@@ -25,7 +25,7 @@ pub(crate) const SPACE: Space = Space {
     capacity: [0; 6],
 };
 
-// Behind how many scans of one call the graph is compared.
+// How many scans of one `Scavenge` the graph is compared after.
 const LOOKS: u32 = 12;
 
 // A dynamic area, an ephemeral one and a static one.
@@ -52,7 +52,7 @@ fn areas(alloc: Global) -> Result<Areas, Fail>
     Ok(areas)
 }
 
-/// A machine, the graph that it has to hold, and whether it is compared after each call or only behind collections.
+/// A machine, the graph that it has to hold, and whether they are compared after each call or only after collections.
 #[derive(Drop)]
 pub(crate) struct Session<M: Memory> {
     tried: Tried<M>,
@@ -87,7 +87,7 @@ impl<M: Memory> Session<M> {
         self.tried.met
     }
 
-    // A call, which is given again where a fault comes.
+    // Does a call; if it replies `fault`, repeats it once.
     fn call<L: Ledger>(&mut self, call: Call, steps: &mut Steps<L>) -> Result<Option<Reply>, Fail> {
         match self.tried.machine.call(call, steps) {
             Some(Reply::Fault) => {}
@@ -100,7 +100,7 @@ impl<M: Memory> Session<M> {
         }
     }
 
-    /// One call of a session, and what has to be so behind it. `Scavenge` asks for each unit alone.
+    /// Does one call of a session, and tests what has to be true after it. `Scavenge` scans each unit by a call of its own.
     pub fn step<L: Ledger>(
         &mut self,
         rt: &impl Abort,
@@ -123,7 +123,7 @@ impl<M: Memory> Session<M> {
         Ok(())
     }
 
-    // A call that doesn't collect.
+    // Does a call that doesn't collect.
     fn act<L: Ledger>(
         &mut self,
         rt: &impl Abort,
@@ -141,7 +141,7 @@ impl<M: Memory> Session<M> {
         Ok(())
     }
 
-    // Whether the quota leaves what a call wants.
+    // Whether the quota allows what a call needs.
     fn has_room(&self, call: Call) -> bool {
         let Some((area, charge)) = self.graph.wanted(call) else {
             return true;
@@ -172,13 +172,13 @@ impl<M: Memory> Session<M> {
         }
     }
 
-    // How many units are left.
+    // How many units remain.
     fn units(&self) -> u64 {
         self.tried.machine.units_left()
     }
 
-    // A collection begins, unless one runs. Units are the registers and the words of the base pages: those that have an address in an
-    // old region, and maybe more; all that are used where everything is condemned, and the lowest of them is the lowest page left.
+    // Begins a collection, unless one runs. Units are the registers and the words of the base pages: those that have an address in an
+    // old region, and maybe more; in a full collection all used ones, of which the lowest is the lowest page that remains.
     fn flip<L: Ledger>(
         &mut self,
         rt: &impl Abort,
@@ -212,8 +212,8 @@ impl<M: Memory> Session<M> {
         Ok(())
     }
 
-    // So many units are scanned, or all that are left: each takes one away, and each word that is placed brings one. The first are
-    // scanned alone, and where the graph is compared often so are all.
+    // Scans this many units, or all that remain: each scan removes one, and each word that is placed adds one. The first are
+    // scanned alone; if the graph is compared often, all are.
     fn scan<L: Ledger>(
         &mut self,
         rt: &impl Abort,
@@ -237,7 +237,7 @@ impl<M: Memory> Session<M> {
         Ok(())
     }
 
-    // So many units are scanned by one call. It answers whether more are left.
+    // Scans this many units by one call. Returns whether more remain.
     fn scan_units<L: Ledger>(
         &mut self,
         rt: &impl Abort,
@@ -250,7 +250,7 @@ impl<M: Memory> Session<M> {
         let placed = live_words(self.tried.machine.table()).wrapping_sub(words);
         let scanned = units.wrapping_add(placed).wrapping_sub(self.units());
         match reply {
-            // A call that met a fault has scanned some before it.
+            // A call that met a swap error has scanned some before it.
             Some(Reply::More) => {
                 assert!(rt; scanned >= count as u64);
                 assert!(rt; count > 1 || scanned == 1);
@@ -269,7 +269,7 @@ impl<M: Memory> Session<M> {
         }
     }
 
-    // A collection ends, where nothing is left to scan. No region is old then.
+    // Ends a collection, if nothing remains to be scanned. No region is old then.
     fn reclaim<L: Ledger>(&mut self, rt: &impl Abort, steps: &mut Steps<L>) -> Result<(), Fail> {
         let units = self.units();
         match self.call(Call::Do(Short::Reclaim), steps)? {

@@ -15,7 +15,7 @@ use std::sync::ledger::{Blank, Ledger};
 use std::test::Fail;
 use store_word::Steps;
 
-// The page calls of a session are fewer.
+// A session has fewer page calls.
 const MANY_CALLS: u32 = 200;
 
 // How many sessions without a pattern are run, and how many calls each has.
@@ -23,7 +23,7 @@ const RANDOM_SESSIONS: u32 = 6;
 
 const RANDOM_CALLS: u32 = 250;
 
-// A session from its first call to its last. It answers whether a page call failed.
+// Does a session from its first call to its last. Returns whether a page call failed.
 fn run<M: Memory + Drop, L: Ledger>(
     rt: &impl Abort,
     alloc: Global,
@@ -56,7 +56,7 @@ fn run<M: Memory + Drop, L: Ledger>(
     Ok(tried.met())
 }
 
-// The list of 1,024 cells is compared behind its collections alone.
+// The list of 1,024 cells is compared after its collections only.
 fn is_often(number: u32) -> bool {
     number != 6
 }
@@ -73,7 +73,7 @@ fn over_a_flat_memory(rt: HostRuntime) -> Result<(), Fail> {
     Ok(())
 }
 
-// A session over a paged memory, of which one page call fails, or none.
+// Does a session over a paged memory, of which one page call fails, or none.
 fn run_paged(
     rt: &impl Abort,
     alloc: Global,
@@ -88,7 +88,7 @@ fn run_paged(
     run::<PagedMemory<SwapMemory>, Brand>(rt, alloc, mem, number, often, Blank::new(1))
 }
 
-// A session with each of its page calls failing in turn, until none does.
+// Does a session with each of its page calls failing in turn, until none does.
 fn fail_each(rt: &impl Abort, alloc: Global, number: u32) -> Result<(), Fail> {
     for fail in 1..MANY_CALLS {
         if !run_paged(rt, alloc, number, fail, false)? {

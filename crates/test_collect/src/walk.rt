@@ -1,4 +1,4 @@
-//! A walk over the words of a machine beside the graph of its session, and what its regions say of units.
+//! A walk over the words of a machine beside the graph of its session, and the units that its regions contain.
 ghost use Rattle.std.specs.Prelude.{◌<◌};
 
 use crate::graph::{Graph, Kept, Node};
@@ -19,7 +19,7 @@ pub(crate) struct Tried<M: Memory> {
 }
 
 impl<M: Memory> Tried<M> {
-    // The word at an address, which is read again where a fault comes.
+    // The word at an address, which is read again if a swap error occurs.
     fn read<L: Ledger>(&mut self, at: u32, steps: &mut Steps<L>) -> Result<Word, Fail> {
         if let Ok(word) = self.machine.read(at, steps) {
             return Ok(word);
@@ -31,7 +31,7 @@ impl<M: Memory> Tried<M> {
         }
     }
 
-    // Where forwards lead.
+    // The address to which forwards lead.
     fn follow<L: Ledger>(&mut self, at: u32, steps: &mut Steps<L>) -> Result<u32, Fail> {
         let mut here = at;
         for _ in 0..13u32 {
@@ -53,7 +53,7 @@ struct Walk {
 }
 
 impl Walk {
-    // A word has to have a value.
+    // Tests that a word has a value.
     fn meet<M: Memory, L: Ledger>(
         &mut self,
         tried: &mut Tried<M>,
@@ -74,7 +74,7 @@ impl Walk {
         }
     }
 
-    // An address has to lead to an object, and to no other.
+    // Tests that an address leads to an object, and to no other.
     fn place<M: Memory, L: Ledger>(
         &mut self,
         tried: &mut Tried<M>,
@@ -106,7 +106,7 @@ impl Walk {
         Ok(())
     }
 
-    // The words of an object have to be its own.
+    // Tests the words of an object.
     fn visit<M: Memory, L: Ledger>(
         &mut self,
         rt: &impl Abort,
@@ -168,7 +168,7 @@ fn cdr_of<M: Memory, L: Ledger>(
     }
 }
 
-// The region of an object has its area and its level.
+// Tests that the region of an object has its area and its level.
 fn check_class(rt: &impl Abort, table: &RegionTable, graph: &Graph, node: Node, at: u32) {
     let class = if at / 4096 < table.regions() {
         table.class_of(at)
@@ -186,7 +186,7 @@ fn check_class(rt: &impl Abort, table: &RegionTable, graph: &Graph, node: Node, 
     assert!(rt; found == Some((node.area, graph.level_at(node, stale))));
 }
 
-/// The registers lead to the objects of the graph, each in one place and with its words, in regions of its area and level.
+/// Tests that the registers lead to the objects of the graph, each in one place and with its words, in regions of its area and level.
 pub(crate) fn check_graph<M: Memory, L: Ledger>(
     rt: &impl Abort,
     alloc: Global,
@@ -234,7 +234,7 @@ fn names_old(table: &RegionTable, word: Word) -> bool {
     }
 }
 
-// The used words of a region that isn't old; 0 where it is old or free.
+// The used words of a region that isn't old; 0 if it is old or free.
 fn live_used(table: &RegionTable, region: u32) -> u32 {
     if is_live(table, region) && region < table.regions() {
         table.used(region)
@@ -288,7 +288,7 @@ fn page_names_old<M: Memory, L: Ledger>(
     Ok(false)
 }
 
-/// The pages of regions that aren't old which have an address in an old region, or where `all` says so all that are used; and how many
+/// The pages of regions that aren't old which have an address in an old region, or all used ones if `all` is true; and how many
 /// words are used on them.
 pub(crate) fn base_pages<M: Memory, L: Ledger>(
     tried: &mut Tried<M>,

@@ -1,4 +1,4 @@
-//! Commands on stores of graphs, by traces, and what a walk tells.
+//! Commands on stores of graphs, by traces, and what a walk shows.
 mod traces;
 mod words;
 
@@ -65,7 +65,7 @@ fn small_world(alloc: Global) -> Result<World, NoMemory>
     world(alloc, objects, &[Value::Ref(0), Value::Ref(1)])
 }
 
-/// Whether a command is answered as a word says, the command and the reply on either side of an equals sign.
+/// Whether a command is answered as a word requires, which has the command and the reply on either side of an equals sign.
 fn is_answered(store: &mut GraphStore, word: &str) -> Result<bool, Fail>
     requires { length store.old.registers ≡ 8 }
     ensures { length store.new.registers ≡ 8 }
@@ -141,7 +141,7 @@ const BLOCK: Form = Form {
     charge: 3,
 };
 
-/// Whether a walk tells the small world.
+/// Whether a walk shows the small world.
 fn tells_the_graph<W: Walk>(walk: &mut W) -> Result<bool, SwapFault>
     requires { length (W.graph walk.old).registers ≡ 8 }
 {
@@ -158,7 +158,7 @@ fn a_walk_tells_the_graph(rt: HostRuntime) -> Result<(), Fail> {
     Ok(())
 }
 
-/// Makes a text of one byte longer, and cuts it.
+/// Makes a text one byte longer, and cuts it again.
 fn change(text: &mut Text) -> Result<(), NoMemory>
     requires { length text.old ≡ 1 }
 {

@@ -1,6 +1,6 @@
-//! Tests of `lisp_graph`: commands on a store of a graph, by traces that an independent program has judged, and what a walk tells.
+//! Tests of `lisp_graph`: commands on a store of a graph, by traces that an independent program has judged, and what a walk shows.
 //!
-//! There is nothing to call.
+//! The crate has no public item.
 #![tactic(auto)]
 
 #[cfg(test)]

@@ -1,4 +1,4 @@
--- Objects of the machine are laid anew.
+-- Objects of the machine are relocated.
 use Rattle.std.proofs.Common.{ℕ, zero, suc, ◌≡◌, ◌⊎◌, ◌+◌, ◌*◌, ◌/◌, ◌%◌, ◌<◌, ◌≤◌, Bool, cond, List, length, Option, Some, None, refl, sym, ◌∙◌, ap, subst, inl, inr, arith}
 use Rattle.std.specs.Prelude.{Contains, slice_get, slice_index}
 use Rattle.std.proofs.lemmas.Bool.{cases_lt, lt-ltb, le-ltb}
@@ -132,7 +132,7 @@ field-there words at fields i l = ap (λ (b : Bool). cond b (word_at words (at +
 field-nil : (words : List Parts) (at fields i : ℕ) → fields ≤ i → field_or_nil words at fields i ≡ record { cdr = CdrNext; content = NilWord }
 field-nil words at fields i l = ap (λ (b : Bool). cond b (word_at words (at + suc i)) (record { cdr = CdrNext; content = NilWord })) (le-ltb i fields l)
 
--- the fields that are read while the words behind them are written
+-- the fields that are read while the words after them are written
 pub field-same : {old new : Store} {to i : ℕ} {word : ℕ → Parts} (at fields : ℕ) → Writes old new to (i + 1) word → (at + fields < to) ⊎ (to + 2 * fields + 2 ≤ at) → i < 2 * fields + 1
     → field_or_nil new.words at fields i ≡ field_or_nil old.words at fields i
 field-same {old} {new} {to} {i} at fields w apart low = go (cases_lt i fields)

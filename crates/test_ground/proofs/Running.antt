@@ -122,7 +122,7 @@ module _ (m : Store) (t u : Table) (front middle : Parts) (x : IsOpen m t front 
     ground = x.on;
   }
 
-  -- a word of a live region that isn't left is above its used end, so it is NULL
+  -- a word of a live region that doesn't remain to be scanned is above its used end, so it is NULL
   shut : (a : ℕ) → a < length m.words → (is_used (ground_image m u) a ≡ false) ⊎ (is_live (region (ground_image m u) a).standing ≡ false) → (region (image_of m u rest) a).standing ≡ Live
       → Fresh (image_of m u rest) (word (image_of m u rest) a).content
   shut a l (inr e) live to has = let z : is_live (region (ground_image m u) a).standing ≡ true = ap is_live live in absurd (cc)
@@ -221,7 +221,7 @@ front-settled {middle = middle} x y alive = later-running x y.later alive.table.
 pub middle-settled : {m m' : Store} {t t' : Table} {front middle new : Parts} (x : IsRunning m t front middle) → SettlesOn m t m' t' x.map x.top x.areas x.store x.aim middle new → LiveSame m t m' t' → IsRunning m' t' front new
 middle-settled {front = front} x y alive = later-running x y.later alive.table.aim (refined x.map.role y.later.map.role y.later.refines front.content x.first x.front_is) (y.value x.second x.middle_is)
 
--- after a fault, and after reads
+-- after a swap error, and after reads
 pub running-stays : {m m' : Store} {t t' : Table} {front middle : Parts} → IsRunning m t front middle → StaysOn m t m' t' → LiveSame m t m' t' → IsRunning m' t' front middle
 running-stays x y alive = record {
   map = x.map;

@@ -53,7 +53,7 @@ area_words s t l o m x =
     let u = x.old_1 in
     omega arith
 
--- the slot that places are asked for
+-- the slot for which places are requested
 pub first_slot : (t : Table) → slot_of t 0 0 ≡ 0
 first_slot t = omega arith
 
@@ -103,7 +103,7 @@ area_of_slot s t l o m slot x low = (let two = two_slots s t l o m x in let half
 pub new_allowed : (s : Store) (t : Table) (l o m at words slot : ℕ) → IsTrial s t l o m → account_of t 0 + words ≤ quota_of t 0 → IsEnd t slot at words → AllowsOrigin t slot words New
 new_allowed s t l o m at words slot x fits e = subst (λ (a : ℕ). account_of t a + words ≤ quota_of t a) (sym (area_of_slot s t l o m slot x e.inside)) fits
 
--- the class that copies come from
+-- the class of which copies are made
 abbrev pub first_old : Class
 first_old = record { area = 0; level = 0; stale = true }
 

@@ -1,5 +1,5 @@
 -- What the tests know of a ground with one dynamic area and one level above 0: no word was written, and
--- every object stands at level 0.
+-- every object is at level 0.
 use Rattle.std.specs.Prelude.{◌≡◌, ℕ, ◌+◌, ◌*◌, ◌≤◌, Some, slice_get, slice_index}
 use Rattle.store_word.specs.Words.{Parts, address_of}
 use Rattle.mem_port.specs.Store.{Store}
@@ -12,7 +12,7 @@ use Rattle.area_space.specs.Ground.{IsGround}
 abbrev pub NamesNothing : Store → Type 0
 NamesNothing s = (at to : ℕ) (word : Parts) → slice_get s.words at ≡ Some word → address_of word.content ≡ Some to → ⊥
 
--- so many words are live and so many old, the live ones are charged, and so much charge of old ones is left to move
+-- this many words are live and this many old, the live ones are charged, and old objects with this charge remain to be moved
 pub record IsTrial (s : Store) (t : Table) (live_words old_words moving : ℕ) : Type 0 where
   pub top : t.top ≡ 1
   pub one : areas_of t ≡ 1

@@ -1,4 +1,4 @@
--- What a machine of two registers stands for.
+-- What a machine of two registers represents.
 use Rattle.std.specs.Prelude.{◌≡◌, ℕ, ◌<◌, List, [], ◌∷◌, length, Some, None}
 use Rattle.store_word.specs.Words.{Parts}
 use Rattle.store_word.specs.declared.space.Space.{Space}
@@ -12,7 +12,7 @@ use Rattle.transporter.specs.lisp_meaning.Sound.{Reaches}
 use Rattle.transporter.specs.lisp_meaning.Roles.{RoleMap, value_of}
 use Rattle.transporter.specs.lisp_ground.GroundInvariant.{GroundInvariant}
 
--- both registers have a value, and the ground stands for objects; nothing is condemned
+-- both registers have a value, and the ground represents objects; nothing is condemned
 pub record IsOpen (m : Store) (t : Table) (front middle : Parts) : Type 0 where
   pub map : RoleMap
   pub space : Space

@@ -1,4 +1,4 @@
--- What this crate says of grounds, of their views.
+-- The definitions of this crate on grounds, stated for their views.
 use Rattle.std.specs.Prelude.{ℕ}
 use Rattle.area_space.specs.View.{GroundView}
 use Rattle.area_space.specs.declared.classes.Origin.{Origin}

@@ -14,7 +14,7 @@ use Rattle.area_space.specs.Charges.{committed}
 use Rattle.obj_layout.specs.Forwards.{word_at}
 use Rattle.transporter.specs.lisp_ground.Placing.{Opens}
 
--- the charge is a new object's, or none where it has been paid before
+-- the charge is a new object's, or 0 if it has been paid before
 abbrev pub IsMade : ℕ → Origin → Type 0
 IsMade charge New = Unit {0}
 IsMade charge Reserve = charge ≡ 0
@@ -34,7 +34,7 @@ abbrev pub pair_of : CdrCode → Parts → Parts → ℕ → Parts
 pair_of code car cdr zero = record { cdr = Normal; content = car.content }
 pair_of code car cdr (suc i) = record { cdr = code; content = cdr.content }
 
--- so many cells, which number themselves
+-- this many cells, whose cars are their numbers
 abbrev pub cell_of : ℕ → ℕ → Parts
 cell_of count i = record { cdr = if suc i == count then CodedNil else Next; content = Fixnum (pos i) }
 
@@ -43,7 +43,7 @@ abbrev pub block_of : ℕ → ℕ → Parts
 block_of length zero = record { cdr = Next; content = Header 0 length }
 block_of length (suc i) = record { cdr = Next; content = NilWord }
 
--- a field of the block at an address, which has so many, or nil behind the last
+-- a field of the block at an address, which has this many, or nil after the last
 abbrev pub field_or_nil : List Parts → ℕ → ℕ → ℕ → Parts
 field_or_nil words at fields i = if nat_lt i fields then word_at words (at + suc i) else record { cdr = Next; content = NilWord }
 
@@ -52,7 +52,7 @@ abbrev pub wider_of : List Parts → ℕ → ℕ → ℕ → ℕ → Parts
 wider_of words at code fields zero = record { cdr = Next; content = Header code (2 * fields + 1) }
 wider_of words at code fields (suc i) = field_or_nil words at fields i
 
--- what is left of an object that was laid anew: a HEADER-FORWARD, and NULL words
+-- what an object leaves when it is relocated: a HEADER-FORWARD, and NULL words
 abbrev pub husk_of : ℕ → ℕ → Parts
 husk_of to zero = record { cdr = Next; content = HeaderForward to }
 husk_of to (suc i) = null_word

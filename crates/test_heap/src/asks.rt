@@ -1,4 +1,4 @@
-//! What a machine can be asked.
+//! Whether a machine can run a command.
 ghost use Rattle.std.specs.Prelude.{◌≡◌, ◌<◌, length, true, IsTrue, IsSome};
 ghost use Rattle.std.specs.List.{All};
 ghost use Rattle.lisp_graph.specs.Graph.{Graph};
@@ -26,7 +26,7 @@ fn is_plain(value: Value) -> bool
     }
 }
 
-/// Whether a machine of so many registers and areas has what a command names, and the command is answered by a reply.
+/// Whether a machine with this many registers and areas has what a command names, and the command is answered by a reply.
 pub(crate) fn can_run(command: &Command, registers: u32, areas: u64) -> bool
     ensures runs { IsTrue result → CanRun registers areas command.now }
     ensures replied { IsTrue result → is_replied command.now ≡ true }

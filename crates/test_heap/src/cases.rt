@@ -1,6 +1,6 @@
-//! Sessions, with what is answered.
+//! Sessions, with the expected replies.
 
-/// A world, commands that are run in it, and the text of what they are answered.
+/// A world, commands that are run in it, and the text of their replies.
 #[derive(Clone, Copy)]
 pub(crate) struct Case {
     pub world: &'static str,
@@ -39,13 +39,13 @@ pub(crate) const CASES: [Case; 22] = [
         commands: "set 0 7\nlist 1 work 0 0 0\ncdr 2 1\nset 3 nil\nrplacd 2 3\ncdr 4 2\nstats\n",
         replies: "ok\nok\ncons\nok\nok\nnil\narea work 9 9\n",
     },
-    // It is the same cons behind its forward.
+    // It is the same cons after its forward.
     Case {
         world: NINE_WORDS,
         commands: "set 0 7\nlist 1 work 0 0 0\ncdr 2 1\nset 3 nil\nrplacd 2 3\ncdr 4 2\nstats\ncdr 5 1\neq 5 2\neq 5 1\n",
         replies: "ok\nok\ncons\nok\nok\nnil\narea work 9 9\ncons\nt\nnil\n",
     },
-    // The first cell is let go.
+    // The first cell is released.
     Case {
         world: NINE_WORDS,
         commands: "set 0 7\nlist 1 work 0 0 0\ncdr 2 1\nset 1 nil\nflip full\nscavenge 100\nreclaim\nstats\n",
@@ -57,7 +57,7 @@ pub(crate) const CASES: [Case; 22] = [
         commands: "set 0 7\nlist 2 work 0 0 0\ncdr 1 2\nflip full\nscavenge 100\nreclaim\ncdr 3 2\neq 3 1\nstats\n",
         replies: "ok\nok\ncons\nflipped 0\ndone\nreclaimed\ncons\nt\narea work 9 9\n",
     },
-    // What nothing leads to is freed.
+    // What is unreachable is freed.
     Case {
         world: "lispm-world 1\nspace 16 32 8 1 2\narea work dynamic 4\n",
         commands: "set 0 1\ncons 1 work 0 0\ncons 1 work 0 0\ncons 2 work 0 0\nflip full\nscavenge 100\nreclaim\ncons 2 work 0 0\nstats\n",
@@ -69,14 +69,14 @@ pub(crate) const CASES: [Case; 22] = [
         commands: "set 0 5\ncons 1 work 0 0\nflip full\ncar 2 1\ncons 3 work 1 2\nreclaim\nscavenge 100\nreclaim\ncar 4 3\neq 4 1\ncdr 5 3\n",
         replies: "ok\nok\nflipped 0\n5\nok\nnot-done\ndone\nreclaimed\ncons\nt\n5\n",
     },
-    // What a collection answers out of its turn.
+    // What commands on collections reply out of turn.
     Case {
         world: HUNDRED_WORDS,
         commands: "flip full\nflip full\nreclaim\nscavenge 7\nscavenge 1\nreclaim\nreclaim\nscavenge 5\n",
         replies: "flipped 0\nbusy\nnot-done\nmore\ndone\nreclaimed\nnot-flipped\nnot-flipped\n",
     },
     BASE_PAGE,
-    // A page that no longer leads there is no base page of the next collection.
+    // A page that no longer leads there isn't a base page of the next collection.
     Case {
         world: TWO_AREAS,
         commands: "set 0 7\ncons 1 pool 0 0\ncons 2 perm 1 0\nset 1 nil\npage-out 32\ncar 3 2\nset 3 nil\nflip 1\nscavenge 1000\nreclaim\nflip 1\n",
@@ -94,7 +94,7 @@ pub(crate) const CASES: [Case; 22] = [
         commands: "dump\n",
         replies: "lispm-world 2\nspace 16 32 8 1 2\narea work dynamic 100\ncapacity 0\ncons work 1 #0\nroot 0 #0\nend-world\n",
     },
-    // What is no cons, no block and no field.
+    // Parts of values that aren't conses, aren't blocks or don't have the field.
     Case {
         world: HUNDRED_WORDS,
         commands: "set 0 3\nmake 1 work 9 2\nget 2 1 2\nget 2 1 1\ncar 3 0\nget 3 0 0\nsize 1\ncons 4 work 1 0\ncar 5 4\neq 5 1\n",
@@ -113,7 +113,7 @@ pub(crate) const CASES: [Case; 22] = [
         commands: "make 1 work 0 0\nflip full\nscavenge 0\n",
         replies: "exhausted work 0 1 0\nflipped 0\nmore\n",
     },
-    // An object that was copied is let go within its collection.
+    // An object that was copied is released within its collection.
     Case {
         world: "lispm-world 1\nspace 16 32 8 1 0\narea work dynamic 100\n",
         commands: "set 0 5\ncons 2 work 0 0\ncons 0 work 2 0\nset 2 nil\ncons 1 work 2 2\nflip full\nscavenge 2\nset 1 nil\nscavenge 100\nreclaim\nstats\n",
@@ -137,7 +137,7 @@ pub(crate) const CASES: [Case; 22] = [
         commands: "set 0 7\ncons 1 pool 0 0\ncons 2 pool 0 0\nset 2 nil\ncons 3 pool 0 0\nreclaim\nscavenge 100\nstats\ncons 4 pool 0 0\nstats\nreclaim\n",
         replies: "ok\nok\nok\nok\nok\nnot-done\ndone\narea pool 6 100\nok\narea pool 6 100\nnot-flipped\n",
     },
-    // A list whose conses stand together is loaded, and its first one let go.
+    // A compact list is loaded, and its first cons is released.
     Case {
         world: "lispm-world 2\nspace 16 32 8 1 2\narea work dynamic 9\ncapacity 0\nrun work 1 2 3\nroot 0 #1\n",
         commands: "stats\ncdr 1 0\ndump\n",
@@ -171,15 +171,15 @@ pub(crate) const FLIPPED: &str = "set 0 5\ncons 1 work 0 0\nflip full\n";
 pub(crate) const LARGE: &str =
     "lispm-world 1\nspace 20 32 4 1 2\narea work dynamic 8203\narea perm static 3\n";
 
-/// A list fills its area. It is dropped, and a collection frees it. The next collection keeps the one cons that is left.
+/// A list fills its area. It is dropped, and a collection frees it. The next collection keeps the one cons that remains.
 pub(crate) const COLLECTIONS: Case = Case {
     world: LARGE,
     commands: "cons 1 work 0 1\nreclaim\nflip full\nflip full\nreclaim\nscavenge 2\nscavenge 100\nreclaim\ncons 1 work 0 3\nflip full\nscavenge 100\nreclaim\ncar 2 1\ncdr 2 1\nstats\n",
     replies: "exhausted work 8202 2 8203\nnot-flipped\nflipped 0\nbusy\nnot-done\nmore\ndone\nreclaimed\nok\nflipped 0\ndone\nreclaimed\n4101\nnil\narea work 2 8203\narea perm 0 3\n",
 };
 
-/// Worlds for made commands, each with the number of its first sequence: no level is collected by itself, or each is, early; and
-/// allocations scan much or nothing.
+/// Worlds for commands without a pattern, each with the number of its first sequence: levels are collected by commands only, or also by
+/// allocations, early; and allocations scan much or nothing.
 pub(crate) const WORLDS: [(&str, u64); 3] = [
     (
         "lispm-world 2\nspace 48 32 8 2 4\narea work dynamic 8000\narea young ephemeral 6000\narea perm static 3000\ncapacity 0 0\n",

@@ -30,7 +30,7 @@ impl Dice {
         self.roll(8) as u8
     }
 
-    // One to so many registers.
+    // One to `most` registers.
     fn items(&mut self, most: u32) -> Items
         requires some { 0 < most }
         requires few { most < 1000 }
@@ -43,7 +43,7 @@ impl Dice {
         items
     }
 
-    // The fields of a block: mostly few, at times as many as there can be.
+    // The number of fields of a block: mostly small, at times the greatest.
     fn length(&mut self) -> u16
         ensures { result < 2048 }
     {
@@ -124,7 +124,7 @@ impl Dice {
         }
     }
 
-    // A command that writes a part or a register, or lets a block grow.
+    // A command that writes a part or a register, or grows a block.
     fn writer(&mut self, target: u8, from: u8) -> Command {
         match self.roll(6) {
             0 => Command::Set {

@@ -1,7 +1,7 @@
-//! Tests of `lisp_heap`: sessions on a heap over a flat memory and over a paged one, and made commands that are run beside
+//! Tests of `lisp_heap`: sessions on a heap over a flat memory and over a paged one, and commands without a pattern that are run beside
 //! a store of a graph.
 //!
-//! There is nothing to call. `trial` has the machine, `asks` what it can be asked, `script` the worlds and commands that are
+//! The crate has no public item. `trial` has the machine, `asks` what it can run, `script` the worlds and commands that are
 //! read, `session` the texts of what it answers.
 #![tactic(auto)]
 

@@ -8,7 +8,7 @@ use std::test::Fail;
 use trace_text::{LineKind, read_command};
 use world_text::WorldBuilder;
 
-/// The world of these lines, behind which a trace begins.
+/// The world of these lines, after which a trace begins.
 pub(crate) fn read_world(alloc: Global, lines: &str) -> Result<World, Fail>
     ensures { IfOk result IsAccepted }
 {

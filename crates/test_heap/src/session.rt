@@ -1,4 +1,4 @@
-//! Sessions, and the text of what is answered.
+//! Sessions, and the text of their replies.
 ghost use Rattle.world_text.specs.Limits.{IsAccepted};
 
 use crate::trial::Trial;
@@ -31,7 +31,7 @@ pub(crate) fn open_paged(
     }
 }
 
-/// What was answered, and how many commands were given again since they answered a fault.
+/// What was replied, and how many commands were repeated because they replied `fault`.
 #[derive(Drop)]
 pub(crate) struct Answers {
     pub text: Vec<u8>,
@@ -40,7 +40,7 @@ pub(crate) struct Answers {
 }
 
 impl Answers {
-    // Writes the reply of a command. Where pages are evicted, one that answers a fault is given again.
+    // Writes the reply of a command. If pages are evicted, a command that replies `fault` is repeated.
     fn reply<M: Memory>(
         &mut self,
         trial: &mut Trial<M>,
@@ -67,7 +67,7 @@ impl Answers {
         Ok(())
     }
 
-    // Writes what a command is answered.
+    // Writes the reply to a command.
     fn step<M: Memory + Drop>(
         &mut self,
         alloc: Global,
@@ -90,8 +90,8 @@ impl Answers {
     }
 }
 
-/// Runs commands. Where pages are to be evicted, so many as there can be are evicted behind each command, and each that answers a
-/// fault is given again.
+/// Runs commands. If `evicts` is set, all pages that can be evicted are evicted after each command, and each command that replies
+/// `fault` is repeated.
 pub(crate) fn run<M: Memory + Drop>(
     alloc: Global,
     trial: Trial<M>,

@@ -70,7 +70,7 @@ fn a_swap_fault_is_answered(rt: HostRuntime) -> Result<(), Fail> {
     Ok(())
 }
 
-// A session with each of its page calls failing in turn: a command that is given again answers what it would have answered.
+// Runs a session with each of its page calls failing in turn: a command that is repeated replies what it would have replied.
 fn fail_each(rt: &impl Abort, alloc: Global, case: Case) -> Result<(), Fail> {
     let whole = run_paged(alloc, case, 0, true)?;
     assert!(rt; whole.faults == 0);
@@ -90,7 +90,7 @@ fn each_page_call_fails(rt: HostRuntime) -> Result<(), Fail> {
     fail_each(&rt, rt.alloc(), BOTH_FORWARDS)
 }
 
-// Whether a command is answered as the graph says, unless the area has no room for it. A fault never comes.
+// Whether the reply to a command is that of the graph, unless the area has no room for it. It is never `fault`.
 fn agrees<M: Memory>(
     trial: &mut Trial<M>,
     yardstick: &mut Yardstick,
@@ -106,7 +106,7 @@ fn agrees<M: Memory>(
     }
 }
 
-// A sequence of 200 made commands, with the accounts and a dump behind them.
+// A sequence of 200 commands without a pattern, followed by the accounts and a dump.
 fn all_agree<M: Memory + Drop>(
     alloc: Global,
     world: &World,
@@ -149,7 +149,7 @@ fn made_commands(rt: HostRuntime) -> Result<(), Fail> {
     Ok(())
 }
 
-// Conses the numbers from 0 on before the list in register 1, until that is refused, and answers how many.
+// Conses the numbers from 0 on before the list in register 1, until that is refused, and returns how many.
 fn fill<M: Memory>(trial: &mut Trial<M>) -> i32 {
     let cons = Command::Cons {
         to: 1,
@@ -167,7 +167,7 @@ fn fill<M: Memory>(trial: &mut Trial<M>) -> i32 {
     10000
 }
 
-// Takes the numbers off the list in register 1, from the last one down to 0, and answers whether they all stood there.
+// Takes the numbers off the list in register 1, from the last one down to 0, and returns whether they all were there.
 fn is_full_list<M: Memory>(trial: &mut Trial<M>, count: i32) -> bool {
     let rest = Command::Cdr { to: 1, from: 1 };
     for number in (0..count).rev() {

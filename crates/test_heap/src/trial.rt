@@ -18,7 +18,7 @@ use std::test::Fail;
 use store_word::Steps;
 use why_held::{CensusRows, reached};
 
-/// A heap, and how many areas it has. It is asked for any command: one that names what it doesn't have is refused.
+/// A heap, and how many areas it has. Any command may be given: one that names what it doesn't have is refused.
 #[derive(Drop)]
 pub(crate) struct Trial<M: Memory> {
     heap: Heap<M>,
@@ -63,7 +63,7 @@ impl<M: Memory + Drop> Trial<M> {
         Ok(Trial { heap, areas })
     }
 
-    /// The dump, where one is written, and the machine again.
+    /// The dump, if one is written, and the machine again.
     pub fn dump(self, alloc: Global, areas: &Areas) -> (Trial<M>, Option<Text>) {
         let (heap, dump) = self.heap.dump(alloc, areas);
         let trial = Trial {
@@ -81,7 +81,7 @@ impl<M: Memory + Drop> Trial<M> {
 }
 
 impl<M: Memory> Trial<M> {
-    /// Runs a command; None where the machine doesn't have what it names, or it is answered by no reply.
+    /// Runs a command; None if the machine doesn't have what it names, or if no reply answers it.
     pub fn answer(&mut self, command: &Command) -> Option<Reply> {
         if !can_run(command, self.heap.registers(), self.areas) {
             return None;
@@ -89,7 +89,7 @@ impl<M: Memory> Trial<M> {
         Some(run_command::<M, Brand>(&mut self.heap, command, Blank::new(1)))
     }
 
-    /// What an area is charged; None where there is no such area.
+    /// What an area is charged; None if there is no such area.
     pub fn account(&self, area: usize) -> Option<u32> {
         let area = u8::try_from(area).ok()?;
         if u64::from(area) < self.areas {

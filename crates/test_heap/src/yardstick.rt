@@ -25,7 +25,7 @@ impl Yardstick {
         Ok(Yardstick { store, registers })
     }
 
-    /// Runs a command of the program; None where it is another one.
+    /// Runs a command of the program; None for any other command.
     pub fn answer(&mut self, command: &Command) -> Result<Option<Reply>, Fail> {
         if is_program(command) && can_run(command, self.registers, 16) {
             Ok(Some(self.store.answer(command)?))

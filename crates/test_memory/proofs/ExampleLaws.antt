@@ -1,4 +1,4 @@
--- What stands in the worked example.
+-- The contents of the worked example.
 use Rattle.std.proofs.Common.{ℕ, zero, suc, ◌≡◌, ◌+◌, ◌<◌, List, [], ◌∷◌, None, length, slice_index_or, slice_set, refl, sym, ◌∙◌, ap, inl, inr, arith, lit<, lit≤}
 use Rattle.std.proofs.lemmas.Bool.{cases_eq}
 use Rattle.std.proofs.lemmas.List.{get_or-set_same, get_or-set_other, get_or_default, length-set}
@@ -28,7 +28,7 @@ stored-more old new words at word is inside within read below k less =
     ]
 
 module _ (words : List Parts) (laid : IsExample words) where
-  -- a word of the memory leads where that of the example does
+  -- a word of the memory leads to the same word as that of the example
   leads : (at : ℕ) → at < 15 → forward_of (word_at words at).content ≡ forward_of (word_at example_words at).content
   leads at less = ap (λ (w : Parts). forward_of w.content) (laid.same at less)
 
@@ -48,7 +48,7 @@ module _ (words : List Parts) (laid : IsExample words) where
   pub has_final-13 : HasFinal words 13
   has_final-13 = (2, omega (arith, laid.size), final-13)
 
-  -- the three runs
+  -- the three compact runs
   pub has_run-at : (k : ℕ) → k < 3 → HasRun words (slice_index_or {A = ℕ × ℕ × RunEnd} ((7, 2, Nil) ∷ (9, 1, Pair) ∷ (12, 1, Forwarded 2) ∷ []) k (0, 0, Nil)).0
   has_run-at zero less = (
     _,

@@ -23,15 +23,15 @@ pair_of_3 rest = coded Normal (Fixnum (pos 2)) ∷ coded Next Nil ∷ rest
 abbrev pub block : List Parts → List Parts
 block rest = coded Next (Header 9 2) ∷ coded Next (Fixnum (pos 3)) ∷ coded Next (Fixnum (pos 4)) ∷ rest
 
--- a run that ends at a cell coded nil
+-- a compact run that ends at a cell coded nil
 abbrev pub run_to_nil : List Parts → List Parts
 run_to_nil rest = coded Next (Fixnum (pos 5)) ∷ coded CdrNil (Fixnum (pos 6)) ∷ rest
 
--- a run that a pair follows
+-- a compact run that a pair follows
 abbrev pub run_to_pair : List Parts → List Parts
 run_to_pair rest = coded Next (Fixnum (pos 7)) ∷ coded Normal (Fixnum (pos 8)) ∷ coded Second Nil ∷ rest
 
--- a run that a forward follows, which leads to another, and that to the second pair
+-- a compact run that a forward follows, which leads to another, and that to the second pair
 abbrev pub run_to_forward : List Parts → List Parts
 run_to_forward rest = coded Next (Fixnum (pos 9)) ∷ coded Next (HeaderForward 14) ∷ coded Next (GcForward 2) ∷ rest
 

@@ -11,7 +11,7 @@ use std::io::{Error, ErrorKind, Read, Write};
 use std::test::Fail;
 use store_word::{NoMemory, SwapFault, Word};
 
-// What a source gives into a slice, up to its end: each piece behind a bar, and `!` for a fault.
+// What a source gives into a slice, up to its end: each piece after a bar, and `!` for an I/O error.
 fn log_of<S: Source>(alloc: Global, source: &mut S, into: &mut [u8]) -> Result<Vec<u8>, AllocError>
     requires { 0 < length into.old }
 {
@@ -59,7 +59,7 @@ fn sources_in_memory(rt: HostRuntime) -> Result<(), Fail> {
     Ok(())
 }
 
-// A room, the greatest piece, the calls that fail, the bytes that came, and whether all did.
+// A room, the greatest piece, the calls that fail, the bytes that arrived, and whether all did.
 const SINKS: [(usize, usize, &[u64], &[u8], bool); 7] = [
     (20, 20, &[], b"hello world", true),
     (20, 3, &[], b"hello world", true),
@@ -151,7 +151,7 @@ const READERS: [(usize, u32, &[u8]); 4] = [
     (9, 2, b"|abc!."),
 ];
 
-// What a reader gives by the adapter.
+// What a reader gives through the adapter.
 fn log_of_reader(alloc: Global, most: usize, fail: u32) -> Result<Vec<u8>, AllocError> {
     let mut source = SourceRead::new(Fake::new(b"abc".to_vec(alloc)?, most, fail));
     log_of(alloc, &mut source, &mut [0; 8])
@@ -188,7 +188,7 @@ fn gather_all<K: Sink>(buffer: &mut SinkBuffer, sink: &mut K) -> Result<(), Sink
     buffer.flush(sink)
 }
 
-// The size of the buffer, how many bytes a call writes at most, the call that fails, the calls, and whether all went.
+// The size of the buffer, how many bytes a call writes at most, the call that fails, the calls, and whether all succeeded.
 const WRITERS: [(usize, usize, u32, &[u8], bool); 7] = [
     (100, 100, 0, b"|ok\n5\ncons\n", true),
     (10, 100, 0, b"|ok\n5\ncons\n", true),
@@ -209,7 +209,7 @@ fn writers_behind_a_buffer(rt: HostRuntime) -> Result<(), Fail> {
     Ok(())
 }
 
-// Replies, and how many there are: all, and those that are exhausted, of a wrong type, reclaimed and a fault.
+// Replies, and how many there are: all, and those of `exhausted`, `wrong-type`, `reclaimed` and `fault`.
 const TALLIES: [(&[u8], [u64; 5]); 5] = [
     (b"", [0, 0, 0, 0, 0]),
     (b"ok\n\nfault", [2, 0, 0, 0, 0]),
@@ -253,7 +253,7 @@ fn tallies(rt: HostRuntime) {
     }
 }
 
-// The digit of the number in a page's words, `n` for a page of no numbers, and `!` for a fault.
+// The digit of the number in a page's words, `n` for a page without numbers, and `!` for a swap error.
 fn page_of<D: Swap>(device: &mut D, page: u32) -> u8
     requires { 256 * page + 256 ≤ length (D.stored device.old) }
     ensures { D.stored device.new ≡ D.stored device.old }
@@ -269,7 +269,7 @@ fn page_of<D: Swap>(device: &mut D, page: u32) -> u8
     }
 }
 
-// A page of this number, or a fault.
+// Writes a page of this number: `w`, or `!` for a swap error.
 fn wrote<D: Swap>(device: &mut D, page: u32, number: i32) -> u8
     requires { 256 * page + 256 ≤ length (D.stored device.old) }
     ensures { length (D.stored device.new) ≡ length (D.stored device.old) }
@@ -291,7 +291,7 @@ const SWAPS: [(u32, &[u8]); 7] = [
     (6, b"w7w87"),
 ];
 
-// What becomes of five page calls, at pages 1 and 0.
+// The results of five page calls, at pages 1 and 0.
 fn log_of_swap<D: Swap>(device: &mut D) -> [u8; 5]
     requires { length (D.stored device.old) ≡ 512 }
 {

@@ -15,7 +15,7 @@ enum Event {
 
 use Event::{GiveBack, Take, Touch};
 
-// Lets an event happen, if it may.
+// Applies an event, if it is allowed.
 fn apply(pool: &mut FramePool, event: Event) -> bool
     requires { frames_of pool.old ≡ 3 }
     ensures { frames_of pool.new ≡ 3 }

@@ -1,7 +1,7 @@
-//! Tests of the crates that a memory is made of: words, lists by index, devices, memories, the pager and its tables, and what words
-//! say of objects.
+//! Tests of the crates that a memory is made of: words, lists by index, devices, memories, the pager and its tables, and how words
+//! represent objects.
 //!
-//! There is nothing to call. Each module has the tests of one crate, and is named as what that crate keeps.
+//! The crate has no public item. Each module has the tests of one crate, and is named after what that crate keeps.
 #![tactic(auto)]
 
 #[cfg(test)]

@@ -14,7 +14,7 @@ enum Call {
 
 use Call::{AppendAll, MoveBack, PushBack, Remove};
 
-// Makes a call on three lists of four nodes, if it may be made.
+// Makes a call on three lists of four nodes, if it is allowed.
 fn make(lists: &mut Lists, call: Call) -> bool
     requires nodes { lists.old.nodes ≡ 4 }
     requires lists { length lists.old.lists ≡ 3 }

@@ -49,7 +49,7 @@ fn store_and_drop<M: Memory, L: Ledger>(
     Ok(())
 }
 
-// Region 4, at addresses 16,384 to 20,479, is given level 1 of 2; the others stay at level 0.
+// Region 4, at addresses 16,384 to 20,479, is given level 1 of 2; the others remain at level 0.
 fn script<M: Memory, L: Ledger>(rt: &impl Abort, mem: &mut M, blank: Blank) -> Result<(), SwapFault>
     requires fresh { IsFresh (M.seen mem.old) 5 2 }
     requires name { blank.name ≡ L.name }

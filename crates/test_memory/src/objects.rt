@@ -13,7 +13,7 @@ use std::sync::ledger::{Blank, Ledger};
 use std::test::Fail;
 use store_word::{CdrCode, Steps, SwapFault, Word};
 
-// Objects of each shape, and a run with each end.
+// Objects of each shape, and a compact run with each end.
 fn example() -> [Word; 15]
     ensures { result ≡ example_words }
 {

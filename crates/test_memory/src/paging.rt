@@ -64,7 +64,7 @@ fn hold<M: Memory, L: Ledger>(
     Ok(())
 }
 
-// Up to 16 words are copied to the place that a number says, where both pages are held together.
+// Copies up to 16 words to the place that a number says, while both pages are held.
 fn copy<M: Memory, L: Ledger>(
     rt: &impl Abort,
     mem: &mut M,
@@ -83,7 +83,7 @@ fn copy<M: Memory, L: Ledger>(
     Ok(())
 }
 
-// Up to 64 addresses of one page get the word of a number, where the page is held.
+// Writes the word of a number to up to 64 addresses of one page, while the page is held.
 fn fill<M: Memory, L: Ledger>(
     rt: &impl Abort,
     mem: &mut M,
@@ -98,7 +98,7 @@ fn fill<M: Memory, L: Ledger>(
     Ok(())
 }
 
-// One call of each memory. A fault of the first leaves the second alone.
+// One call of each memory. If the first fails with a swap error, the second isn't called.
 fn apply<M: Memory, P: Memory, L: Ledger>(
     rt: &impl Abort,
     mem: &mut M,
@@ -140,7 +140,7 @@ fn apply<M: Memory, P: Memory, L: Ledger>(
     Ok(())
 }
 
-// Every word is the same; a page with an address of level 1 or more is marked in both, and no page is marked here that isn't there.
+// Every word is the same; a page with an address of level 1 or more is marked in both, and each page marked here is marked there.
 fn compare<M: Memory, P: Memory, L: Ledger>(
     rt: &impl Abort,
     mem: &mut M,
@@ -171,7 +171,7 @@ fn compare<M: Memory, P: Memory, L: Ledger>(
     Ok(())
 }
 
-// So many calls of both memories, and how many of them failed.
+// Makes this many calls of both memories, and returns how many of them failed.
 fn run<M: Memory, P: Memory, L: Ledger>(
     rt: &impl Abort,
     mem: &mut M,

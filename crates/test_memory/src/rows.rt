@@ -29,7 +29,7 @@ fn levels_of(page: u32, round: u32) -> Levels
     Levels::from_bits_retain(((page * 7 + round * 5) % 63 + 1) as u8)
 }
 
-// A row is the next from here on, with these levels.
+// Tests that a row is the next from here on, with these levels.
 fn compare_row(rt: &impl Abort, table: &RefTable, from: u32, page: u32, levels: Levels)
     requires sets { length table.now.sets ≡ 1024 }
     requires page { page < 1024 }
@@ -53,7 +53,7 @@ fn is_balanced(table: &RefTable) -> bool
     }
 }
 
-// Each row, and no other, is found in order.
+// Tests that each row, and no other, is found in order.
 fn compare(rt: &impl Abort, table: &RefTable, rows: &BTreeMap<u32, Levels>)
     requires { length table.now.sets ≡ 1024 }
 {
@@ -133,7 +133,7 @@ fn search(rt: &impl Abort, table: &RefTable, rows: &BTreeMap<u32, Levels>, order
     }
 }
 
-// The empty set is no row.
+// Tests that the empty set isn't a row.
 fn empty_all(rt: &impl Abort, table: &mut RefTable, order: u8)
     requires { length table.old.sets ≡ 1024 }
 {

@@ -1,4 +1,4 @@
-//! The tables. In their texts a semicolon stands for a line feed. Behind an equals sign stands how a run ends: its status, and what it wrote.
+//! The tables. In their texts a semicolon represents a line feed. After an equals sign is how a run ends: its status, and what it wrote.
 
 /// Inputs, and how they end.
 pub const SESSIONS: &str = "\
@@ -60,7 +60,7 @@ pub const FULL: &str =
 /// What the full run writes.
 pub const FULL_REPLIES: &str = "ok;ok;cons;ok;ok;nil;area work 9 9;";
 
-/// The fronts of either run that are shorter than a number, and not than the one before it, and how they end, as far as the two end alike.
+/// The prefixes of either run that are shorter than a number, and not than the one before it, and how they end, while both end alike.
 pub const SAME_FRONTS: &str = "\
 13 = 2 error line 1: not a world;
 15 = 2 error line 2: no end;
@@ -100,7 +100,7 @@ pub const SAME_FRONTS: &str = "\
 78 = 2 ok;error line 6: wrong count;
 79 = 2 ok;error line 6: bad line;";
 
-/// The longer fronts of the smallest run.
+/// The longer prefixes of the smallest run.
 pub const FRONTS: &str = "\
 80 = 2 ok;error line 6: wrong count;
 81 = 2 ok;error line 6: bad line;
@@ -114,7 +114,7 @@ pub const FRONTS: &str = "\
 93 = 2 ok;ok;5;error line 8: unknown command;
 95 = 0 ok;ok;5;";
 
-/// The longer fronts of the full run.
+/// The longer prefixes of the full run.
 pub const FULL_FRONTS: &str = "\
 80 = 2 ok;ok;error line 7: no end;
 81 = 2 ok;error line 6: bad line;
@@ -151,7 +151,7 @@ pub const FULL_FRONTS: &str = "\
 130 = 2 ok;ok;cons;ok;ok;nil;area work 9 9;error line 12: unknown command;
 132 = 0 ok;ok;cons;ok;ok;nil;area work 9 9;";
 
-/// The smallest run where a byte that no line has stands at a place below a number, and not below the one before it.
+/// The smallest run, if a byte that occurs in no line is at a place below a number, and not below the one before it.
 pub const BYTES: &str = "\
 14 = 2 error line 1: not a world;
 32 = 2 error line 2: bad line;
@@ -162,7 +162,7 @@ pub const BYTES: &str = "\
 90 = 2 ok;ok;error line 7: bad line;
 94 = 2 ok;ok;5;error line 8: bad line;";
 
-/// The smallest run where the call of a source fails that gives a byte a call. Call 0 is none.
+/// The smallest run, if this call of a source fails that gives a byte a call. Call 0 is none.
 pub const SOURCES: &str = "\
 1 = 0 ok;ok;5;
 67 = 3 error: read failed;
@@ -171,7 +171,7 @@ pub const SOURCES: &str = "\
 96 = 3 ok;ok;5;error: read failed;
 102 = 0 ok;ok;5;";
 
-/// So does the full run.
+/// The same for the full run.
 pub const FULL_SOURCES: &str = "\
 1 = 0 ok;ok;cons;ok;ok;nil;area work 9 9;
 67 = 3 error: read failed;
@@ -184,11 +184,11 @@ pub const FULL_SOURCES: &str = "\
 133 = 3 ok;ok;cons;ok;ok;nil;area work 9 9;error: read failed;
 139 = 0 ok;ok;cons;ok;ok;nil;area work 9 9;";
 
-/// The smallest run, and a byte behind it.
+/// The smallest run, and a byte after it.
 pub const BEHIND: &str =
     "lispm-world 1;space 16 32 8 1 2;area work dynamic 100;trace;set 0 5;cons 1 work 0 0;car 2 1;end;x";
 
-/// It where the call of the source fails. The byte behind `end` decides, before the call after it could fail.
+/// That run, if this call of the source fails. The byte after `end` decides, before the call after it could fail.
 pub const BEHIND_SOURCES: &str = "\
 1 = 2 ok;ok;5;error line 9: text after end;
 69 = 3 error: read failed;
@@ -201,7 +201,7 @@ pub const BEHIND_SOURCES: &str = "\
 pub const PAGED: &str =
     "lispm-world 1;space 16 32 8 1 2;area work dynamic 100;trace;set 0 5;cons 1 work 0 0;page-out 32;car 2 1;page-out 1;car 2 1;page-out 1;end;";
 
-/// It where the page call fails.
+/// That run, if this page call fails.
 pub const PAGED_SWAPS: &str = "\
 1 = 0 ok;ok;ok;5;ok;5;ok;
 2 = 0 ok;ok;fault;5;ok;5;ok;
@@ -215,14 +215,14 @@ pub const PAGED_SWAPS: &str = "\
 pub const DUMPED: &str =
     "lispm-world 1;space 16 32 8 1 2;area work dynamic 100;trace;set 0 5;cons 1 work 0 2;set 0 nil;page-out 32;dump;dump;end;";
 
-/// It where the page call fails: the write, the read of the first dump, and then the read of the second.
+/// That run, if this page call fails: the write, the read of the first dump, and then the read of the second.
 pub const DUMPED_SWAPS: &str = "\
 1 = 0 ok;ok;ok;ok;lispm-world 2;space 16 32 8 1 2;area work dynamic 100;capacity 0;cons work 5 nil;root 1 #0;end-world;lispm-world 2;space 16 32 8 1 2;area work dynamic 100;capacity 0;cons work 5 nil;root 1 #0;end-world;
 2 = 0 ok;ok;ok;fault;lispm-world 2;space 16 32 8 1 2;area work dynamic 100;capacity 0;cons work 5 nil;root 1 #0;end-world;lispm-world 2;space 16 32 8 1 2;area work dynamic 100;capacity 0;cons work 5 nil;root 1 #0;end-world;
 3 = 0 ok;ok;ok;ok;fault;lispm-world 2;space 16 32 8 1 2;area work dynamic 100;capacity 0;cons work 5 nil;root 1 #0;end-world;
 61 = 0 ok;ok;ok;ok;lispm-world 2;space 16 32 8 1 2;area work dynamic 100;capacity 0;cons work 5 nil;root 1 #0;end-world;lispm-world 2;space 16 32 8 1 2;area work dynamic 100;capacity 0;cons work 5 nil;root 1 #0;end-world;";
 
-/// The start of an input, a word with which it goes on, how often it does, its end, and how it ends.
+/// The start of an input, a word that is repeated after it, how often, the end, and how the run ends.
 pub const LONG: [(&str, &str, u32, &str, &str); 14] = [
     (
         "lispm-world 1;space 16 32 8 1 2;area work dynamic 5000;block work 0",

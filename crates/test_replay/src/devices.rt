@@ -1,4 +1,4 @@
-//! Devices that fail at each call, sinks with each room, inputs that are cut, and bytes that no line has.
+//! Devices that fail at each call, sinks with each room, inputs that are cut, and bytes that occur in no line.
 use super::cases::{
     BEHIND, BEHIND_SOURCES, BYTES, DUMPED, DUMPED_SWAPS, FRONTS, FULL, FULL_FRONTS, FULL_REPLIES,
     FULL_SOURCES, PAGED, PAGED_SWAPS, SAME_FRONTS, SMALLEST, SOURCES,
@@ -8,16 +8,16 @@ use std::alloc::Global;
 use std::process::Abort;
 use std::test::Fail;
 
-/// What a number changes of a run.
+/// What a number changes in a run.
 #[derive(Clone, Copy)]
 pub enum Change {
-    /// The input is cut off behind so many bytes.
+    /// The input is cut off after this many bytes.
     Front,
-    /// This byte stands at the place.
+    /// This byte is at this place.
     Byte(u8),
-    /// The call of the source fails, which gives a byte a call.
+    /// This call of the source fails, which gives a byte a call.
     Source,
-    /// The page call fails.
+    /// This page call fails.
     Swap,
 }
 
@@ -49,8 +49,8 @@ fn changed(
     compare(rt, alloc, &ended, want)
 }
 
-/// Compares the runs of all numbers from one on: those below the one that begins a row, and not below that of the row before it, end
-/// as it says.
+/// Compares the runs of all numbers from one on with the rows: the runs of the numbers below the one that begins a row, and not below that
+/// of the row before it, end as the row says.
 pub fn each(
     rt: &impl Abort,
     alloc: Global,
@@ -99,7 +99,7 @@ fn changes(rt: HostRuntime) -> Result<(), Fail> {
     Ok(())
 }
 
-/// Runs the full run over these devices, and compares the bytes that its sink kept, which are so many of what the run writes.
+/// Runs the full run over these devices, and compares the bytes that its sink kept: the first `kept` of those that the run writes.
 fn stops(rt: &impl Abort, alloc: Global, devices: &Devices, kept: usize) -> Result<(), Fail> {
     let mut want = bytes_of(alloc, FULL_REPLIES)?;
     want.truncate(kept);
@@ -108,8 +108,8 @@ fn stops(rt: &impl Abort, alloc: Global, devices: &Devices, kept: usize) -> Resu
     Ok(())
 }
 
-/// A sink has each room, each call of one fails that takes a byte a call from replies that are given one at a time, and each call of one
-/// that takes three bytes a call from all replies together.
+/// A sink with each room; each failing call of a sink that takes a byte a call, with replies that are given one at a time; and each of one
+/// that takes three bytes a call, with all replies together.
 #[test]
 fn sinks_stop(rt: HostRuntime) -> Result<(), Fail> {
     let alloc = rt.alloc();
@@ -138,7 +138,7 @@ fn sinks_stop(rt: HostRuntime) -> Result<(), Fail> {
     Ok(())
 }
 
-/// No more is taken than the line whose reply failed: the next byte is the first of the line behind it.
+/// No more is taken than the line whose reply failed: the next byte is the first of the line after it.
 #[test]
 fn takes_no_more(rt: HostRuntime) -> Result<(), Fail> {
     let devices = Devices {

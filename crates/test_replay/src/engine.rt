@@ -1,5 +1,5 @@
 //! Memory that runs out at a dump.
-ghost use Rattle.std.specs.Prelude.{◌≡◌, true};
+ghost use Rattle.std.specs.Prelude.{◌≡◌, is_some, true};
 ghost use Rattle.paged_machine.specs.Holding.{StandsFor, Takes};
 
 use super::run::bytes_of;
@@ -25,6 +25,8 @@ impl Engine for NoRoom {
 
     ghost is_idle = { λ e. e.machine.idle ≡ true };
 
+    ghost loaded = { λ e. is_some e.machine.heap };
+
     ghost faults = { λ e. e.machine.faults };
 
     fn open(&mut self, alloc: Global, world: &World) -> Result<(), LoadFault> {
@@ -41,6 +43,10 @@ impl Engine for NoRoom {
 
     fn dump(&mut self, _alloc: Global, _world: &World) -> Result<Text, DumpFault> {
         Err(DumpFault::NoMemory)
+    }
+
+    fn idle_has_no_world(&self) {
+        self.machine.idle_has_no_world();
     }
 }
 
@@ -76,7 +82,7 @@ fn ends(rt: &impl Abort, alloc: Global, input: &str, want: &str) -> Result<(), F
     Ok(())
 }
 
-/// Where memory runs out at a dump the run ends, behind the replies of the commands before it.
+/// If memory runs out at a dump the run ends, after the replies of the commands before it.
 #[test]
 fn no_room_for_a_dump(rt: HostRuntime) -> Result<(), Fail> {
     for (input, want) in ENDED {

@@ -1,7 +1,7 @@
-//! Tests of the top call: whole runs over devices in memory, whose calls fail as planned. Of what stands right below it, what
-//! `command_words` reads of command lines, and what `input_verdict` says of an input line by line.
+//! Tests of the top call: whole runs over devices in memory, whose calls fail as planned. Tests of the layer below it, too: how
+//! `command_words` reads command lines, and how `input_verdict` judges an input line by line.
 //!
-//! There is nothing to call. `run` has one run and what is compared of it, `cases` the tables of whole runs; each other module has
+//! The crate has no public item. `run` has one run and what is compared of it, `cases` the tables of whole runs; each other module has
 //! tests, some with a table of their own.
 #![tactic(auto)]
 

@@ -1,11 +1,11 @@
-//! Each page call fails in turn, and the command that answers `fault` is given again.
+//! Each page call fails in turn, and the command that replies `fault` is repeated.
 use super::devices::{Change, each};
 use super::run::{Devices, Ended, SOUND, bytes_of, long_text, run, same};
 use std::alloc::Global;
 use std::process::Abort;
 use std::test::Fail;
 
-/// A command, and what is written for it where no call fails.
+/// A command, and what is written for it if no call fails.
 #[derive(Drop)]
 struct Call {
     command: Vec<u8>,
@@ -25,7 +25,7 @@ fn calls_of(alloc: Global, text: &str) -> Result<Vec<Call>, Fail> {
     Ok(calls)
 }
 
-/// The input of a world and calls, of which the one with this number is given twice.
+/// The input of a world and calls; the one with this number occurs twice.
 fn input_of(alloc: Global, world: &[u8], calls: &[Call], twice: usize) -> Result<Vec<u8>, Fail> {
     let mut input = Vec::from_slice(alloc, world)?;
     for (number, call) in calls.iter().enumerate() {
@@ -38,7 +38,7 @@ fn input_of(alloc: Global, world: &[u8], calls: &[Call], twice: usize) -> Result
     Ok(input)
 }
 
-/// What is written for the calls where the one with this number answers `fault` first.
+/// What is written for the calls if the one with this number first replies `fault`.
 fn output_of(alloc: Global, calls: &[Call], fault: usize) -> Result<Vec<u8>, Fail> {
     let mut output = Vec::new(alloc);
     for (number, call) in calls.iter().enumerate() {
@@ -50,7 +50,7 @@ fn output_of(alloc: Global, calls: &[Call], fault: usize) -> Result<Vec<u8>, Fai
     Ok(output)
 }
 
-/// The number of the first call whose reply isn't the one that is wanted, or how many calls there are.
+/// The number of the first call whose reply isn't the expected one; if there is none, the number of calls.
 fn first_other(calls: &[Call], output: &[u8]) -> usize {
     let mut at = 0usize;
     for (number, call) in calls.iter().enumerate() {
@@ -63,7 +63,7 @@ fn first_other(calls: &[Call], output: &[u8]) -> usize {
     calls.len()
 }
 
-/// Runs a world and calls, of which the one with this number is given twice, while this page call fails.
+/// Runs a world and calls while this page call fails; the one with this number occurs twice.
 fn over(
     alloc: Global,
     world: &[u8],
@@ -75,8 +75,8 @@ fn over(
     run(alloc, "replay", &input, &Devices { swap_fail, ..SOUND })
 }
 
-/// A page call fails. The run goes on to its end; and where the command that answered `fault` is given again, all answer as they do
-/// where no call fails. The answer is whether a command answered so.
+/// A page call fails. The run goes on to its end; and if the command that replied `fault` is repeated, all reply as they do
+/// if no call fails. Returns whether a command replied so.
 fn given_again(
     rt: &impl Abort,
     alloc: Global,
@@ -98,7 +98,7 @@ fn given_again(
     Ok(fault < calls.len())
 }
 
-/// Does so for each of the first sixty page calls, and answers how often a command answered `fault`.
+/// Does so for each of the first sixty page calls, and returns how often a command replied `fault`.
 fn each_fails(rt: &impl Abort, alloc: Global, world: &str, text: &str) -> Result<u32, Fail> {
     let world = bytes_of(alloc, world)?;
     let calls = calls_of(alloc, text)?;
@@ -111,7 +111,7 @@ fn each_fails(rt: &impl Abort, alloc: Global, world: &str, text: &str) -> Result
     Ok(faults)
 }
 
-/// Sessions: a world, its calls, and how many page calls there are at least.
+/// Sessions: a world, its calls, and the least number of page calls.
 const SESSIONS: [(&str, &str, u32); 3] = [
     (
         "lispm-world 1;space 16 32 8 1 2;area perm static 100;area pool ephemeral 100;trace;",
@@ -182,13 +182,13 @@ fn faults_refuse_one_command(rt: HostRuntime) -> Result<(), Fail> {
     Ok(())
 }
 
-/// Blocks of 2,047 fields in five lines, each of which starts so.
+/// Blocks of 2,047 fields in five lines, each of which starts with `head`.
 fn blocks(alloc: Global, head: &str, end: &str) -> Result<String, Fail> {
     let line = long_text(alloc, "block work 0", " nil", 2_047, ";")?;
     long_text(alloc, head, &line, 5, end)
 }
 
-/// A world of forty pages is loaded into 32 frames. So at least eight pages go out, and each of these calls can fail.
+/// A world of forty pages is loaded into 32 frames. So at least eight pages are evicted, and each of these calls can fail.
 #[test]
 fn a_load_fails(rt: HostRuntime) -> Result<(), Fail> {
     let head = "lispm-world 1;space 16 32 8 1 2;area work dynamic 12000;";
@@ -196,12 +196,12 @@ fn a_load_fails(rt: HostRuntime) -> Result<(), Fail> {
     each(&rt, rt.alloc(), Change::Swap, &input, 0, LOADS)
 }
 
-/// That load where the page call fails.
+/// That load, if this page call fails.
 const LOADS: &str = "\
 1 = 0 area work 10240 12000;
 9 = 6 error: swap failed;";
 
-/// Five blocks on forty pages are made and dumped over 32 frames. So at least eighty page calls follow one another, each of which fails.
+/// Five blocks on forty pages are made and dumped over 32 frames. So there are at least eighty page calls, and each of them fails in turn.
 #[test]
 fn a_large_dump_fails(rt: HostRuntime) -> Result<(), Fail> {
     let head = "dump; = lispm-world 2;space 16 32 8 1 2;area work dynamic 12000;capacity 0;";

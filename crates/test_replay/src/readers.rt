@@ -1,4 +1,4 @@
-//! What command lines ask for, and what the lines of an input bring about.
+//! The modes that command lines request, and what the lines of an input cause.
 ghost use Rattle.std.specs.Prelude.{◌<◌, OnOk};
 ghost use Rattle.input_verdict.specs.Places.{IsPlace};
 
@@ -11,7 +11,7 @@ use std::alloc::Global;
 use std::process::Abort;
 use std::test::Fail;
 
-/// Each command line with single spaces between its words, and the mode that it asks for.
+/// Each command line with single spaces between its arguments, and the mode that it requests.
 const LINES: &str = "replay: Some(Replay)
 print: Some(OfFile(Print))
 compile: Some(OfFile(Compile))
@@ -84,7 +84,7 @@ why --object 1 --count 1: None
 --number 1 --count 1: None
 Exercise --number 1 --count 1: None";
 
-/// Compares what the words of a case ask for, which stands behind its colon.
+/// Compares the mode that the arguments of a case request with the one after its colon.
 fn asks(rt: &impl Abort, alloc: Global, case: &str) -> Result<(), Fail> {
     let (line, want) = case.split_once(": ").ok_or("no outcome")?;
     let words = words_of(alloc, line)?;
@@ -102,7 +102,7 @@ fn each_line_asks_for_its_mode(rt: HostRuntime) -> Result<(), Fail> {
     Ok(())
 }
 
-/// The letter of what a line brings about that ends in a line feed: `.` for nothing, `o` where the trace opens, `d` for a command.
+/// The letter of what a line causes that ends in a line feed: `.` for nothing, `o` if the trace begins, `d` for a command.
 fn letter(place: &mut JudgedInput, line: &[u8]) -> Result<char, Fail>
     requires { IsPlace place.old }
     ensures { OnOk result (IsPlace place.new) }

@@ -36,7 +36,7 @@ pub struct Ended {
     pub sink: SinkBytes,
 }
 
-/// The words of a line; an empty line has none.
+/// The arguments in a line; an empty line has none.
 pub fn words_of(alloc: Global, line: &str) -> Result<Vec<String>, Fail> {
     let mut words = Vec::new(alloc);
     if !line.is_empty() {
@@ -47,7 +47,7 @@ pub fn words_of(alloc: Global, line: &str) -> Result<Vec<String>, Fail> {
     Ok(words)
 }
 
-/// The bytes of a text in which semicolons stand for line feeds.
+/// The bytes of a text in which semicolons represent line feeds.
 pub fn bytes_of(alloc: Global, text: &str) -> Result<Vec<u8>, Fail> {
     let mut bytes = Vec::from_slice(alloc, text.as_bytes())?;
     for byte in bytes.iter_mut() {
@@ -72,7 +72,7 @@ fn sink(alloc: Global, devices: &Devices) -> Result<SinkBytes, Fail> {
     Ok(SinkBytes::new(alloc, devices.room, piece, fails)?)
 }
 
-/// Runs the program with the words of a line over an input.
+/// Runs the program with the arguments in a line over an input.
 pub fn run(alloc: Global, line: &str, input: &[u8], devices: &Devices) -> Result<Ended, Fail> {
     let words = words_of(alloc, line)?;
     let mut source = source(alloc, input, devices)?;
@@ -117,7 +117,7 @@ pub fn replay(
     compare(rt, alloc, &ended, want)
 }
 
-/// The next byte of a source, where it gives one.
+/// The next byte of a source, if it gives one.
 fn next_byte(source: &mut SourceBytes) -> Option<u8> {
     let mut byte = [0u8; 1];
     match source.take(&mut byte) {
@@ -126,7 +126,7 @@ fn next_byte(source: &mut SourceBytes) -> Option<u8> {
     }
 }
 
-/// A text that goes on with one word so often, and then ends.
+/// A text in which one word is repeated this often, followed by an end.
 pub fn long_text(
     alloc: Global,
     head: &str,

@@ -4,7 +4,7 @@ use std::alloc::Global;
 use std::process::Abort;
 use std::test::Fail;
 
-/// Command lines with single spaces between their words, all of which are refused; the first has no words.
+/// Command lines with single spaces between their arguments, all of which are refused; the first has no arguments.
 const REFUSED: &str = "
 --
 replay replay
@@ -72,7 +72,7 @@ why --object 4 = lispm-world 2;space 16 32 8 1 2;area work dynamic 100;capacity 
 census = lispm-world 2;space 16 32 8 1 2;area work dynamic 100;capacity 0;cons work 1 #1;cons work 2 #2;cons work 3 nil;cons work 4 nil;root 0 #0;root 1 #1;end-world; = 0 work cons 3 6 1 2;end-census;
 census = lispm-world 2;space 16 32 8 1 2;area work dynamic 100;capacity 0;run work 1 2 3;block work 9 #0 nil;root 0 #3;root 1 #1;end-world; = 0 work cons 3 9 0 0;work block 9 1 3 0 0;end-census;";
 
-/// Only a run of commands leaves the machine open. Refused words and an exercise take no byte.
+/// Only a run of commands leaves the machine open. An exercise reads no byte, and neither does a refused command line.
 fn answered(
     rt: &impl Abort,
     alloc: Global,

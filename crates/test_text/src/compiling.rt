@@ -31,7 +31,7 @@ fn run(
     Ok(())
 }
 
-/// What stands behind the header of a text, and the objects and roots of the dump of its world, which may exceed the quotas.
+/// What follows the header of a text, and the objects and roots of the dump of its world, which may exceed the quotas.
 const DUMPS: [(&str, &str); 4] = [
     ("end-sexpr", ""),
     ("root 0 nil\nend-sexpr\n\n  \n", ""),
@@ -72,7 +72,7 @@ fn faults(rt: HostRuntime) -> Result<(), Fail> {
     Ok(())
 }
 
-/// What stands behind the header of a text that is refused, and the error line.
+/// What follows the header of a text that is refused, and the error line.
 const REFUSALS: [(&str, &str); 11] = [
     ("", "error line 5: no end\n"),
     ("root 0 work(1", "error line 6: no end\n"),

@@ -1,4 +1,4 @@
-//! Worlds as text, and what is told of them.
+//! Worlds as text, and the reports on them.
 ghost use Rattle.std.specs.Prelude.{◌<◌, ◌^◌, IfOk, length};
 ghost use Rattle.world_text.specs.Limits.{IsAccepted};
 
@@ -182,7 +182,7 @@ fn chain(alloc: Global, hops: &[Hop]) -> Result<Held, Fail> {
     Ok(Held::Path(chain))
 }
 
-/// Whether this is an answer why the object with the number 2 is held.
+/// Whether `check_why` accepts this answer for the object with the number 2.
 fn is_answer(alloc: Global, world: &World, held: Held) -> Result<bool, Fail>
     requires accepted { IsAccepted world.now }
     requires few { length world.now.objects < 2 ^ 32 }
@@ -192,7 +192,7 @@ fn is_answer(alloc: Global, world: &World, held: Held) -> Result<bool, Fail>
     Ok(check_why(world, 2, &Why { held, depths }))
 }
 
-/// Compares answers that are right and wrong.
+/// Compares the verdicts on right and wrong answers.
 fn compare_answers(rt: &impl Abort, alloc: Global, world: &World) -> Result<(), Fail>
     requires accepted { IsAccepted world.now }
     requires few { length world.now.objects < 2 ^ 32 }

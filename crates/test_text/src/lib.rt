@@ -1,6 +1,6 @@
 //! Tests of the crates that read and write texts: worlds, traces, S-expressions, and why an object is held.
 //!
-//! There is nothing to call. `files` makes a world of the lines of its file, and `same` compares texts; each other module has the tests of one crate.
+//! The crate has no public item. `files` makes a world from the lines of its file, `same` compares texts; each other module tests one crate.
 #![tactic(auto)]
 
 #[cfg(test)]

@@ -12,7 +12,7 @@ use std::test::Fail;
 const HEADER: &str =
     "space 32 32 8 1 2\narea work dynamic 9000\narea pool dynamic 100\ncapacity 0\n";
 
-/// The world of these lines behind the header.
+/// The world of these lines after the header.
 fn world(alloc: Global, lines: &str) -> Result<World, Fail>
     ensures { IfOk result IsAccepted }
 {

@@ -1,4 +1,4 @@
-//! Texts, and the worlds that they say or why they say none.
+//! Texts, and the worlds that they mean or why they mean none.
 use lisp_graph::{Body, Object, Value, World};
 use sexpr_text::{SexprFault, SexprReason, compile_sexpr};
 use std::alloc::Global;
@@ -40,7 +40,7 @@ fn conses_are_read(rt: HostRuntime) -> Result<(), Fail> {
     Ok(())
 }
 
-/// What stands behind the header, and the line and the reason of the refusal.
+/// What follows the header, and the line and the reason of the refusal.
 const REFUSED: [(&str, u64, SexprReason); 18] = [
     ("", 5, SexprReason::NoEnd),
     ("root 0 wor", 5, SexprReason::BadToken),

@@ -1,4 +1,4 @@
-//! Lines, replies and the made input by tables.
+//! Lines, replies and the generated input by tables.
 mod cases;
 
 ghost use Rattle.std.specs.Prelude.{◌<◌, length, IfOk};
@@ -29,7 +29,7 @@ fn world(alloc: Global) -> Result<World, Fail>
     Err(Fail::from("not closed"))
 }
 
-/// What becomes of a line, as the table writes it.
+/// The outcome of a line, as the table writes it.
 fn outcome(
     alloc: Global,
     answer: Result<LineKind, Reason>,
@@ -69,7 +69,7 @@ fn each_line_says_its_command(rt: HostRuntime) -> Result<(), Fail> {
     compare_lines(&rt, rt.alloc(), &world(rt.alloc())?)
 }
 
-/// The letter of what becomes of a line.
+/// The letter of the outcome of a line.
 fn letter(answer: Result<LineKind, Reason>) -> char {
     match answer {
         Ok(_) => '.',
@@ -86,7 +86,7 @@ fn letter(answer: Result<LineKind, Reason>) -> char {
     }
 }
 
-/// What becomes of each prefix of a line.
+/// The outcome of each prefix of a line.
 fn fronts_of(alloc: Global, world: &World, line: &str) -> Result<String, Fail>
     requires { IsAccepted world.now }
 {
@@ -121,7 +121,7 @@ fn each_front_of_a_line_is_judged(rt: HostRuntime) -> Result<(), Fail> {
     compare_fronts(&rt, rt.alloc(), &world(rt.alloc())?)
 }
 
-/// The start of a line, a word with which it goes on, how often it does, and the letter of what becomes of it.
+/// The start of a line, a word that is repeated after it, how often, and the letter of the outcome.
 const LONG: [(&str, &str, u32, char); 4] = [
     ("list 0 work", " 1", 1_024, '.'),
     ("list x y", " z", 1_025, 'i'),
@@ -129,7 +129,7 @@ const LONG: [(&str, &str, u32, char); 4] = [
     ("scavenge ", "9", 32_760, 'n'),
 ];
 
-/// A line that goes on with one word so often.
+/// A line in which one word is repeated this often.
 fn long_line(alloc: Global, head: &str, word: &str, count: u32) -> Result<String, Fail> {
     let mut line = String::from_str(alloc, head)?;
     for _ in 0..count {
@@ -206,7 +206,7 @@ fn each_reply_has_its_line(rt: HostRuntime) -> Result<(), Fail> {
     compare_replies(&rt, &world(rt.alloc())?)
 }
 
-/// The bytes of a made input, and a number that tells them from others.
+/// The bytes of a generated input: how many they are, and a hash of them.
 fn made(number: u32, count: u32) -> Result<(u64, u64), Fail> {
     let mut maker = Maker::new(number, count);
     let mut piece = [0; 7];
@@ -225,7 +225,7 @@ fn made(number: u32, count: u32) -> Result<(u64, u64), Fail> {
     Err(Fail::from("too long"))
 }
 
-/// The number of an input, how many commands it has, and what is told of its bytes.
+/// The number of a generated input, how many commands it has, and the length and hash of its bytes.
 const MADE: [(u32, u32, u64, u64); 3] = [
     (1, 0, 121, 4_472_940_917_261_663_128),
     (1, 20, 393, 13_966_482_480_648_815_182),

@@ -12,7 +12,7 @@ use std::process::Abort;
 use std::test::Fail;
 use world_text::{DumpFault, Reason, WorldBuilder, WorldFault, WorldStep, dump_text};
 
-/// The lines that stand for this piece.
+/// The lines that this abbreviation represents.
 fn lines_of(piece: &str) -> &str {
     match piece {
         "1" => FIRST,
@@ -22,7 +22,7 @@ fn lines_of(piece: &str) -> &str {
     }
 }
 
-/// Takes lines up to the first that is refused, and answers its number and why.
+/// Takes lines up to the first that is refused, and returns its number and why.
 fn take_lines(builder: &mut WorldBuilder, text: &str) -> Option<(u32, WorldFault)> {
     let mut number = 0u32;
     for piece in text.split(';') {
@@ -36,7 +36,7 @@ fn take_lines(builder: &mut WorldBuilder, text: &str) -> Option<(u32, WorldFault
     None
 }
 
-/// What becomes of these lines, as the tables write it.
+/// The outcome of these lines, as the tables write it.
 fn outcome(alloc: Global, builder: &mut WorldBuilder, text: &str) -> Result<String, Fail> {
     match take_lines(builder, text) {
         Some((number, fault)) => Ok(format!(in alloc; "{number} {fault:?}")?),
@@ -44,7 +44,7 @@ fn outcome(alloc: Global, builder: &mut WorldBuilder, text: &str) -> Result<Stri
     }
 }
 
-/// Compares what becomes of the lines of a case, on either side of an equals sign.
+/// Compares the outcome of the lines of a case, on either side of an equals sign.
 fn compare_case(
     rt: &impl Abort,
     alloc: Global,
@@ -82,7 +82,7 @@ fn files_have_reasons_too(rt: HostRuntime) -> Result<(), Fail> {
     Ok(())
 }
 
-/// The letter of what becomes of a line.
+/// The letter of the outcome of a line.
 fn letter(answer: Result<WorldStep, WorldFault>) -> char {
     match answer {
         Ok(_) => '.',
@@ -101,7 +101,7 @@ fn letter(answer: Result<WorldStep, WorldFault>) -> char {
     }
 }
 
-/// What becomes of a prefix of a line behind these lines.
+/// The outcome of a prefix of a line after these lines.
 fn front_letter(alloc: Global, before: &[&str], front: &[u8]) -> char {
     let mut builder = WorldBuilder::new(alloc);
     for earlier in before {
@@ -112,7 +112,7 @@ fn front_letter(alloc: Global, before: &[&str], front: &[u8]) -> char {
     letter(builder.line(front))
 }
 
-/// What becomes of each prefix of a line behind these lines.
+/// The outcome of each prefix of a line after these lines.
 fn fronts_of(alloc: Global, before: &[&str], line: &str) -> Result<String, Fail> {
     let mut letters = String::new(alloc);
     for length in 1..line.len() + 1 {
@@ -140,7 +140,7 @@ fn each_front_of_a_line_is_judged(rt: HostRuntime) -> Result<(), Fail> {
     Ok(())
 }
 
-/// The start of a line, a word with which it goes on, how often it does, and what becomes of it behind the lines before the objects.
+/// The start of a line, a word that is repeated after it, how often, and the outcome after the lines that precede the objects.
 const LONG: [(&str, &str, u32, &str); 8] = [
     (
         "block work 0",
@@ -162,7 +162,7 @@ const LONG: [(&str, &str, u32, &str); 8] = [
     ("", " ", 32_769, "5 Bad(BadLine)"),
 ];
 
-/// A world whose last line goes on with one word so often.
+/// A world in whose last line one word is repeated this often.
 fn long_text(alloc: Global, head: &str, word: &str, count: u32) -> Result<String, Fail> {
     let mut text = format!(in alloc; "2;{head}")?;
     for _ in 0..count {

@@ -1,4 +1,4 @@
--- What says a line is accepted.
+-- A spelling of a line is accepted.
 use Rattle.std.proofs.Common.{◌≡◌, ℕ, suc, ◌+◌, ◌-◌, ◌<◌, ◌≤◌, ◌^◌, List, [], ◌∷◌, length, map, true, false, Result, Ok, decimal, codes, refl, ap, ◌∙◌, arith}
 use Rattle.std.specs.Prelude.{nat_lt}
 use Rattle.std.specs.List.{All, list_all}
@@ -30,7 +30,7 @@ use Rattle.trace_text.proofs.Sayings.{plain_spell}
 
 -- A line of words that are read
 
--- a first word that isn't the last line
+-- a first word other than `end`
 command_read : (space : Space) (areas : List AreaRule) (head : List ℕ) (words : List (List ℕ)) (command : Command) → is_word head ≡ true → line_in space areas head (length words + 1) words ≡ Ok (Run command) → list_all is_word words ≡ true
     → trace_line space areas (line_of (head ∷ words)) ≡ Ok (Run command)
 command_read space areas head words command first read good =
@@ -74,7 +74,7 @@ pair_good space first second small one two = rw (register_good space first small
 
 -- Commands
 
--- a line of these words says the command
+-- a line of these words means the command
 abbrev pub Accepts : Space → List AreaRule → List (List ℕ) → Command → Type 0
 Accepts space areas words command = trace_line space areas (line_of words) ≡ Ok (Run command)
 

@@ -16,7 +16,7 @@ use Rattle.trace_text.specs.declared.read.LineKind.TheVariants as kinds
 use Rattle.trace_text.specs.Commands.{said_by}
 use Rattle.trace_text.specs.Spelled.{AreAscending, NamesLevels, SayCommand, SaysLine, SpellsCondemn, set_with}
 
--- a level of the set stays in it
+-- a level of the set remains in it
 stays : (set : ℕ) (levels : List ℕ) (level : ℕ) → HasLevel set level → HasLevel (set_with set levels) level
 stays set [] level has = has
 stays set (next ∷ levels) level has = stays (bit_or set (2 ^ (next - 1))) levels level ((has_either set (2 ^ (next - 1)) level).1 (inl has))
@@ -54,7 +54,7 @@ said_levels : (space : Space) (areas : List AreaRule) (words : List (List ℕ)) 
 said_levels space areas words (commands.Flip what) say = condemned space.levels what say.is.0 say.is.2
 said_levels space areas words _ say = tt
 
--- what a line says names levels of the world
+-- what a line means names levels of the world
 pub line_levels : (space : Space) (areas : List AreaRule) (text : List ℕ) (result : Result LineKind Reason) (command : Command) → IfOk result (λ kind. SaysLine space areas text (said_by kind command))
     → IfOk result (λ kind. NamesLevels space.levels (said_by kind command))
 line_levels space areas text (Ok kinds.Command) command says = said_levels space areas says.0 command says.2

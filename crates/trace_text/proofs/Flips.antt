@@ -25,7 +25,7 @@ pub record ReadsLevels (top last set : ℕ) (pieces : List (List ℕ)) (all : �
   pub ascend : AreAscending top last levels
   pub set_is : all ≡ set_with set levels
 
--- a word has one piece and more
+-- a word has at least one piece
 split_some : (word : List ℕ) → 1 ≤ length (slice_split is_comma word)
 split_some word = omega (arith, length-slice_split is_comma word)
 
@@ -77,7 +77,7 @@ level_plain level up =
 
 -- Levels with commas between them
 
--- they are cut again
+-- they are cut into the same levels
 levels_cut : (top last level : ℕ) (levels : List ℕ) → top ≤ 6 → AreAscending top last (level ∷ levels) → slice_split is_comma (join_with_byte 44 (map decimal (level ∷ levels))) ≡ map decimal (level ∷ levels)
 levels_cut top last level [] small ascend = slice_split_none is_comma (decimal level) (level_plain level (omega (arith, ascend.1))).whole
 levels_cut top last level (next ∷ levels) small ascend =

@@ -37,7 +37,7 @@ none_is false place is = refl
 pub pieces_last : (word : List ℕ) → position is_comma word ≡ None → slice_split is_comma word ≡ word ∷ []
 pieces_last word is = one_piece word (none_is (nat_lt (position_or_len is_comma word) (length word)) (position_or_len is_comma word) is)
 
--- the edges of the loop over the levels
+-- the first and the last step of the loop over the levels
 
 levels_more : (top last set level : ℕ) (piece : List ℕ) (pieces : List (List ℕ)) → Some level ≡ number_in (last + 1) top piece
     → levels_from top last set (piece ∷ pieces) ≡ levels_from top level (bit_or set (2 ^ (level - 1))) pieces

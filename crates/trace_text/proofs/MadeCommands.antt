@@ -1,4 +1,4 @@
--- Each made line says a command of the made world.
+-- Each generated line means a command of the generated world.
 use Rattle.std.proofs.Common.{◌≡◌, ℕ, zero, suc, ◌-◌, ◌/◌, ◌%◌, ◌^◌, ◌<◌, ◌≤◌, List, [], ◌∷◌, ◌++◌, length, Bool, true, false, Ok, Some, decimal, codes, refl, ap, ap₂, append_assoc, append-nil, length-append, arith, pos}
 use Rattle.std.specs.Prelude.{◌==◌, nat_le, if◌then◌else◌}
 use Rattle.std.proofs.lemmas.Fmt.{length-decimal-le}
@@ -37,7 +37,7 @@ made_named = record { names = names; found = found }
     found (suc (suc zero)) within = refl
     found (suc (suc (suc area))) within = absurd (omega arith)
 
--- a text says a command, and is short
+-- a text means a command, and is short
 pub record IsMadeLine (text : List ℕ) : Type 0 where
   pub command : Command
   pub said : trace_line made_space made_areas text ≡ Ok (Run command)
@@ -130,7 +130,7 @@ module _ (r s t : ℕ) (first : r < 16) (second : s < 16) (third : t < 16) where
 
 -- Lines that are set
 
--- what a word of digits says is written so
+-- a word of digits is the spelling of its number
 written : (word : List ℕ) (n : ℕ) → number_in 0 (2 ^ 32 - 1) word ≡ Some n → word ≡ decimal n
 written word n is = (number_only 0 (2 ^ 32 - 1) n word (omega arith) is).0
 

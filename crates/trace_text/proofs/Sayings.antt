@@ -1,4 +1,4 @@
--- What accepted lines say.
+-- What accepted lines mean.
 use Rattle.std.proofs.Common.{◌≡◌, ℕ, ◌+◌, ◌-◌, ◌<◌, ◌≤◌, ◌⊎◌, ◌^◌, List, [], ◌∷◌, length, Bool, true, false, Result, Ok, Err, decimal, codes, inl, inr, refl, ap, sym, ◌∙◌, subst, arith}
 use Rattle.std.specs.Prelude.{◌==◌, if◌then◌else◌, bytes_eq, drop, nat_lt, IfOk}
 use Rattle.std.proofs.lemmas.Bool.Decides.{nat_tests}
@@ -33,7 +33,7 @@ either_ok : {A E : Type 0} (b : Bool) (one other : Result A E) (x : A) → (if b
 either_ok true one other x is = inl (refl, is)
 either_ok false one other x is = inr (refl, is)
 
--- a value that is no reference
+-- a value that isn't a reference
 not_reference : (value : Value) → is_reference value ≡ false → IsPlain value
 not_reference (Fix number) is = tt
 not_reference Nil is = tt
@@ -57,19 +57,19 @@ plain_spell = record {
   words = λ value fits. values_spell.words value fits.1;
 }
 
--- What the words behind the first say
+-- What the words after the first mean
 
 abbrev Says : Space → List AreaRule → List ℕ → List (List ℕ) → Command → Type 0
 Says space areas head words command = SayCommand space areas (head ∷ words) command
 
--- a register, and the words behind it
+-- a register, and the words after it
 abbrev takes_register : {B : Type 0} → Space → List (List ℕ) → (ℕ × List (List ℕ) → Result B Reason) → B → Type 0
 takes_register space words goal y = Took (λ n. n < space.registers) decimal words goal y
 
 register_of : {B : Type 0} (space : Space) (words : List (List ℕ)) (goal : ℕ × List (List ℕ) → Result B Reason) (y : B) → space.registers ≤ 256 → (next (a_register space.registers) words >>= goal) ≡ Ok y → takes_register space words goal y
 register_of space words goal y small is = take_only (a_register space.registers) (λ n. n < space.registers) decimal words goal y (registers_spell space.registers (omega arith)) is
 
--- a number of 32 bits, and the words behind it
+-- a number of 32 bits, and the words after it
 abbrev takes_number : {B : Type 0} → List (List ℕ) → (ℕ × List (List ℕ) → Result B Reason) → B → Type 0
 takes_number words goal y = Took (λ n. (0 ≤ n) × (n ≤ 2 ^ 32 - 1)) decimal words goal y
 
@@ -162,7 +162,7 @@ grow_only space areas count words command small counted is =
     let e : commands.Grow a.what b.what ≡ command = let f = b.goes in cc (f) in
     subst (Says space areas (codes "grow") words) e (record { registers = a.fits; areas_in = tt; limits = b.fits.1; numbers = tt; is = ap (λ ws. codes "grow" ∷ ws) (also a.is (also b.is none)) })
 
--- three words behind the first, and no more
+-- three words after the first, and no more
 three_words : {words first second third : List (List ℕ)} {one two three : List ℕ} (count : ℕ) → count ≡ length words + 1 → (count == 4) ≡ true → words ≡ one ∷ first → first ≡ two ∷ second → second ≡ three ∷ third → words ≡ one ∷ two ∷ three ∷ []
 three_words {third = third} count counted four a b c = also a (also b (also c (no_words third (omega (arith, eq_number count 4 four, ap length a, ap length b, ap length c)))))
 
@@ -270,7 +270,7 @@ pair_only space count words pair small counted is =
 with_head : (space : Space) (areas : List AreaRule) (head name : List ℕ) (words : List (List ℕ)) (command : Command) → bytes_eq head name ≡ true → Says space areas name words command → Says space areas head words command
 with_head space areas head name words command same says = subst (λ (word : List ℕ). SayCommand space areas (word ∷ words) command) (sym (same_bytes head name same)) says
 
--- a command of two registers says what they are
+-- a command of two registers means its kind and these registers
 pair_says : (space : Space) (areas : List AreaRule) (head name : List ℕ) (count : ℕ) (words : List (List ℕ)) (make : ℕ → ℕ → Command) (command : Command) → space.registers ≤ 256 → count ≡ length words + 1
     → bytes_eq head name ≡ true → (pair_in space.registers count words >>= (λ pair. Ok (make pair.0 pair.1))) ≡ Ok command
     → ((pair : ℕ × ℕ) → SaysPair space words pair → Says space areas name words (make pair.0 pair.1)) → Says space areas head words command
@@ -308,7 +308,7 @@ pair_command_only space areas head count words command small counted is =
       ]
     ]
 
--- a command of one word says itself
+-- a command of one word means the command of that name
 word_says : (space : Space) (areas : List AreaRule) (head name : List ℕ) (words : List (List ℕ)) (count : ℕ) (said command : Command) → count ≡ length words + 1 → bytes_eq head name ≡ true → alone count said ≡ Ok command
     → SayCommand space areas (name ∷ []) said → Says space areas head words command
 word_says space areas head name words count said command counted same is says =
@@ -372,7 +372,7 @@ command_only space areas head count words command limits named counted is =
 
 -- Lines
 
--- words in a row that say a line
+-- words in a row that mean a line
 row_only : (space : Space) (areas : List AreaRule) (text : List ℕ) (words : List (List ℕ)) (said : TraceLine) → InLimits space areas → AreNamed areas → text ≡ line_of words → words_of text ≡ words → is_well_formed text ≡ true
     → line_in space areas (first_word words) (length words) (drop 1 words) ≡ Ok said → SaysLine space areas text said
 unfolding line_in is_well_formed words_of
@@ -396,7 +396,7 @@ line_only space areas text said limits named is =
     let g = guard_ok (is_well_formed text) _ BadLine said is in
     row_only space areas text (words_of text) said limits named (formed_row text g.0).0 refl g.0 g.1
 
--- what a call that gives it says
+-- the meaning of the line that a call returns
 pub given_line : (space : Space) (areas : List AreaRule) (text : List ℕ) (result : Result LineKind Reason) (command : Command) → InLimits space areas → Gives (λ kind. said_by kind command) result (trace_line space areas text) → AreNamed areas
     → IfOk result (λ kind. SaysLine space areas text (said_by kind command))
 given_line space areas text (Ok kind) command limits gives named = line_only space areas text (said_by kind command) limits named gives

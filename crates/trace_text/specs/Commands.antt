@@ -1,4 +1,4 @@
--- What a line of a trace says, or why it is refused. The first test that fails gives the reason.
+-- What a line of a trace means, or why it is refused. The first test that fails gives the reason.
 use Rattle.std.specs.Prelude.{ℕ, ◌+◌, ◌-◌, ◌^◌, ◌≤◌, List, [], ◌∷◌, length, drop, Bool, true, false, ◌==◌, nat_lt, if◌then◌else◌, bytes_eq, codes, bit_or, Option, Some, None, Result, Ok, Err}
 use Rattle.std.specs.List.{slice_split}
 use Rattle.std.specs.Option.{option_and_then}
@@ -39,13 +39,13 @@ a_plain_value word = do
 abbrev pub is_comma : ℕ → Bool
 is_comma byte = byte == 44
 
--- the set of these levels beside a set: each is a number above the one before it, and at most the top
+-- a set with these levels added: each is a number above the one before it, and at most the top
 unfoldable pub levels_from : ℕ → ℕ → ℕ → List (List ℕ) → Option ℕ
 levels_from top last set [] = Some set
 levels_from top last set (piece ∷ pieces) =
     option_and_then (λ level. levels_from top level (bit_or set (2 ^ (level - 1))) pieces) (number_in (last + 1) top piece)
 
--- the levels of this set are chosen, where there is one
+-- the levels of this set are condemned, if there is one
 abbrev pub chosen : Option ℕ → Result Condemn Reason
 chosen None = Err BadLevels
 chosen (Some set) = Ok (Chosen (record { 0 = set }))
@@ -54,7 +54,7 @@ chosen (Some set) = Ok (Chosen (record { 0 = set }))
 unfoldable pub a_condemn : ℕ → List ℕ → Result Condemn Reason
 a_condemn top word = if bytes_eq word (codes "full") then Ok Full else chosen (levels_from top 0 0 (slice_split is_comma word))
 
--- Each command has `count` words, and `words` behind its first one.
+-- Each command has `count` words, and `words` after its first one.
 
 -- a command that is one word
 abbrev pub alone : ℕ → Command → Result Command Reason
@@ -226,7 +226,7 @@ pub data TraceLine : Type 0 where
   Run : Command → TraceLine
   End : TraceLine
 
--- what is said by a line of this kind, where a command is this one
+-- what a line of this kind means, if its command is this one
 abbrev pub said_by : LineKind → Command → TraceLine
 said_by kinds.Command command = Run command
 said_by kinds.End command = End
@@ -239,7 +239,7 @@ line_in space areas head count words =
       command ← command_in space areas head count words
       Ok (Run command))
 
--- What a line of a trace says, in a world with this space and these areas.
+-- What a line of a trace means, in a world with this space and these areas.
 abbrev pub trace_line : Space → List AreaRule → List ℕ → Result TraceLine Reason
 trace_line space areas text =
     if is_well_formed text then line_in space areas (first_word (words_of text)) (length (words_of text)) (drop 1 (words_of text))

@@ -29,7 +29,7 @@ pub record SaysCons (space : Space) (areas : List AreaRule) (line : List ℕ) (t
   pub cdr_in : cdr < space.registers
   pub is : last ≡ 32 ∷ decimal car ++ 32 ∷ decimal cdr
 
--- a line is `list` with this register, with the name of this area, and this text behind it, which isn't empty
+-- a line is `list` with this register and the name of this area, followed by this text, which isn't empty
 pub record BeginsList (space : Space) (areas : List AreaRule) (line : List ℕ) (to area : ℕ) (items : List ℕ) : Type 0 where
   pub named : List ℕ
   pub head : line ≡ codes "list " ++ decimal to ++ 32 ∷ named
@@ -37,7 +37,7 @@ pub record BeginsList (space : Space) (areas : List AreaRule) (line : List ℕ) 
   pub to_in : to < space.registers
   pub some : 1 ≤ length items
 
--- a text is the registers of this list, 1,024 at most, with a space before each
+-- a text is the registers of this list, at most 1,024, with a space before each
 pub record SpellsItems (registers : ℕ) (text : List ℕ) (to area : ℕ) (command : Command) : Type 0 where
   pub list : command ≡ commands.List to area (items_of command)
   pub is : text ≡ spaced (map decimal (items_of command))

@@ -1,4 +1,4 @@
--- The world of the made input.
+-- The world of the generated input.
 use Rattle.std.specs.Prelude.{List, [], ◌∷◌, codes, replicate}
 use Rattle.store_word.specs.declared.space.Space.{Space}
 use Rattle.lisp_graph.specs.declared.world.AreaRule.{AreaRule}

@@ -1,4 +1,4 @@
--- Which lines of a trace are accepted: a line is accepted exactly where it is the spelling of what it says.
+-- Which lines of a trace are accepted: a line is accepted if and only if it is the spelling of what it means.
 use Rattle.std.specs.Prelude.{◌≡◌, ℕ, ◌-◌, ◌<◌, ◌≤◌, ◌^◌, ⊤, List, [], ◌∷◌, length, map, codes, decimal, fold, bit_or, Ok}
 use Rattle.std.specs.List.{join_with_byte}
 use Rattle.store_word.specs.declared.space.Space.{Space}
@@ -19,7 +19,7 @@ abbrev pub AreAscending : ℕ → ℕ → List ℕ → Type 0
 AreAscending top last [] = ⊤
 AreAscending top last (level ∷ levels) = (last < level) × (level ≤ top) × AreAscending top level levels
 
--- the set of these levels beside a set
+-- a set with these levels added
 abbrev pub set_with : ℕ → List ℕ → ℕ
 set_with set levels = fold (λ all level. bit_or all (2 ^ (level - 1))) set levels
 
@@ -63,7 +63,7 @@ InNumbers (commands.Scavenge count) = count < 2 ^ 32
 InNumbers (commands.PageOut count) = count < 2 ^ 32
 InNumbers _ = ⊤
 
--- these words say a command of a world with this space and these areas
+-- these words mean a command of a world with this space and these areas
 pub record SayCommand (space : Space) (areas : List AreaRule) (words : List (List ℕ)) (command : Command) : Type 0 where
   pub registers : InRegisters space.registers command
   pub areas_in : InAreas (length areas) command
@@ -71,17 +71,17 @@ pub record SayCommand (space : Space) (areas : List AreaRule) (words : List (Lis
   pub numbers : InNumbers command
   pub is : SpellsCommand space.levels areas command words
 
--- what a line of a trace says: a command, or the end
+-- what a line of a trace means: a command, or the end
 abbrev pub SaysLine : Space → List AreaRule → List ℕ → TraceLine → Type 0
 SaysLine space areas text (Run command) = (words : List (List ℕ)) × (text ≡ line_of words) × SayCommand space areas words command
 SaysLine space areas text End = text ≡ codes "end"
 
--- a flip that a line says names one level at least, and none above this one
+-- a flip in a line names at least one level, and none above this one
 abbrev pub NamesLevels : ℕ → TraceLine → Type 0
 NamesLevels top (Run command) = InLevels top command
 NamesLevels top End = ⊤
 
--- The law above the order of tests: what is accepted says something, and what says something is accepted.
+-- The law above the order of the tests: a line is accepted if and only if it means something.
 pub record AcceptsLines (space : Space) (areas : List AreaRule) : Type 0 where
   pub only : (text : List ℕ) (said : TraceLine) → trace_line space areas text ≡ Ok said → SaysLine space areas text said
   pub all : (text : List ℕ) (said : TraceLine) → SaysLine space areas text said → trace_line space areas text ≡ Ok said

@@ -6,7 +6,7 @@ use Rattle.outer_ports.specs.declared.sinks.tally.Tally.{Tally}
 abbrev pub count_line : List ℕ → ℕ → List ℕ
 count_line word count = word ++ codes " " ++ decimal count ++ 10 ∷ []
 
--- how many commands were made, how many reply lines they have, and how many of these begin with each of four words
+-- how many commands were generated, how many reply lines they have, and how many of these begin with each of four words
 abbrev pub summary : ℕ → Tally → List ℕ
 summary count tally =
     count_line (codes "commands") count ++ count_line (codes "replies") tally.replies ++ count_line (codes "exhausted") tally.exhausted

@@ -1,5 +1,5 @@
-//! Reading the lines of the most frequent commands by one look at each byte. What answers false or None here is read, and
-//! refused with its reason, by `command`.
+//! Reads the lines of the most frequent commands with one look at each byte. A line for which this returns false or None is read
+//! by `command`, which accepts it or gives the reason for its refusal.
 ghost use Rattle.std.specs.Prelude.{◌≡◌, ◌≤◌, ◌<◌, ◌^◌, ◌++◌, ◌∷◌, List, Ok, true, decimal, codes, IfSome};
 ghost use Rattle.lisp_graph.specs.declared.world.AreaRule.{AreaRule};
 ghost use Rattle.trace_text.specs.Commands.{InLimits, Run, trace_line};
@@ -11,7 +11,7 @@ use lisp_graph::{Areas, Request, Short, Value};
 use store_word::Space;
 use world_text::{behind_space, leading_area, leading_number, leading_value};
 
-/// A register, and the text behind it.
+/// A register, and the text after it.
 #[inline(always)]
 fn leading_register(registers: u32, text: &[u8]) -> Option<(u8, &[u8])>
     requires { registers ≤ 256 }
@@ -25,7 +25,7 @@ fn leading_register(registers: u32, text: &[u8]) -> Option<(u8, &[u8])>
     }
 }
 
-/// A register and a space, and the text behind them.
+/// A register and a space, and the text after them.
 #[inline(always)]
 fn register_and_space(registers: u32, text: &[u8]) -> Option<(u8, &[u8])>
     requires { registers ≤ 256 }
@@ -70,7 +70,7 @@ fn last_number(text: &[u8]) -> Option<u32>
     if rest.is_empty() { Some(number) } else { None }
 }
 
-/// A number and a space, and the text behind them.
+/// A number and a space, and the text after them.
 #[inline(always)]
 fn number_and_space(text: &[u8]) -> Option<(u32, &[u8])>
     ensures { IfSome result (λ x. text.now ≡ decimal x.0 ++ 32 ∷ x.1.now) }
@@ -145,7 +145,7 @@ fn cons(space: &Space, areas: &Areas, line: &[u8], command: &mut Request) -> boo
     }
 }
 
-/// What stands before the registers of `list R AREA S ..`
+/// What precedes the registers of `list R AREA S ..`
 #[inline(always)]
 fn list_front<'a>(space: &Space, areas: &Areas, line: &'a [u8]) -> Option<(u8, u8, &'a [u8])>
     requires { InLimits space.now areas.now }
@@ -162,7 +162,7 @@ fn list_front<'a>(space: &Space, areas: &Areas, line: &'a [u8]) -> Option<(u8, u
     Some((to, area as u8, items))
 }
 
-/// A space and a register, and the text behind them.
+/// A space and a register, and the text after them.
 #[inline(always)]
 fn spaced_register(registers: u32, text: &[u8]) -> Option<(u8, &[u8])>
     requires { registers ≤ 256 }
@@ -172,7 +172,7 @@ fn spaced_register(registers: u32, text: &[u8]) -> Option<(u8, &[u8])>
     leading_register(registers, word)
 }
 
-/// A list of all the text as registers, 1,024 at most, with a space before each.
+/// Reads the whole text as the registers of a list, at most 1,024, with a space before each.
 fn spaced_items(registers: u32, to: u8, area: u8, text: &[u8], command: &mut Request) -> bool
     requires { registers ≤ 256 }
     ensures { result ≡ true → SpellsItems registers text.now to area command.new }
@@ -269,7 +269,7 @@ fn put(space: &Space, line: &[u8], command: &mut Request) -> bool
     }
 }
 
-/// The first word of a command of two registers, and the text behind it and a space.
+/// The first word of a command of two registers, and the text after the space that follows it.
 #[inline(always)]
 fn leading_pair(line: &[u8]) -> Option<(PairKind, &[u8])>
     ensures { IfSome result (λ x. line.now ≡ pair_name x.0 ++ 32 ∷ x.1.now) }
@@ -300,7 +300,7 @@ fn pair(space: &Space, line: &[u8], command: &mut Request) -> bool
     true
 }
 
-/// Whether the line is one of the most frequent commands, which is then written to its place.
+/// Whether the line is one of the most frequent commands. If so, the command is written to `command`.
 #[inline(always)]
 pub fn read_fast(space: &Space, areas: &Areas, line: &[u8], command: &mut Request) -> bool
     requires { InLimits space.now areas.now }

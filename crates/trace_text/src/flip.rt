@@ -29,7 +29,7 @@ fn level_in(last: u8, top: u8, piece: &[u8]) -> Option<u8>
     Some(level as u8)
 }
 
-/// The set of ascending levels with single commas between.
+/// The set of ascending levels, which single commas separate.
 fn levels_in(top: u8, word: &[u8]) -> Option<Levels>
     requires { top ≤ 6 }
     ensures { option_map (λ levels. levels.0) result ≡ levels_from top 0 0 (slice_split is_comma word.now) }

@@ -1,6 +1,6 @@
-//! The lines of a trace: commands as they are read, replies as they are printed, and the made input.
+//! The lines of a trace: commands as they are read, replies as they are printed, and the generated input.
 //!
-//! Nothing here takes memory. Begin with `read` beside `specs/Commands`, and `reply` beside `specs/Replies`.
+//! Nothing here allocates memory. Begin with `read` beside `specs/Commands`, and `reply` beside `specs/Replies`.
 #![tactic(auto)]
 
 mod command;

@@ -23,7 +23,7 @@ pub enum PairKind {
 }
 
 impl PairKind {
-    /// The kind with this first word, or None where it is no command of two registers.
+    /// The kind with this first word, or None if it isn't a command of two registers.
     #[tactic(auto, unfolding(crate::specs::Commands::pair_command))]
     fn named(head: &[u8]) -> Option<PairKind>
         ensures { (registers count : ℕ) (words : List (List ℕ)) → MatchOption result

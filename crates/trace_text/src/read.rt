@@ -47,8 +47,8 @@ fn line_in(
     Ok(LineKind::Command)
 }
 
-/// What the line says in a world with this space and these areas, or why it is refused. A command is written to the place given. It takes
-/// no memory.
+/// What the line means in a world with this space and these areas, or why it is refused. A command is written to `request`; the
+/// call allocates no memory.
 #[inline(always)]
 pub fn read_request(
     line: &[u8],
@@ -70,7 +70,7 @@ pub fn read_request(
     line_in(space, areas, head, count, rest, request)
 }
 
-/// The same, with the command as a value of its own, which is as large as the longest list.
+/// The same, with the command as a value of its own, which is as large as one with the longest list.
 pub fn read_command(
     line: &[u8],
     space: &Space,
@@ -88,7 +88,7 @@ pub fn read_command(
     Ok(kind)
 }
 
-/// A line is accepted exactly where it is the spelling of what it says.
+/// A line is accepted if and only if it is the spelling of what it means.
 pub fn lines_are_spelled()
     ensures { (space : space_value) (areas : List AreaRule) → InLimits space areas → AreNamed areas → AcceptsLines space areas }
 {}

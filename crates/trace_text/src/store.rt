@@ -1,4 +1,4 @@
-//! The commands of the store.
+//! The commands of the store, such as `flip` and `stats`.
 ghost use Rattle.std.specs.Prelude.{◌≤◌};
 ghost use Rattle.lisp_graph.specs.declared.command.Command.{Command as OneCommand};
 ghost use Rattle.world_text.specs.Words.{words_of};

@@ -6,7 +6,7 @@ use itoa::Buffer;
 use outer_ports::{Tally, copy_at};
 use std::marker::Model;
 
-/// The six lines of a summary, in a room of their own of 192 bytes.
+/// The six lines of a summary, in a buffer of 192 bytes.
 #[derive(Debug, Drop)]
 pub struct SummaryText {
     bytes: [u8; 192],
@@ -74,7 +74,7 @@ impl SummaryText {
     }
 }
 
-/// The summary of an exercise of so many commands, by the counts of its reply lines.
+/// The summary of an exercise of `count` commands, from the counts of its reply lines.
 pub fn summary_text(count: u32, tally: &Tally) -> SummaryText
     ensures { result ≡ summary count tally.now }
 {

@@ -1,4 +1,4 @@
-//! The words of commands. Each call takes the first word of a text and answers what it says, with the text behind it.
+//! The words of commands. Each call takes the first word of a text and returns what it means, with the text after it.
 ghost use Rattle.std.specs.Prelude.{◌≡◌, ◌≤◌, ◌<◌, ◌-◌, ◌^◌, length, IfOk};
 ghost use Rattle.world_text.specs.Words.{words_of};
 ghost use Rattle.world_text.specs.Next.{Gives, a_number, a_register, an_area, each, next};
@@ -8,7 +8,7 @@ ghost use Rattle.trace_text.specs.Items.{items_of};
 use lisp_graph::{Areas, Command, Request, Value};
 use world_text::{Reason, next_area, next_number, next_register, next_word, value_of};
 
-/// A register out of so many.
+/// A register, below the number of registers.
 pub fn register(registers: u32, text: &[u8]) -> Result<(u8, &[u8]), Reason>
     requires { registers ≤ 256 }
     ensures is { Gives (λ x. (x.0, words_of x.1.now)) result (next (a_register registers) (words_of text.now)) }
@@ -18,7 +18,7 @@ pub fn register(registers: u32, text: &[u8]) -> Result<(u8, &[u8]), Reason>
     Ok((register as u8, rest))
 }
 
-/// The name of one of the areas, which is answered by its place.
+/// The name of one of the areas; the result is the area's place among them.
 pub fn area<'a>(areas: &Areas, text: &'a [u8]) -> Result<(u8, &'a [u8]), Reason>
     requires { length areas.now ≤ 16 }
     ensures is { Gives (λ x. (x.0, words_of x.1.now)) result (next (an_area areas.now) (words_of text.now)) }

@@ -1,4 +1,4 @@
--- The invariant after what moves from an address on has moved.
+-- The invariant after a parcel has moved.
 use Rattle.std.proofs.Common.{ℕ, suc, ◌≡◌, ◌⊎◌, ◌+◌, ◌-◌, ◌*◌, ◌<◌, ◌≤◌, List, Option, Some, None, refl, sym, ◌∙◌, ap, subst, inl, inr, arith}
 use Rattle.std.proofs.lemmas.Bool.{cases_lt, lt-ltb, le-ltb}
 use Rattle.store_word.specs.Words.{Parts}
@@ -30,7 +30,7 @@ use Rattle.transporter.specs.declared.parcel.Parcel.{Parcel}
 use Rattle.transporter.specs.Parcels.{IsParcel, a_block, a_pair, a_run, block_parcel, pair_parcel, run_parcel, word_count_of, moved_word}
 use Rattle.transporter.proofs.Standing.{normal-pair, header-block, pair-charge, run-pair, run-behind, run-rest}
 
--- the numbers of a transport, told in another way
+-- the numbers of a transport, in another form
 rehouses-as : (g g1 : Image) (ws : List Parts) (top : ℕ) (aim : Condemned) (a b count forwards area level charge count' forwards' charge' : ℕ) → Rehouses g g1 ws top aim a b count forwards area level charge
     → count ≡ count' → forwards ≡ forwards' → charge ≡ charge' → Rehouses g g1 ws top aim a b count' forwards' area level charge'
 rehouses-as g g1 ws top aim a b count forwards area level charge count' forwards' charge' r x y z =
@@ -101,7 +101,7 @@ module _ (g g1 : Image) (ws : List Parts) (k : RoleMap) (top : ℕ) (areas : Lis
           (rehouses-as g g1 ws top aim at to (run.cells + 0) run.cells area level (3 * run.cells) (run.cells - 1 + 1) (suc (run.cells - 1)) (3 * (run.cells - 1) + 3) r (omega arith) (omega arith) (omega arith))
           (λ i l. copies i (omega arith)))
 
-      -- the code of each cell, where the last is coded next
+      -- the code of each cell, if the last is coded next
       coded : (word_at g.words (at + run.cells - 1)).cdr ≡ CdrNext → (i : ℕ) → i < run.cells → (word g (at + i)).cdr ≡ CdrNext
       coded last i l = go (cases_lt (suc i) run.cells)
         where

@@ -1,4 +1,4 @@
--- The last cell of a run before a forward becomes a pair.
+-- The last cell of a compact run before a forward becomes a pair.
 use Rattle.std.proofs.Common.{ℕ, suc, ◌≡◌, ◌⊎◌, ◌+◌, ◌-◌, ◌<◌, ◌≤◌, List, Option, Some, refl, sym, ◌∙◌, ap, subst, inl, inr, arith}
 use Rattle.std.proofs.lemmas.Bool.{cases_lt, lt-ltb, le-ltb}
 use Rattle.store_word.specs.Words.{Parts}

@@ -17,7 +17,7 @@ use Rattle.transporter.specs.LiveSame.{OnlyGrows}
 use Rattle.transporter.specs.Making.{PlacesNew}
 use Rattle.transporter.specs.Relocations.{old_class, Commits}
 
--- the used end of a live class has moved by so many words, which are counted as placed, and their pages are to be scanned; no region changes its class
+-- the used end of a live class has moved past this many words, which are counted as placed, and their pages are to be scanned; no region changes its class
 pub record Extends (t t' : Table) (slot at words : ℕ) : Type 0 where
   pub end : IsEnd t slot at words
   pub form : SameForm t t'
@@ -28,7 +28,7 @@ pub record Extends (t t' : Table) (slot at words : ℕ) : Type 0 where
   pub placed : t'.placed ≡ t.placed + words
   pub pages : Adds (page_list t) (page_list t') (at / 256) ((at + words - 1) / 256)
 
--- A charge, wherever it comes from, changes nothing else
+-- A charge, whatever its origin, changes nothing else
 
 record OnlyCharges (t t' : Table) : Type 0 where
   form : SameForm t t'

@@ -120,7 +120,7 @@ fetched m m1 m2 t t1 k top areas registers s aim v at old new alive is can settl
           value = x.value;
         }
 
--- where its object was transported and it is still to be written: its address is one of the memory, live, and has the word that was read
+-- after its object was transported and before it is written: its address is one of the memory, live, and has the word that was read
 pub record IsUnwritten (m : Store) (t : Table) (at : ℕ) (word : Parts) : Type 0 where
   pub inside : at < length m.words
   pub alive : IsLiveWord t at

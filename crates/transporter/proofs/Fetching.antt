@@ -1,4 +1,4 @@
--- What a read leaves of a ground, and what it costs.
+-- What holds of a ground after a read, and what the read costs.
 use Rattle.std.proofs.Common.{ℕ, ◌≡◌, ◌+◌, ◌-◌, ◌*◌, ◌≤◌, Bool, false, inl, refl, arith}
 use Rattle.area_space.specs.Table.{Table}
 use Rattle.area_space.specs.View.{GroundView}

@@ -1,4 +1,4 @@
--- Where the words of an object stand that isn't old: in used words of live regions.
+-- The words of an object that isn't old: they are used words of live regions.
 use Rattle.std.proofs.Common.{◌≡◌, ℕ, ◌/◌, ◌⊎◌, inl, inr, true, false, IsTrue, sym, ◌∙◌, ap, List, Some}
 use Rattle.std.proofs.lemmas.Bool.{cases_Bool}
 use Rattle.area_space.specs.lisp_graph.declared.world.AreaRule.{AreaRule}
@@ -38,7 +38,7 @@ module _ (m : Memory.Store) (t : Table) (k : RoleMap) (top : ℕ) (areas : List 
       go (inr (inl live)) = live
       go (inr (inr old)) = absurd (fresh old)
 
-  -- where a reference isn't old, neither is what it refers to
+  -- if a reference isn't old, neither is the object that it refers to
   pub place_fresh : (kind : Kind) (at n : ℕ) → names_as kind (k.role at) ≡ Some n → (IsOld t (at / 4096) → ⊥) → IsOld t (k.at n / 4096) → ⊥
   place_fresh kind at n named fresh = not_old_region m t no_rest on.table (k.at n)
       (ap (λ (c : Class). is_old c.standing) (class_end (word_at m.words) (classes (ground_image m t)) k s on.kept.roled at n kind named (not_old at fresh)) ∙ not_old at fresh)

@@ -119,7 +119,7 @@ marks-but_then x y = record { turns = turns-then x.turns y.turns; unmarked = λ 
 pub marks-but : {m m' : Store} {t t' : Table} (at : ℕ) → MarksFollow m t m' t' → MarksFollowBut m t m' t' at
 marks-but at x = record { turns = x.turns; unmarked = λ page ne clean. x.unmarked page clean }
 
--- A page whose words are as they were
+-- A page whose words are unchanged
 
 pub unchanged-unmarked : {m m' : Store} {t : Table} {page : ℕ} → MarksFollow m t m' t → ((a : ℕ) → a / 256 ≡ page → word_at m'.words a ≡ word_at m.words a) → m.marks page ≡ 0 → m'.marks page ≡ 0
 unchanged-unmarked {m} {m'} {t} {page} x same clean = go (x.unmarked page clean)
@@ -259,7 +259,7 @@ marks-replaced {m} {m'} {t} {t'} {at} {old} {new} grows inside is x (inr stores)
 
 -- Many words are written
 
--- some of so many words are on a page, or none
+-- some of these `count` words are on a page, or none
 page-cases : (at count page : ℕ) → ((a : ℕ) × (a / 256 ≡ page) × Within at count a) ⊎ ((i : ℕ) → i < count → (at + i) / 256 ≡ page → ⊥)
 page-cases at count page = elim (cases_lt page (at / 256)) [
   | inl before ↦ inr (λ i l on. omega arith)
@@ -453,7 +453,7 @@ marks-moved {m} {m'} {t} {t'} {at} to v last moved =
     outside at count to words i (inl l) low x = let a = x.0 in omega arith
     outside at count to words i (inr l) low x = let b = x.1 in omega arith
 
--- where it has failed
+-- if it has failed
 marks-faulted : {m m' : Store} {t t' : Table} → IsTable t → OpensAtMost m t m' t' → MarksFollow m t m' t'
 marks-faulted {m} {m'} {t} {t'} v (inl x) = subst (λ (u : Table). MarksFollow m t m' u) (sym x.1) (marks-read t x.0)
 marks-faulted {m} {m'} {t} {t'} v (inr x) =

@@ -1,4 +1,4 @@
--- What a ground stands for after a transport.
+-- The objects that a ground represents after a transport.
 use Rattle.std.proofs.Common.{ℕ, ◌≡◌, ◌⊎◌, ◌+◌, ◌-◌, ◌*◌, ◌/◌, ◌<◌, ◌≤◌, List, length, Option, Some, None, sym, ◌∙◌, ap, subst, inl, inr, arith}
 use Rattle.std.specs.Prelude.{Contains}
 use Rattle.std.proofs.lemmas.Bool.{cases_lt, lt-ltb, le-ltb}
@@ -42,7 +42,7 @@ use Rattle.transporter.proofs.Landing.{opened-form, opened-words, survivor-is, e
 use Rattle.transporter.proofs.Carrying.{arrives}
 use Rattle.transporter.proofs.Ready.{parcel-at, parcel-stands}
 
--- Charges that stand old
+-- Charges in old regions
 
 -- a region is opened
 pub old-opened : (m m' : Store) (t t' : Table) (region : Option ℕ) (area level : ℕ) (k : RoleMap) (top : ℕ) (areas : List AreaRule) (s : M.Store) (aim : Condemned)
@@ -143,7 +143,7 @@ module _ (m : Store) (t : Table) (k : RoleMap) (top : ℕ) (areas : List AreaRul
       (forwarded_named r.room r.table k top areas s aim opened_on p fits stand r.area r.level (survivor t r.level) to old_there level_there end_there m' r.moves (record t' { last = r.table.last }) sound commits)
       known
 
-  -- no forward stands at the new place
+  -- at the new place there is no forward
   first_content : (rest : Option ℕ) → forward_of (moved_word m.words p.at p.words rest 0).content ≡ None
   first_content None = ap (λ (a : ℕ). forward_of (word_at m.words a).content) (let e : p.at + 0 ≡ at = omega (arith, place) in e) ∙ last.no_forward
   first_content (Some to) = pick (cases_lt 1 p.words)

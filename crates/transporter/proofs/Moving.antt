@@ -20,7 +20,7 @@ use Rattle.transporter.proofs.Transported.{moves-from, stays-faulted}
 
 -- Words that are read before, and after
 
--- nothing is stored where nothing is done
+-- nothing is stored if nothing is done
 pub same-stores : {m : Store} → StoresNothing m m
 same-stores = record { words = refl; levels = refl; top = refl; unmarked = λ page h. h }
 
@@ -40,7 +40,7 @@ replaces-read (inr stores) n =
     let s = stores.1 in
     inr (stores.0, record { words = n.words ∙ s.words; levels = n.levels ∙ s.levels; top = n.top ∙ s.top; unmarked = λ page clean other. n.unmarked page (s.unmarked page clean other) })
 
--- of a word that is fetched
+-- for a word that is fetched
 pub fetch_moves-read : {m mid m' m2 : Store} {t t' : Table} {a : ℕ} → StoresNothing m mid → FetchMoves mid t m' t' a → StoresNothing m' m2 → FetchMoves m t m2 t' a
 fetch_moves-read {m} {mid} {m'} {m2} {t} {t'} {a} read f n =
     let before : word_at mid.words a ≡ word_at m.words a = ap (λ (ws : List Parts). word_at ws a) read.words in
@@ -63,7 +63,7 @@ fetch_moves-of {m} {mid} {m1} {m2} {t} {t1} {at} {old} {new} read old_is f r new
       stored = subst Q (sym old_is) (subst (λ (w : Parts). Replaces m1 m2 at old w) (sym new_is) r);
     }
 
--- Where nothing is placed
+-- If nothing is placed
 
 -- no word changes
 unwritten : {m m' : Store} {t t' : Table} → OpensOrStays t t' → m'.words ≡ m.words → WritesLive m t m' t'

@@ -1,4 +1,4 @@
--- What moves from an address on, by what was read.
+-- The parcel at an address, by what was read.
 use Rattle.std.proofs.Common.{ℕ, zero, suc, ◌≡◌, ◌+◌, ◌*◌, ◌<◌, ◌≤◌, List, Option, Some, None, sym, ◌∙◌, ap, subst, arith}
 use Rattle.std.specs.Prelude.{IfSome}
 use Rattle.store_word.specs.Words.{Parts}

@@ -66,7 +66,7 @@ end_inside t slot at words size v e is =
     let b = e.fits in
     omega arith
 
--- and apart from what stands in an old region
+-- and apart from what is in an old region
 pub end_apart : (t : Table) (slot to words old at count : ℕ) → IsTable t → IsEnd t slot to words → Contains (chain t (stale old)) (at / 4096) → (at + count - 1) / 4096 ≡ at / 4096 → 1 ≤ count
     → (at + count ≤ to) ⊎ (to + words ≤ at)
 end_apart t slot to words old at count v e there near some = go (cases_lt (at / 4096) (to / 4096))
@@ -104,7 +104,7 @@ few_words p fits = go p.rest refl
 pub some_words : (p : Parcel) → IsFit p → 1 ≤ word_count_of p
 some_words p fits = let a = fits.some in let b = fits.each in omega arith
 
--- a charge may leave the old class that it stands in
+-- a charge may leave the old class that it is in
 pub origin_allowed : (t : Table) (slot area level from to words charge : ℕ) (class : Class) → IsTable t → class.stale ≡ true → IsOldIn t from class.area class.level → level < levels_of t
     → charge ≤ slice_index t.charges (stale (slot_of t class.area class.level)) → IsEnd t (slot_of t class.area level) to words → IsEnd t slot to words → AllowsOrigin t slot charge (Moved class)
 origin_allowed t slot area level from to words charge class v is old low enough e e' =
@@ -197,7 +197,7 @@ pub survivor_same : {s : Store} {t : Table} {s' : Store} {t' : Table} (region : 
 survivor_same None from o = ap (λ (u : Table). survivor u from) o.same
 survivor_same (Some region) from o = ap (λ (u : Table). survivor u from) o.chain
 
--- no word changes where a region is opened
+-- no word changes if a region is opened
 pub opens-words : {s : Store} {t : Table} {s' : Store} {t' : Table} (region : Option ℕ) {area level : ℕ} → Opens s t s' t' region area level → s'.words ≡ s.words
 opens-words None o = ap (λ (m : Store). m.words) o.behind
 opens-words (Some region) o = ap (λ (m : Store). m.words) o.region_level

@@ -29,7 +29,7 @@ use Rattle.transporter.proofs.Settled.{live-not_old}
 
 -- Fresh words
 
--- what is fresh stays so where no region becomes old
+-- what is fresh stays fresh if no region becomes old
 pub fresh-grown : {t t' : Table} (content : Content) → OnlyGrows t t' → FreshOn t content → FreshOn t' content
 fresh-grown {t} {t'} content grows fresh b e old = fresh b e (old-before grows old)
 
@@ -274,7 +274,7 @@ grows-preserves {m} {m'} {t} {t'} v' same (inr p) = placed-preserves m m' t p.ro
 
 -- All words of live regions stay fresh
 
--- where each that was placed is fresh
+-- if each word that was placed is fresh
 pub stays_fresh-tended : (m m' : Store) (t t' : Table) → IsTable t → IsTable t' → PreservesScanned m t m' t' → ((a : ℕ) → IsLiveWord t' a → used_of t (a / 4096) ≤ a % 4096 → FreshOn t' (word_at m'.words a).content) → AllFresh m t → AllFresh m' t'
 stays_fresh-tended m m' t t' v v' x new all a l = elim (cases_lt (a % 4096) (used_of t (a / 4096))) [
   | inl used ↦ before (record { live = class used (region_cases t (a / 4096)); used = used })
@@ -320,7 +320,7 @@ same-reference (Fixnum i) at to b ref is = absurd (let x : None ≡ Some at = re
 same-reference Null at to b ref is = absurd (let x : None ≡ Some at = ref in cc)
 same-reference NilWord at to b ref is = absurd (let x : None ≡ Some at = ref in cc)
 
--- where it has changed it is fresh
+-- if it has changed, it is fresh
 settled-fresh : {t t' : Table} {old new : Parts} → Settles t t' old new → new ≢ old → FreshOn t' new.content
 settled-fresh {t} {t'} {old} {new} x ne b is young = go x.is
   where
@@ -335,7 +335,7 @@ pub replaced-preserves : {m m' : Store} (t t' : Table) (at : ℕ) (old new : Par
 replaced-preserves t t' at old new inside x (inl same) = read-preserves t' same.1
 replaced-preserves t t' at old new inside x (inr stores) = stored-preserves t' at new stores.1 inside (settled-fresh x stores.0)
 
--- and where it wasn't old nothing is stored
+-- and if it wasn't old, nothing is stored
 pub unmoved-reads : {m m' : Store} (t t' : Table) (at : ℕ) (old new : Parts) → (HasOld t old → ⊥) → Settles t t' old new → Replaces m m' at old new → StoresNothing m m'
 unmoved-reads t t' at old new none x (inl same) = same.1
 unmoved-reads t t' at old new none x (inr stores) = elim x.is [

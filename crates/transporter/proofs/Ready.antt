@@ -41,7 +41,7 @@ pub if-ok : {A E : Type 0} {P Q : A → Type 0} (r : Result A E) → ((x : A) �
 if-ok (Ok x) f h = f x h
 if-ok (Err e) f h = tt
 
--- What is known stays where nothing is stored
+-- What is known stays true if nothing is stored
 pub can-read : {s read : Store} {t : Table} {p : Parcel} → StoresNothing s read → CanMove s t p → CanMove read t p
 can-read {s} {read} {t} {p} n c = record {
   fits = c.fits;

@@ -1,4 +1,4 @@
--- What moves, by the roles of its words.
+-- A parcel, by the roles of its words.
 use Rattle.std.proofs.Common.{ℕ, zero, suc, ◌≡◌, ◌≢◌, ◌⊎◌, ◌+◌, ◌-◌, ◌*◌, ◌<◌, ◌≤◌, List, length, Option, Some, None, refl, sym, ◌∙◌, ap, subst, inl, inr, arith}
 use Rattle.std.specs.Prelude.{IfSome}
 use Rattle.std.proofs.lemmas.Bool.{cases_lt, cases_eq}
@@ -28,7 +28,7 @@ use Rattle.lisp_ground.proofs.lisp_meaning.RunNames.{pair_there, cell_there, blo
 use Rattle.transporter.specs.declared.parcel.Parcel.{Parcel}
 use Rattle.transporter.specs.Parcels.{block_parcel, pair_parcel, run_parcel, word_count_of, word_more}
 
--- the objects that move, by their names: each is held and stands at its word, they are charged so much together; each word is part of one, in one region; and a forward behind them leads on to an object
+-- the objects that move, by their names: each is held and is at its word, they are charged this much together; each word is part of one, in one region; and a forward after them leads on to an object
 pub record Stands (k : RoleMap) (s : Store) (p : Parcel) : Type 0 where
   pub name : ℕ → ℕ
   pub used : (i : ℕ) → i < p.objects → in_use s (name i)
@@ -201,7 +201,7 @@ module _ (words : List Parts) (regions : ℕ → Class) (k : RoleMap) (s : Store
         more None = omega arith
         more (Some to) = omega arith
 
-    -- cells, and a pair behind them
+    -- cells, and a pair after them
     pub cells-pair-stand : (charge : ℕ) → (last : (word_at words (at + cells - 1)).cdr ≡ CdrNext) → 1 ≤ cells → k.role (at + cells) ≡ PairHead (name_at k (at + cells)) → (object s (name_at k (at + cells))).charge ≡ charge
         → Stands k s (record { at = at; words = cells + 2; objects = cells + 1; charge = 3 * cells + charge; rest = None })
     cells-pair-stand charge last some r charged = record {
@@ -268,7 +268,7 @@ module _ (words : List Parts) (regions : ℕ → Class) (k : RoleMap) (s : Store
     last-place : at + (run.cells - 1) ≡ at + run.cells - 1
     last-place = let some = is.some in omega arith
 
-    -- what is behind the last cell, where that is coded next
+    -- what follows the last cell, if that is coded next
     pub run-behind : (word_at words (at + run.cells - 1)).cdr ≡ CdrNext → names_as AsCons (k.role (at + run.cells)) ≡ Some (name_at k (at + run.cells))
     run-behind last =
         let some = is.some in

@@ -1,4 +1,4 @@
--- A run of cells moves whole.
+-- A compact run of cells moves as a whole.
 use Rattle.std.proofs.Common.{ℕ, ◌≡◌, ◌+◌, ◌/◌, ◌<◌, ◌≤◌, List, refl, sym, ◌∙◌, ap, subst, arith}
 use Rattle.store_word.specs.Words.{Parts}
 use Rattle.mem_port.specs.Store.{Store}
@@ -16,7 +16,7 @@ use Rattle.transporter.specs.Parcels.{IsParcel, a_block, a_pair, a_run, run_parc
 use Rattle.transporter.specs.Transports.{MovesFrom, there, moved as moved_from}
 use Rattle.transporter.specs.Writes.{forward_to}
 
--- what moves with a run begins where it does, and has all its cells
+-- the parcel of a compact run begins at its first cell, and has all its cells
 ends-there : (at cells charge : ℕ) (ending : RunEnd) → (run_parcel at cells charge ending).at ≡ at
 ends-there at cells charge EndsNil = refl
 ends-there at cells charge EndsPair = refl

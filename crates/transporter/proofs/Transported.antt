@@ -50,7 +50,7 @@ can-along m mid t k top areas registers s aim kind at here n can final stays = r
   running = can.running;
 }
 
--- where its final address is old, it is ready to move
+-- if its final address is old, it is ready to move
 pub can-whole : {m mid : Store} {t : Table} {at : ℕ} (here : ℕ) → IsTransportable m t at → Final m.words at here → IsFinal m.words here → StoresNothing m mid → StandsWhole mid.words here
 can-whole {m} {mid} {t} {at} here x final last stays =
     let c = can-along m mid t x.map x.top x.areas x.registers x.store x.aim x.kind at here x.name x.can final stays in
@@ -66,7 +66,7 @@ can-movable {m} {mid} {t} {at} here x final last stays old =
 
 -- After
 
--- the object stands live there
+-- the object is there, live
 pub reaches-there : (m mid : Store) (t : Table) (k : RoleMap) (top : ℕ) (areas : List AreaRule) (registers : List Value) (s : M.Store) (aim : Condemned) (kind : Kind) (at here n : ℕ) → CanTransport m t k top areas registers s aim kind at n
     → Final m.words at here → IsFinal m.words here → StoresNothing m mid → (IsOld t (here / 4096) → ⊥) → ReachesOn m t mid t k top areas s aim kind here n
 reaches-there m mid t k top areas registers s aim kind at here n can final last stays not_old =
@@ -112,7 +112,7 @@ live-after {m} {mid} {m'} {t} {t'} {at} here to x stays moved =
 pub live-after_fault : {m mid m' : Store} {t t' : Table} {at : ℕ} → IsTransportable m t at → StoresNothing m mid → OpensAtMost mid t m' t' → LiveSame m t m' t'
 live-after_fault {m} {mid} {m'} {t} {t'} {at} x stays o = live-then (live-read stays) (live-faulted x.can.kept.table o)
 
--- After a fault
+-- After a swap error
 
 pub stays-read : {m m' : Store} {t : Table} → StoresNothing m m' → StaysOn m t m' t
 stays-read {m} {m'} {t} n = record {

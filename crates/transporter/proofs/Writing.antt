@@ -83,7 +83,7 @@ writes-pair {s0} {s1} {s2} {s3} {at} {first} {second} cell rest reads one two in
     let size : length s1.words ≡ length s0.words = ap length reads.words in
     read-then_writes reads (writes-two (pair_word cell rest) one two (omega arith) first_is second_is)
 
--- the same words told otherwise
+-- the same words in another form
 pub writes-as : {old new : Store} {at n m : ℕ} {word other : ℕ → Parts} → m ≡ n → ((i : ℕ) → i < n → word i ≡ other i) → Writes old new at n word → Writes old new at m other
 writes-as {old} {new} {at} {n} {m} {word} {other} count is w = subst (λ (k : ℕ). Writes old new at k other) (sym count) (record {
   size = w.size;

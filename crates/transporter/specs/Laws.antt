@@ -32,7 +32,7 @@ ValuesStay =
     (m m' : Store) (t t' : Table) (k : RoleMap) (top : ℕ) (areas : List AreaRule) (s : M.Store) (aim : Condemned) (x : LaterOn m t m' t' k top areas s aim) (c : Content) (v : Value)
     → value_of k.role c ≡ Some v → value_of x.map.role c ≡ Some v
 
--- the live words are the same after two calls that leave them alone
+-- the live words are the same after two calls that leave them unchanged
 abbrev pub LiveTwice : Type 0
 LiveTwice = (m m1 m2 : Store) (t t1 t2 : Table) → LiveSame m t m1 t1 → LiveSame m1 t1 m2 t2 → LiveSame m t m2 t2
 
@@ -40,13 +40,13 @@ LiveTwice = (m m1 m2 : Store) (t t1 t2 : Table) → LiveSame m t m1 t1 → LiveS
 abbrev pub PreservesTwice : Type 0
 PreservesTwice = (m m1 m2 : Store) (t t1 t2 : Table) → PreservesScanned m t m1 t1 → PreservesScanned m1 t1 m2 t2 → PreservesScanned m t m2 t2
 
--- pages get marks by two calls as by one; also where one of them writes at an address
+-- pages get marks by two calls as by one; also if one of them writes at an address
 pub record MarksFollowTwice : Type 0 where
   pub both : (m m1 m2 : Store) (t t1 t2 : Table) → MarksFollow m t m1 t1 → MarksFollow m1 t1 m2 t2 → MarksFollow m t m2 t2
   pub writes_last : (m m1 m2 : Store) (t t1 t2 : Table) (at : ℕ) → MarksFollow m t m1 t1 → MarksFollowBut m1 t1 m2 t2 at → MarksFollowBut m t m2 t2 at
   pub writes_first : (m m1 m2 : Store) (t t1 t2 : Table) (at : ℕ) → MarksFollowBut m t m1 t1 at → MarksFollow m1 t1 m2 t2 → MarksFollowBut m t m2 t2 at
 
--- where the table is as it was, a page whose words are as they were gets no marks
+-- if the table is the same, a page whose words are the same gets no marks
 abbrev pub UnchangedUnmarked : Type 0
 UnchangedUnmarked =
     (m m' : Store) (t : Table) (page : ℕ) → MarksFollow m t m' t → ((a : ℕ) → a / 256 ≡ page → word_at m'.words a ≡ word_at m.words a)
@@ -56,13 +56,13 @@ UnchangedUnmarked =
 abbrev pub MovesTwice : Type 0
 MovesTwice = (m m1 m2 : Store) (t t1 t2 : Table) (n k : ℕ) → MovesAtMost m t m1 t1 n → MovesAtMost m1 t1 m2 t2 k → MovesAtMost m t m2 t2 (n + k)
 
--- a run of cells at an old address moves whole: its cells leave forwards to words that follow one another
+-- a compact run of cells at an old address moves as a whole: its cells leave forwards to consecutive words
 abbrev pub RunsMoveTogether : Type 0
 RunsMoveTogether =
     (m m' : Store) (t t' : Table) (at to here : ℕ) (run : Run) → MovesFrom m t m' t' at to → Final m.words at here → IsOld t (here / 4096) → IsRun m.words here run
     → (i : ℕ) → i < run.cells → word_at m'.words (here + i) ≡ forward_to (to + i)
 
--- where a table only grows, what is live stays live and used, what is old stays old and nothing else becomes it, and a collection keeps what it kept
+-- if a table only grows, what is live stays live and used, what is old stays old, nothing else becomes old, and a collection keeps what it kept
 pub record TablesGrow : Type 0 where
   pub live : (t t' : Table) (a : ℕ) → OnlyGrows t t' → IsLiveWord t a → IsLiveWord t' a
   pub old : (t t' : Table) (word : Parts) → OnlyGrows t t' → HasOld t word → HasOld t' word

@@ -1,11 +1,11 @@
--- What transports leave alone.
+-- What transports leave unchanged.
 use Rattle.std.specs.Prelude.{◌≡◌, ◌≢◌, ℕ, ◌/◌, ◌%◌, ◌<◌, ◌≤◌, Contains}
 use Rattle.mem_port.specs.Store.{Store}
 use Rattle.area_space.specs.Table.{Table, live, stale, chain, used_of, IsLive, IsOld}
 use Rattle.obj_layout.specs.Forwards.{word_at}
 use Rattle.lisp_ground.specs.GroundInvariant.{SameForm}
 
--- The sizes, the regions of each class but for some that were free, the flip marks and what was condemned stay; used ends and the words placed only grow
+-- The sizes, the regions of each class except for some that were free, the flip marks and the condemned levels are the same; used ends and the number of words placed only grow
 pub record OnlyGrows (t t' : Table) : Type 0 where
   pub form : SameForm t t'
   pub aim : t'.aim ≡ t.aim
@@ -25,7 +25,7 @@ pub record LiveSame (m : Store) (t : Table) (m' : Store) (t' : Table) : Type 0 w
   pub table : OnlyGrows t t'
   pub words : (a : ℕ) → IsLiveWord t a → word_at m'.words a ≡ word_at m.words a
 
--- none but one does
+-- no used word of a live region changes, except one
 pub record LiveSameBut (m : Store) (t : Table) (m' : Store) (t' : Table) (at : ℕ) : Type 0 where
   pub table : OnlyGrows t t'
   pub words : (a : ℕ) → a ≢ at → IsLiveWord t a → word_at m'.words a ≡ word_at m.words a

@@ -14,13 +14,13 @@ use Rattle.lisp_ground.specs.GroundInvariant.{GroundInvariant}
 use Rattle.lisp_ground.specs.After.{old_on}
 use Rattle.transporter.specs.Growth.{OpensOrStays}
 
--- the area is one of so many, the level one of the machine's, and the quota leaves this charge
+-- the area is one of the world's, the level one of the machine's, and this charge fits the quota
 pub record HasQuota (top : ℕ) (areas : List AreaRule) (s : Store) (aim : Condemned) (area level charge : ℕ) : Type 0 where
   pub area_in : area < length areas
   pub level_in : level ≤ top
   pub fits : account top s aim area + charge ≤ (rule_of areas area).quota
 
--- The ground stands for these objects by a later map, under which what meant a name means it still, and a reference of this kind to an address means the name that was next. As much charge as before stands old.
+-- The ground represents these objects by a later map: each reference still has its meaning, and a reference of this kind to an address means the name that was next. The charge in old regions is the same.
 pub record MadeOn (m : Memory.Store) (t : Table) (m' : Memory.Store) (t' : Table) (k : RoleMap) (top : ℕ) (areas : List AreaRule) (s s' : Store) (aim : Condemned) (kind : Kind) (at : ℕ) : Type 0 where
   pub map : RoleMap
   pub kept : GroundInvariant m' t' map top areas s' aim
@@ -28,7 +28,7 @@ pub record MadeOn (m : Memory.Store) (t : Table) (m' : Memory.Store) (t' : Table
   pub there : names_as kind (map.role at) ≡ Some (length s.objects)
   pub old : old_on m' t' s' aim map.at ≡ old_on m t s aim k.at
 
--- so many words are placed at the used end of a live class, which is charged so much for new objects, and their pages are to be scanned; a region was opened for them at most
+-- this many words are placed at the used end of a live class, which is charged this much for new objects, and their pages are to be scanned; at most one region was opened for them
 pub record PlacesNew (t t' : Table) (area level at words charge : ℕ) : Type 0 where
   pub room : Table
   pub opens : OpensOrStays t room

@@ -21,22 +21,22 @@ pub data MayMark (m : Store) (t : Table) (m' : Store) (t' : Table) (a : ℕ) : T
   forwarded : (IsForward (word_at m.words a) → ⊥) → IsForward (word_at m'.words a) → MayMark m t m' t' a
   settled : HasOld t (word_at m.words a) → (HasOld t' (word_at m'.words a) → ⊥) → MayMark m t m' t' a
 
--- a page has a word that may
+-- a page has a word that may give it marks
 abbrev pub HasMarker : Store → Table → Store → Table → ℕ → Type 0
 HasMarker m t m' t' page = (a : ℕ) × (a / 256 ≡ page) × MayMark m t m' t' a
 
--- No used end falls. But for words that are placed, a forward stays one, and no word gets an old address
+-- No used end falls. Except for words that are placed, a forward stays a forward, and no word gets an old address
 pub record TurnsOneWay (m : Store) (t : Table) (m' : Store) (t' : Table) : Type 0 where
   pub used : (region : ℕ) → used_of t region ≤ used_of t' region
   pub forwards : (a : ℕ) → IsForward (word_at m.words a) → IsForward (word_at m'.words a) ⊎ IsPlaced t t' a
   pub olds : (a : ℕ) → HasOld t' (word_at m'.words a) → HasOld t (word_at m.words a) ⊎ IsPlaced t t' a
 
--- No page without marks gets any but by a word of it that was placed, became a forward, or lost an old address
+-- A page without marks gets marks only by a word of it that was placed, became a forward, or lost an old address
 pub record MarksFollow (m : Store) (t : Table) (m' : Store) (t' : Table) : Type 0 where
   pub turns : TurnsOneWay m t m' t'
   pub unmarked : (page : ℕ) → m.marks page ≡ 0 → (m'.marks page ≡ 0) ⊎ HasMarker m t m' t' page
 
--- and the page of one address, which is written
+-- the same, except for the page of one address, which is written
 pub record MarksFollowBut (m : Store) (t : Table) (m' : Store) (t' : Table) (at : ℕ) : Type 0 where
   pub turns : TurnsOneWay m t m' t'
   pub unmarked : (page : ℕ) → page ≢ at / 256 → m.marks page ≡ 0 → (m'.marks page ≡ 0) ⊎ HasMarker m t m' t' page

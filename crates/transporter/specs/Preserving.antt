@@ -21,12 +21,12 @@ AllFresh m t = (a : ℕ) → IsLiveWord t a → FreshOn t (word_at m.words a).co
 abbrev pub HasPlaced : Table → Table → ℕ → Type 0
 HasPlaced t t' page = (a : ℕ) × (a / 256 ≡ page) × (used_of t (a / 4096) ≤ a % 4096) × (a % 4096 < used_of t' (a / 4096))
 
--- the set of pages has grown by those, and no others
+-- the set of pages has grown by the pages with such a word, and no others
 pub record PagesGrow (t t' : Table) : Type 0 where
   pub ascending : IsAscending t.pages → IsAscending t'.pages
   pub members : (page : ℕ) → Contains t'.pages page ↔ (Contains t.pages page ⊎ HasPlaced t t' page)
 
--- The table only grows, and in live regions alone; it counts what is placed; and a used word of a live region stays, or is fresh.
+-- The table only grows, and in live regions alone; it counts what is placed; and a used word of a live region is unchanged, or is fresh.
 pub record PreservesScanned (m : Store) (t : Table) (m' : Store) (t' : Table) : Type 0 where
   pub grows : OnlyGrows t t'
   pub young : (region : ℕ) → IsOld t' region → used_of t' region ≡ used_of t region
@@ -34,7 +34,7 @@ pub record PreservesScanned (m : Store) (t : Table) (m' : Store) (t' : Table) : 
   pub paged : PagesGrow t t'
   pub words : (a : ℕ) → IsLiveWord t a → (word_at m'.words a ≡ word_at m.words a) ⊎ FreshOn t' (word_at m'.words a).content
 
--- each register stays, or is fresh
+-- each register is unchanged, or is fresh
 pub record RegistersPreserved (t : Table) (registers registers' : List Parts) : Type 0 where
   pub count : length registers' ≡ length registers
   pub each : (r : ℕ) → r < length registers → (get_or registers' r null_word ≡ get_or registers r null_word) ⊎ FreshOn t (get_or registers' r null_word).content

@@ -11,7 +11,7 @@ use Rattle.transporter.specs.lisp_meaning.Roles.{RoleMap, value_of}
 use Rattle.transporter.specs.lisp_ground.GroundInvariant.{GroundInvariant}
 use Rattle.transporter.specs.Settling.{HasOld, IsKeptValue}
 
--- the ground stands for some objects, of which the content has this value; where a region is old, the collection that runs keeps what it refers to
+-- the ground represents some objects, of which the content has this value; if a region is old, the collection that runs keeps the object that it refers to
 pub record CanRead (m : Memory.Store) (t : Table) (k : RoleMap) (top : ℕ) (areas : List AreaRule) (registers : List Value) (s : Store) (aim : Condemned) (content : Content) (v : Value) : Type 0 where
   pub kept : GroundInvariant m t k top areas s aim
   pub value_is : value_of k.role content ≡ Some v

@@ -1,4 +1,4 @@
--- A word of a ground is read, and settled where it stands.
+-- A word of a ground is read, and settled at its place.
 use Rattle.std.specs.Prelude.{◌≡◌, ℕ, ◌+◌, ◌-◌, ◌*◌, ◌≤◌, Bool, false}
 use Rattle.area_space.specs.View.{GroundView}
 use Rattle.mem_port.specs.Store.{StoresNothing}
@@ -9,7 +9,7 @@ use Rattle.transporter.specs.Views.{AllFresh, MarksFollow, MovesAtMost, Preserve
 abbrev pub StaysWhole : GroundView → GroundView → Type 0
 StaysWhole v v' = StoresNothing v.mem.store v'.mem.store × (v'.table ≡ v.table)
 
--- what a read leaves of the ground, of which it moves at most one object
+-- what holds of the ground after a read, which moves at most one object
 pub record KeepsGround (v v' : GroundView) : Type 0 where
   pub table : Grows v.table v'.table
   pub moves : MovesAtMost v v' 1
@@ -17,7 +17,7 @@ pub record KeepsGround (v v' : GroundView) : Type 0 where
   pub stays_fresh : AllFresh v → AllFresh v'
   pub marks : MarksFollow v v'
 
--- What a read costs: at most 2,048 words are placed. It takes so many steps, and 4 for each word placed, and if a fault comes at most 1,024 more.
+-- What a read costs: at most 2,048 words are placed. It takes `least` memory accesses at most, and 4 for each word placed, and after a swap error at most 1,024 more.
 pub record ReadCosts (v v' : GroundView) (steps steps' : ℕ) (faulted : Bool) (least : ℕ) : Type 0 where
   pub few : v'.table.placed ≤ v.table.placed + 2048
   pub cost : faulted ≡ false → steps' ≤ steps + 4 * (v'.table.placed - v.table.placed) + least

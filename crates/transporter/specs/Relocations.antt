@@ -28,7 +28,7 @@ pub record IsOldIn (t : Table) (at area level : ℕ) : Type 0 where
   pub level_in : level < levels_of t
   pub region : Contains (chain t (stale (slot_of t area level))) (at / 4096)
 
--- a region is opened for so many words only where they don't fit in the last one of the class, and it is the free one of the lowest number
+-- a region is opened for this many words only if they don't fit in the last one of the class, and it is the free one with the lowest number
 pub record OpensIfFull (t : Table) (slot words : ℕ) (region : Option ℕ) : Type 0 where
   pub full : IfSome region (λ r. (last : ℕ) → last_of (chain t (live slot)) ≡ Some last → 4096 < used_of t last + words)
   pub lowest : IfSome region (λ r. (other : ℕ) → other < r → IsUnclassed t other → ⊥)
@@ -44,7 +44,7 @@ pub record OpensOnly (s : Store) (t : Table) (s' : Store) (t' : Table) : Type 0 
   pub opens : Opens s t room t' region area level
   pub stays : StoresNothing room s'
 
--- the new words stand from an address on, and after that each object that moved leaves a forward to them in its first word
+-- the new words are from an address on, and after that each object that moved leaves a forward to them in its first word
 pub record Moves (old new : Store) (p : Parcel) (to : ℕ) : Type 0 where
   pub copied : Store
   pub copies : Writes old copied to (word_count_of p) (new_word old.words p)
@@ -55,7 +55,7 @@ pub record Commits (t t' : Table) (area from level at words charge : ℕ) : Type
   pub table : t' ≡ record (committed t (slot_of t area level) at words charge (Moved (old_class area from))) { pages = t'.pages; last = Some ((at + words - 1) / 256) }
   pub pages : Adds (page_list t) (page_list t') (at / 256) ((at + words - 1) / 256)
 
--- what stands old in a class stands in the live class of its survivors: there is a place, the words are committed, and they move
+-- an object in an old class is now in the live class of its survivors: there is a place, the words are committed, and they move
 pub record Relocates (s : Store) (t : Table) (s' : Store) (t' : Table) (p : Parcel) (to : ℕ) : Type 0 where
   pub area : ℕ
   pub level : ℕ
@@ -70,7 +70,7 @@ pub record Relocates (s : Store) (t : Table) (s' : Store) (t' : Table) (p : Parc
   pub commits : Commits table t' area level (survivor t level) to (word_count_of p) p.charge
   pub sound : IsTable t'
 
--- what is to move stands in one old region, its class is charged for it, and there is room for it
+-- a parcel is in one old region, its class is charged for it, and there is room for it
 pub record CanMove (s : Store) (t : Table) (p : Parcel) : Type 0 where
   pub fits : IsFit p
   pub inside : p.at + p.words ≤ length s.words
@@ -100,7 +100,7 @@ pub record CanPut (s : Store) (t : Table) (p : Parcel) (class : Class) (to : ℕ
   pub end : IsEnd t (slot_of t class.area (survivor t class.level)) to (word_count_of p)
   pub level_in : survivor t class.level < levels_of t
 
--- it and the place for it are in a memory of so many words, apart, and on held pages
+-- the parcel and the place for it are in a memory of this many words, apart, and on held pages
 pub record CanCopy (held : ℕ → Type 0) (size : ℕ) (p : Parcel) (to : ℕ) : Type 0 where
   pub fits : IsFit p
   pub from_inside : p.at + p.words ≤ size

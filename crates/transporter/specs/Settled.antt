@@ -1,4 +1,4 @@
--- A word that was read and settled where it stands.
+-- A word that was read and settled at its place.
 use Rattle.std.specs.Prelude.{◌≡◌, ℕ, List, Some}
 use Rattle.store_word.specs.Words.{Parts}
 use Rattle.store_word.specs.declared.word.Content.{Content}
@@ -12,7 +12,7 @@ use Rattle.lisp_ground.specs.lisp_meaning.Roles.{RoleMap, value_of}
 use Rattle.transporter.specs.LiveSame.{LiveSameBut}
 use Rattle.transporter.specs.Transports.{LaterOn}
 
--- the ground stands for the same objects by a later map, by which the word means this value
+-- the ground represents the same objects by a later map, by which the word has this value
 pub record MeansOn (m : Memory.Store) (t : Table) (m' : Memory.Store) (t' : Table) (k : RoleMap) (top : ℕ) (areas : List AreaRule) (s : Store) (aim : Condemned) (word : Parts) (value : Value) : Type 0 where
   pub later : LaterOn m t m' t' k top areas s aim
   pub value_is : value_of later.map.role word.content ≡ Some value

@@ -1,4 +1,4 @@
--- What it means to settle a word.
+-- What it means to settle a word (to apply the read barrier).
 use Rattle.std.specs.Prelude.{◌≡◌, ◌≢◌, ◌⊎◌, ℕ, ◌/◌, List, Option, Some, None, IsTrue}
 use Rattle.store_word.specs.Words.{Parts}
 use Rattle.store_word.specs.declared.word.Content.{Content}
@@ -35,13 +35,13 @@ readdressed word to = record word { content = content_to word.content to }
 abbrev pub HasOld : Table → Parts → Type 0
 HasOld t word = (at : ℕ) × (reference_of word.content ≡ Some at) × IsOld t (at / 4096)
 
--- a collection runs, and keeps what a value refers to
+-- a collection runs, and keeps the object that a value refers to
 pub record IsKeptValue (t : Table) (registers : List Value) (s : M.Store) (aim : Condemned) (v : Value) : Type 0 where
   pub running : t.aim ≡ Some aim.what
   pub reaches : Reaches registers s aim
   pub name : (n : ℕ) → v ≡ V.Ref n → IsTrue (is_kept s aim n)
 
--- a word that is a reference has a value, and where its address is old, one that the running collection keeps
+-- a word that is a reference has a value and, if its address is old, one that the running collection keeps
 pub record CanSettle (m : Store) (t : Table) (k : RoleMap) (top : ℕ) (areas : List AreaRule) (registers : List Value) (s : M.Store) (aim : Condemned) (word : Parts) (v : Value) : Type 0 where
   pub kept : GroundInvariant m t k top areas s aim
   pub value : (at : ℕ) → reference_of word.content ≡ Some at → value_of k.role word.content ≡ Some v
@@ -58,12 +58,12 @@ pub record IsSettleable (m : Store) (t : Table) (word : Parts) : Type 0 where
   pub value : Value
   pub can : CanSettle m t map top areas registers store aim word value
 
--- The word as it was, or with a live address in place of an old one
+-- The word is unchanged, or has a live address in place of an old one
 pub record Settles (t t' : Table) (old new : Parts) : Type 0 where
   pub is : (new ≡ old) ⊎ ((to : ℕ) × HasOld t old × (new ≡ readdressed old to))
   pub fresh : HasOld t' new → ⊥
 
--- the ground stands for the same objects by a later map, by which the new word has each value that the old one had
+-- the ground represents the same objects by a later map, by which the new word has each value that the old one had
 pub record SettlesOn (m : Store) (t : Table) (m' : Store) (t' : Table) (k : RoleMap) (top : ℕ) (areas : List AreaRule) (s : M.Store) (aim : Condemned) (old new : Parts) : Type 0 where
   pub later : LaterOn m t m' t' k top areas s aim
   pub value : (v : Value) → value_of k.role old.content ≡ Some v → value_of later.map.role new.content ≡ Some v

@@ -1,4 +1,4 @@
--- What a ground stands for before and after a transport.
+-- The objects that a ground represents before and after a transport.
 use Rattle.std.specs.Prelude.{◌≡◌, ℕ, ◌+◌, ◌/◌, ◌≤◌, List, Some}
 use Rattle.area_space.specs.lisp_graph.declared.object.Value.{Value}
 use Rattle.area_space.specs.lisp_graph.declared.world.AreaRule.{AreaRule}
@@ -33,26 +33,26 @@ pub record IsTransportable (m : Store) (t : Table) (at : ℕ) : Type 0 where
   pub name : ℕ
   pub can : CanTransport m t map top areas registers store aim kind at name
 
--- The ground stands for the same objects by a later map: each reference means what it meant. As many words as were placed, or more, are charged to condemned objects that stood old and do no more.
+-- The ground represents the same objects by a later map: each reference still has its meaning. The charge of condemned objects in old regions has fallen by at least the number of words placed.
 pub record LaterOn (m : Store) (t : Table) (m' : Store) (t' : Table) (k : RoleMap) (top : ℕ) (areas : List AreaRule) (s : M.Store) (aim : Condemned) : Type 0 where
   pub map : RoleMap
   pub kept : GroundInvariant m' t' map top areas s aim
   pub refines : Refines k.role map.role
   pub work : t'.placed + old_on m' t' s aim map.at ≤ t.placed + old_on m t s aim k.at
 
--- so it does, and a reference to an address means an object, which stands there, live
+-- the same, and a reference to an address means an object, which is there, live
 pub record ReachesOn (m : Store) (t : Table) (m' : Store) (t' : Table) (k : RoleMap) (top : ℕ) (areas : List AreaRule) (s : M.Store) (aim : Condemned) (kind : Kind) (to n : ℕ) : Type 0 where
   pub later : LaterOn m t m' t' k top areas s aim
   pub named : names_as kind (later.map.role to) ≡ Some n
   pub live : IsLive t' (to / 4096)
   pub final : IsFinal m'.words to
 
--- The words of a transport: it answers a final address that isn't old, or moves what is at an old one
+-- The words of a transport: it returns a final address that isn't old, or moves the parcel at an old one
 pub data MovesFrom (m : Store) (t : Table) (m' : Store) (t' : Table) (at to : ℕ) : Type 0 where
   there : Final m.words at to → (IsOld t (to / 4096) → ⊥) → StoresNothing m m' → t' ≡ t → MovesFrom m t m' t' at to
   moved : (here : ℕ) (p : Parcel) (read : Store) → Final m.words at here → IsOld t (here / 4096) → IsParcel m.words here p → StoresNothing m read → Relocates read t m' t' p to → MovesFrom m t m' t' at to
 
--- No word changes, and whatever the ground stood for it does
+-- No word changes, and the ground represents whatever it did
 pub record StaysOn (m : Store) (t : Table) (m' : Store) (t' : Table) : Type 0 where
   pub words : m'.words ≡ m.words
   pub placed : t'.placed ≡ t.placed

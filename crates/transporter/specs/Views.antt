@@ -1,4 +1,4 @@
--- What this crate says of grounds, of their views.
+-- The definitions of this crate on grounds, restated on their views.
 use Rattle.std.specs.Prelude.{List, ℕ}
 use Rattle.area_space.specs.View.{GroundView}
 use Rattle.area_space.specs.declared.classes.Class.{Class}
@@ -86,7 +86,7 @@ SettlesAt v v' = settled.SettlesAt v.mem.store v.table v'.mem.store v'.table
 abbrev pub SettlesOn : GroundView → GroundView → RoleMap → ℕ → List AreaRule → MeaningStore → Condemned → Parts → Parts → Type 0
 SettlesOn v v' = settling.SettlesOn v.mem.store v.table v'.mem.store v'.table
 
--- the word that is answered is the one that stood at an address, or that with a live address in place of an old one
+-- the word that is returned is the one that was at an address, or that with a live address in place of an old one
 abbrev pub SettlesWordAt : GroundView → GroundView → ℕ → Parts → Type 0
 SettlesWordAt v v' at = settling.Settles v.table v'.table (word_at v.mem.store.words at)
 

@@ -6,7 +6,7 @@ use Rattle.store_word.specs.declared.word.Content.TheVariants.{List as ListAt, G
 use Rattle.mem_port.specs.Store.{Store, level_of_word}
 use Rattle.obj_layout.specs.Forwards.{word_at}
 
--- the words from an address on are these, so many; no other word changes, and no level; no page without marks gets any but theirs, by an address of level 1 or more
+-- the `count` words from an address on are these; no other word changes, and no level; a page without marks gets only those of these words, by an address of level 1 or more
 pub record Writes (old new : Store) (at count : ℕ) (word : ℕ → Parts) : Type 0 where
   pub size : length new.words ≡ length old.words
   pub there : (i : ℕ) → i < count → word_at new.words (at + i) ≡ word i
@@ -15,7 +15,7 @@ pub record Writes (old new : Store) (at count : ℕ) (word : ℕ → Parts) : Ty
   pub top : new.top ≡ old.top
   pub unmarked : (page : ℕ) → old.marks page ≡ 0 → ((i : ℕ) → i < count → (at + i) / 256 ≡ page → level_of_word old.levels (word i) ≡ 0) → new.marks page ≡ 0
 
--- what a transported object leaves: a GC-FORWARD to its copy
+-- the forward that a transported object leaves: a GC-FORWARD to its copy
 abbrev pub forward_to : ℕ → Parts
 forward_to at = record { cdr = Next; content = GcForward at }
 

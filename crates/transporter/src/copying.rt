@@ -1,4 +1,4 @@
-//! Words are copied within a memory, and forwards left behind them.
+//! Words are copied within a memory, and forwards are written at their old places.
 ghost use Rattle.std.specs.Prelude.{◌≡◌, ◌⊎◌, ◌+◌, ◌*◌, ◌<◌, ◌≤◌, ℕ, IfSome, IsOk, length, ◌%◌};
 ghost use Rattle.mem_port.specs.View.{Quiet, shown};
 ghost use Rattle.mem_port.specs.Spans.{HoldsSpan};
@@ -12,7 +12,7 @@ use mem_port::{Memory, known};
 use std::sync::ledger::Ledger;
 use store_word::{CdrCode, Steps, SwapFault, Word};
 
-// How many of the words that are left are on one page, each place on its own.
+// How many of the `left` words that remain are on one page, at each of the two places.
 fn on_one_page(from: u32, to: u32, left: u32) -> u32
     requires { 0 < left }
     ensures some { 0 < result }
@@ -23,8 +23,8 @@ fn on_one_page(from: u32, to: u32, left: u32) -> u32
     left.min(256 - from % 256).min(256 - to % 256)
 }
 
-/// Copies so many words to an address, where they overlap no old ones. All their pages are held, so
-/// no fault comes. It is two steps a word.
+/// Copies `count` words to an address; old and new places don't overlap. All their pages are held,
+/// so no swap error occurs. It takes two memory accesses for each word.
 pub fn copy_words<M: Memory, L: Ledger>(
     mem: &mut M,
     from: u32,
@@ -40,11 +40,11 @@ pub fn copy_words<M: Memory, L: Ledger>(
     requires from_held { HoldsSpan (M.held mem.old) (record { at = from; words = count }) }
     requires to_held { HoldsSpan (M.held mem.old) (record { at = to; words = count }) }
 
-    // No fault comes, and the words are copied.
+    // No swap error occurs, and the words are copied.
     ensures sure { IsOk result }
     ensures copied { Writes (M.seen mem.old) (M.seen mem.new) to count (λ i. word_at (M.seen mem.old).words (from + i)) }
 
-    // What stays held, faults and the cost.
+    // What remains held, swap errors and the cost.
     ensures held { (page : ℕ) → M.held mem.old page → M.held mem.new page }
     ensures quiet { Quiet (shown M.Memory mem.old) (shown M.Memory mem.new) steps.old steps.new }
     ensures cost { steps.new ≡ steps.old + 2 * count }
@@ -59,8 +59,8 @@ pub fn copy_words<M: Memory, L: Ledger>(
     Ok(())
 }
 
-// Leaves GC-FORWARDs in so many words, to as many words from an address on. Their pages are held,
-// so no fault comes. It is a step a word.
+// Writes GC-FORWARDs in `count` words, to the `count` words from `to` on. Their pages are held,
+// so no swap error occurs. It takes a memory access for each word.
 pub(crate) fn leave_forwards<M: Memory, L: Ledger>(
     mem: &mut M,
     at: u32,
@@ -84,8 +84,8 @@ pub(crate) fn leave_forwards<M: Memory, L: Ledger>(
     Ok(())
 }
 
-// Makes a copy of a cell a pair of charge 3 whose cdr is a list. Both words are held, so no fault
-// comes. It is three steps.
+// Makes a copy of a cell a pair of charge 3 whose cdr is a list. Both words are held, so no swap
+// error occurs. It takes three memory accesses.
 pub(crate) fn make_last_pair<M: Memory, L: Ledger>(
     mem: &mut M,
     from: u32,
@@ -101,11 +101,11 @@ pub(crate) fn make_last_pair<M: Memory, L: Ledger>(
     requires from_held { HoldsSpan (M.held mem.old) (record { at = from; words = 1 }) }
     requires to_held { HoldsSpan (M.held mem.old) (record { at = to; words = 2 }) }
 
-    // No fault comes, and the pair is written.
+    // No swap error occurs, and the pair is written.
     ensures sure { IsOk result }
     ensures pair { Writes (M.seen mem.old) (M.seen mem.new) to 2 (pair_word (word_at (M.seen mem.old).words from) rest) }
 
-    // What stays held, faults and the cost.
+    // What remains held, swap errors and the cost.
     ensures held { (page : ℕ) → M.held mem.old page → M.held mem.new page }
     ensures quiet { Quiet (shown M.Memory mem.old) (shown M.Memory mem.new) steps.old steps.new }
     ensures cost { steps.new ≡ steps.old + 3 }
@@ -117,7 +117,7 @@ pub(crate) fn make_last_pair<M: Memory, L: Ledger>(
     Ok(())
 }
 
-// Writes the two words of a pair. Their pages are held, so no fault comes. It is two steps.
+// Writes the two words of a pair. Their pages are held, so no swap error occurs. Two accesses.
 fn write_pair<M: Memory, L: Ledger>(
     mem: &mut M,
     pair: Pair,
@@ -138,7 +138,7 @@ fn write_pair<M: Memory, L: Ledger>(
     Ok(())
 }
 
-// Writes what moves at its new place: a pair on one page by its words, and all else by copies.
+// Writes a parcel at its new place: a pair on one page by its words, and all else by copies.
 fn lay_parcel<M: Memory, L: Ledger>(
     mem: &mut M,
     parcel: &Parcel,
@@ -160,8 +160,8 @@ fn lay_parcel<M: Memory, L: Ledger>(
     }
 }
 
-// Copies what moves to its new place, and leaves the forwards of its objects. All words of both
-// places are held, so no fault comes. It is at most three steps for each new word.
+// Copies a parcel to its new place, and writes the forwards of its objects. All words of both
+// places are held, so no swap error occurs. At most three memory accesses for each new word.
 pub(crate) fn move_words<M: Memory, L: Ledger>(
     mem: &mut M,
     parcel: &Parcel,
@@ -172,11 +172,11 @@ pub(crate) fn move_words<M: Memory, L: Ledger>(
     requires can { CanCopy (M.held mem.old) (length (M.seen mem.old).words) parcel.now to }
     requires pair { IfSome pair (ArePairOf (M.seen mem.old).words parcel.now) }
 
-    // No fault comes, and all of it moves.
+    // No swap error occurs, and all of it moves.
     ensures sure { IsOk result }
     ensures moved { Moves (M.seen mem.old) (M.seen mem.new) parcel.now to }
 
-    // Faults and the cost.
+    // Swap errors and the cost.
     ensures quiet { Quiet (shown M.Memory mem.old) (shown M.Memory mem.new) steps.old steps.new }
     ensures cost { steps.new ≤ steps.old + 3 * word_count_of parcel.now }
 {
@@ -185,7 +185,7 @@ pub(crate) fn move_words<M: Memory, L: Ledger>(
     Ok(())
 }
 
-// Copies what moves to its new place.
+// Copies a parcel to its new place.
 fn copy_parcel<M: Memory, L: Ledger>(
     mem: &mut M,
     parcel: &Parcel,
@@ -194,11 +194,11 @@ fn copy_parcel<M: Memory, L: Ledger>(
 ) -> Result<(), SwapFault>
     requires { CanCopy (M.held mem.old) (length (M.seen mem.old).words) parcel.now to }
 
-    // No fault comes, and the words are copied.
+    // No swap error occurs, and the words are copied.
     ensures sure { IsOk result }
     ensures copied { Writes (M.seen mem.old) (M.seen mem.new) to (word_count_of parcel.now) (new_word (M.seen mem.old).words parcel.now) }
 
-    // What stays held, faults and the cost.
+    // What remains held, swap errors and the cost.
     ensures held { (page : ℕ) → M.held mem.old page → M.held mem.new page }
     ensures quiet { Quiet (shown M.Memory mem.old) (shown M.Memory mem.new) steps.old steps.new }
     ensures cost { steps.new ≤ steps.old + 2 * word_count_of parcel.now }

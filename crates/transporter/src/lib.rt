@@ -1,8 +1,8 @@
-//! Transport of objects out of old regions, and what is settled by it.
+//! Transport (evacuation) of objects out of old regions, and settling (the read barrier).
 //!
-//! The layers above ask `settle` for a word without an old address and `fetch` for one out of
-//! memory; no other layer leaves a GC-FORWARD. Contracts say which words move where
-//! (`specs/Relocations.antt`), and that the ground stands for the same objects after it
+//! The layers above call `settle` to get a word without an old address, and `fetch` for a word in
+//! memory; no other layer writes a GC-FORWARD. Contracts state which words move to which addresses
+//! (`specs/Relocations.antt`), and that the ground represents the same objects after it
 //! (`specs/Transports.antt`). Begin with `transports`.
 #![tactic(auto)]
 

@@ -1,4 +1,4 @@
-//! What moves gets a place in the live class of its survivors, and is written there.
+//! A parcel gets a place in the live class of its survivors, and is written there.
 ghost use Rattle.std.specs.Prelude.{◌≡◌, ◌+◌, ◌-◌, ◌*◌, ◌/◌, ◌<◌, ◌≤◌, IfOk, OnOk, OnErr, IfSome, true};
 ghost use Rattle.mem_port.specs.View.{Tells};
 ghost use Rattle.area_space.specs.View.{view};
@@ -33,10 +33,10 @@ fn class_of_old(table: &RegionTable, at: u32) -> Class
     }
 }
 
-/// A place for so many words, 1 to 2,048, at the used end of the live class of an area and a level.
-/// Where they don't fit in its last region, the free region of the lowest number is opened.
+/// A place for 1 to 2,048 words at the used end of the live class of an area and a level.
+/// If they don't fit in its last region, the free region with the lowest number is opened.
 ///
-/// The words of the area and these have to be at most twice its quota. Nothing is stored.
+/// The used words of the area and these may be at most twice its quota. Nothing is stored.
 pub fn place_for<M: Memory>(ground: &mut Ground<M>, area: u8, level: u8, words: u32) -> Placed
     requires some { 0 < words }
     requires few { words ≤ 2048 }
@@ -49,12 +49,12 @@ pub fn place_for<M: Memory>(ground: &mut Ground<M>, area: u8, level: u8, words: 
     requires ground { IsGround (view ground.old) }
     requires named { NamesNoFree (view ground.old) }
 
-    // Where the place is, and when a region was opened for it.
+    // The place, and when a region was opened for it.
     ensures opens { Opens (view ground.old) (view ground.new) result.opened area level }
     ensures end { IsEnd ground.new.table (slot_of ground.old.table area level) result.at words }
     ensures needed { OpensIfFull ground.old.table (slot_of ground.old.table area level) words result.opened }
 
-    // What stays of the counts, and of the resident pages.
+    // What is unchanged: the counts, and the resident pages.
     ensures faults { M.faults ground.new.mem ≡ M.faults ground.old.mem }
     ensures taken { M.taken ground.new.mem ≡ M.taken ground.old.mem }
     ensures resident { M.resident ground.new.mem ≡ M.resident ground.old.mem }
@@ -64,8 +64,8 @@ pub fn place_for<M: Memory>(ground: &mut Ground<M>, area: u8, level: u8, words: 
     placed
 }
 
-// Writes what moves at a place of its survivors' class, and commits it. A fault comes only before
-// anything is written or committed.
+// Writes a parcel at a place of its survivors' class, and commits it. A swap error occurs only
+// before anything is written or committed.
 fn put<M: Memory, L: Ledger>(
     ground: &mut Ground<M>,
     parcel: &Parcel,
@@ -100,7 +100,7 @@ fn put<M: Memory, L: Ledger>(
     Ok(())
 }
 
-// Moves an object or a run out of an old region, and answers where its first object stands.
+// Moves a parcel out of an old region, and returns the new address of its first object.
 pub(crate) fn relocate<M: Memory, L: Ledger>(
     ground: &mut Ground<M>,
     parcel: &Parcel,

@@ -1,4 +1,4 @@
-//! Settling: an old address in a word becomes that of the transported object.
+//! Settling (the read barrier): an old address in a word becomes that of the transported object.
 ghost use Rattle.std.specs.Prelude.{◌≡◌, ℕ, List, ◌+◌, ◌-◌, ◌*◌, ◌/◌, ◌<◌, ◌≤◌, ◌^◌, IfOk, OnOk, OnErr, Some, length};
 ghost use Rattle.mem_port.specs.View.{Tells, shown};
 ghost use Rattle.area_space.specs.View.{view};
@@ -31,7 +31,7 @@ fn reference(word: Word) -> Option<u32>
     }
 }
 
-// The same word with another address, where it is a reference.
+// The same word with another address, if it is a reference.
 fn with_address(word: Word, to: u32) -> Word
     requires { to < 2 ^ 28 }
     ensures { result ≡ readdressed word to }
@@ -44,15 +44,15 @@ fn with_address(word: Word, to: u32) -> Word
     }
 }
 
-/// The word itself, or where it is a reference to an old address, the word with the address at
-/// which that object stands live. It has the same cdr code and the same value.
+/// The word itself or, if it is a reference to an old address, the word with the address of the
+/// same object in a live region. It has the same cdr code and the same value.
 ///
-/// The caller owes that a reference has a value, and one to an old address that of an object which
-/// the running collection keeps.
+/// The caller must ensure that a reference has a value, and that one to an old address refers to an
+/// object which the running collection keeps.
 ///
-/// Where no fault comes it takes at most 43 steps and 4 for each word that it places, at most
-/// 2,048; none for a word without an old address. After a fault, at most 1,069 steps, every word is
-/// as before, and the count of faults has risen.
+/// Without a swap error it takes at most 43 memory accesses and 4 for each word that it places, at
+/// most 2,048; none for a word without an old address. After a swap error, at most 1,069 memory
+/// accesses: every word is as before, and the count of swap errors has risen.
 #[inline]
 pub fn settle<M: Memory, L: Ledger>(
     ground: &mut Ground<M>,
@@ -61,7 +61,7 @@ pub fn settle<M: Memory, L: Ledger>(
 ) -> Result<Word, SwapFault>
     requires { IsSettleable (view ground.old) word }
 
-    // What is answered, and what it means.
+    // The word that is returned, and its value.
     ensures settles { IfOk result (λ new. (k : RoleMap) (top : ℕ) (areas : List AreaRule) (registers : List Value) (s : Store) (aim : Condemned) (v : Value)
         → CanSettle (view ground.old) k top areas registers s aim word v
         → SettlesOn (view ground.old) (view ground.new) k top areas s aim word new) }
@@ -70,14 +70,14 @@ pub fn settle<M: Memory, L: Ledger>(
     ensures moves { MovesAtMost (view ground.old) (view ground.new) 1 }
     ensures still { (HasOld ground.old.table word → ⊥) → (ground.new ≡ ground.old) × (steps.new ≡ steps.old) }
 
-    // What stays of the ground.
+    // What is unchanged in the ground.
     ensures table { Grows ground.old.table ground.new.table }
     ensures live { LiveSame (view ground.old) (view ground.new) }
     ensures preserves { PreservesScanned (view ground.old) (view ground.new) }
     ensures marks { MarksFollow (view ground.old) (view ground.new) }
     ensures stays_fresh { (HasOld ground.old.table word → ⊥) → AllFresh (view ground.old) → AllFresh (view ground.new) }
 
-    // What a fault leaves, and that it is counted.
+    // What holds after a swap error, and that it is counted.
     ensures fault { OnErr result (StaysOn (view ground.old) (view ground.new)) }
     ensures tells { Tells (view ground.old).mem (view ground.new).mem steps.old steps.new result }
 
@@ -92,7 +92,7 @@ pub fn settle<M: Memory, L: Ledger>(
     }
 }
 
-// The word with the address at which its object stands live, where its address is an old one.
+// The word with the live address of its object, if its address is an old one.
 #[inline(never)]
 fn settle_old<M: Memory, L: Ledger>(
     ground: &mut Ground<M>,
@@ -104,7 +104,7 @@ fn settle_old<M: Memory, L: Ledger>(
     requires at { reference_of word.content ≡ Some at }
     requires old { IsOld ground.old.table (at / 4096) }
 
-    // What is answered, and what it means.
+    // The word that is returned, and its value.
     ensures settles { IfOk result (λ new. (k : RoleMap) (top : ℕ) (areas : List AreaRule) (registers : List Value) (s : Store) (aim : Condemned) (v : Value)
         → CanSettle (view ground.old) k top areas registers s aim word v
         → SettlesOn (view ground.old) (view ground.new) k top areas s aim word new) }
@@ -112,13 +112,13 @@ fn settle_old<M: Memory, L: Ledger>(
     ensures words { IfOk result (MovesFor (view ground.old) (view ground.new) word) }
     ensures moves { MovesAtMost (view ground.old) (view ground.new) 1 }
 
-    // What stays of the ground.
+    // What is unchanged in the ground.
     ensures table { Grows ground.old.table ground.new.table }
     ensures live { LiveSame (view ground.old) (view ground.new) }
     ensures preserves { PreservesScanned (view ground.old) (view ground.new) }
     ensures marks { MarksFollow (view ground.old) (view ground.new) }
 
-    // What a fault leaves, and that it is counted.
+    // What holds after a swap error, and that it is counted.
     ensures fault { OnErr result (StaysOn (view ground.old) (view ground.new)) }
     ensures tells { Tells (view ground.old).mem (view ground.new).mem steps.old steps.new result }
 
@@ -131,13 +131,13 @@ fn settle_old<M: Memory, L: Ledger>(
     Ok(with_address(word, to))
 }
 
-/// The word at an address below the used end of a live region, settled, and written back where that
+/// The word at an address below the used end of a live region, settled, and written back if that
 /// changes it.
 ///
-/// The caller owes what `settle` asks of the word. Where no fault comes it takes at most 45 steps
-/// and 4 for each word that it places, at most 2,048; where one comes, at most 1,026 more. After a
-/// fault every used word of a live region is as before; an object may have moved, and the count of
-/// faults has risen.
+/// The caller must ensure what `settle` requires of the word. Without a swap error it takes at most
+/// 45 memory accesses and 4 for each word that it places, at most 2,048; with one, at most 1,026
+/// more. After a swap error each used word of a live region is as before; an object may have moved,
+/// and the count of swap errors has risen.
 pub fn fetch<M: Memory, L: Ledger>(
     ground: &mut Ground<M>,
     at: u32,
@@ -146,7 +146,7 @@ pub fn fetch<M: Memory, L: Ledger>(
     requires live { IsLiveWord ground.old.table at }
     requires word { IsSettleable (view ground.old) (word_at (view ground.old).mem.store.words at) }
 
-    // What is answered, and what it means.
+    // The word that is returned, and its value.
     ensures settles { IfOk result (λ new. (k : RoleMap) (top : ℕ) (areas : List AreaRule) (registers : List Value) (s : Store) (aim : Condemned) (v : Value)
         → CanSettle (view ground.old) k top areas registers s aim (word_at (view ground.old).mem.store.words at) v
         → SettlesOn (view ground.old) (view ground.new) k top areas s aim (word_at (view ground.old).mem.store.words at) new) }
@@ -155,7 +155,7 @@ pub fn fetch<M: Memory, L: Ledger>(
     ensures words { OnOk result (FetchMoves (view ground.old) (view ground.new) at) }
     ensures moves { MovesAtMost (view ground.old) (view ground.new) 1 }
 
-    // What changes of the ground, and what stays.
+    // What changes in the ground, and what is unchanged.
     ensures table { Grows ground.old.table ground.new.table }
     ensures others { LiveSameBut (view ground.old) (view ground.new) at }
     ensures live { OnErr result (LiveSame (view ground.old) (view ground.new)) }
@@ -163,7 +163,7 @@ pub fn fetch<M: Memory, L: Ledger>(
     ensures marks { MarksFollow (view ground.old) (view ground.new) }
     ensures stays_fresh { (HasOldAt (view ground.old) at → ⊥) → AllFresh (view ground.old) → AllFresh (view ground.new) }
 
-    // What a fault leaves, and that it is counted.
+    // What holds after a swap error, and that it is counted.
     ensures fault { OnErr result ((k : RoleMap) (top : ℕ) (areas : List AreaRule) (registers : List Value) (s : Store) (aim : Condemned) (v : Value)
         → CanSettle (view ground.old) k top areas registers s aim (word_at (view ground.old).mem.store.words at) v
         → LaterOn (view ground.old) (view ground.new) k top areas s aim) }
@@ -180,7 +180,7 @@ pub fn fetch<M: Memory, L: Ledger>(
     Ok(settled)
 }
 
-// Stores a word in place of another, where they differ.
+// Stores a word in place of another, if they differ.
 fn write_changed<M: Memory, L: Ledger>(
     mem: &mut M,
     at: u32,

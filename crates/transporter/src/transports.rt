@@ -19,16 +19,16 @@ use obj_layout::{Resolved, resolve_first};
 use std::sync::ledger::Ledger;
 use store_word::{Steps, SwapFault};
 
-/// The address at which an object stands live, by any address of it. If it stands in an old region
-/// it moves first, into its area, at its survivors' level: a block, a pair, or a cell with the run
+/// The live address of an object, by any address of it. If the object is in an old region, it moves
+/// first, into its area, at its survivors' level: a block, a pair, or a cell with the compact run
 /// that follows it. Each object that moves leaves a GC-FORWARD in its first word.
 ///
-/// The caller owes that the running collection keeps the object. What is known of the object and of
-/// all others stays known.
+/// The caller must ensure that the running collection keeps the object. What is known of the object
+/// and of all others remains true.
 ///
-/// Where no fault comes it takes at most 43 steps and 4 for each word that it places, at most
-/// 2,048. After a fault, at most 1,069 steps, every word is as before, and the count of faults has
-/// risen.
+/// Without a swap error it takes at most 43 memory accesses and 4 for each word that it places, at
+/// most 2,048. After a swap error, at most 1,069 memory accesses: every word is as before, and the
+/// count of swap errors has risen.
 pub fn transport<M: Memory, L: Ledger>(
     ground: &mut Ground<M>,
     at: u32,
@@ -36,20 +36,20 @@ pub fn transport<M: Memory, L: Ledger>(
 ) -> Result<u32, SwapFault>
     requires { IsTransportable (view ground.old) at }
 
-    // Where the object is, and which words moved.
+    // The address of the object, and which words moved.
     ensures reaches { IfOk result (λ to. (k : RoleMap) (top : ℕ) (areas : List AreaRule) (registers : List Value) (s : Store) (aim : Condemned) (kind : Kind) (n : ℕ)
         → CanTransport (view ground.old) k top areas registers s aim kind at n
         → ReachesOn (view ground.old) (view ground.new) k top areas s aim kind to n) }
     ensures words { IfOk result (MovesFrom (view ground.old) (view ground.new) at) }
     ensures moves { MovesAtMost (view ground.old) (view ground.new) 1 }
 
-    // What stays of the ground.
+    // What is unchanged in the ground.
     ensures table { Grows ground.old.table ground.new.table }
     ensures live { LiveSame (view ground.old) (view ground.new) }
     ensures preserves { PreservesScanned (view ground.old) (view ground.new) }
     ensures marks { MarksFollow (view ground.old) (view ground.new) }
 
-    // What a fault leaves, and that it is counted.
+    // What holds after a swap error, and that it is counted.
     ensures fault { OnErr result (StaysOn (view ground.old) (view ground.new)) }
     ensures tells { Tells (view ground.old).mem (view ground.new).mem steps.old steps.new result }
 
@@ -65,7 +65,7 @@ pub fn transport<M: Memory, L: Ledger>(
     move_from(ground, found, steps)
 }
 
-// Moves what is at the final address of an object in an old region.
+// Moves the parcel at the final address of an object in an old region.
 fn move_from<M: Memory, L: Ledger>(
     ground: &mut Ground<M>,
     object: Resolved,

@@ -1,4 +1,4 @@
--- Chains by depths: no chain is shorter than the depth of its object, and one is as long.
+-- Chains and depths: no chain is shorter than the depth of its object, and one has this length.
 use Rattle.std.proofs.Common.{◌≡◌, ℕ, zero, suc, ◌+◌, ◌-◌, ◌<◌, ◌≤◌, inl, inr, true, refl, sym, ◌∙◌, ap, subst, arith, List, [], ◌∷◌, ◌++◌, length, Option, Some, None, length-append}
 use Rattle.lisp_graph.specs.declared.object.Object.{Object}
 use Rattle.lisp_graph.specs.Graph.{Graph, body_refers, object_at, refers_in}
@@ -47,10 +47,10 @@ module _ (graph : Graph) (depths : List (Option ℕ)) (bounds : AreBounds graph 
   pub free_at : (object : ℕ) → depth_at depths object ≡ None → IsFree graph object
   free_at object e hops chain = subst (IsWithin (references hops)) e (chain_within hops object chain)
 
--- One is as long
+-- One chain has this length
 
 module _ (graph : Graph) (depths : List (Option ℕ)) (levels : AreLevels graph depths) where
-  -- what leads from an object of this depth is the end of a chain
+  -- references that lead from an object of this depth are the end of a chain
   chain_ending : (depth middle object : ℕ) (hops : List Hop) → depth_at depths middle ≡ Some depth → Leads graph.objects middle hops object
       → (all : List Hop) × IsChain graph all object × (references all ≡ depth + length hops)
   unfolding hop_of

@@ -126,7 +126,7 @@ sum_others weights key (other ∷ keys) others =
     let two = sum_by-cons (λ k. get_or weights k 0) other keys in
     omega (arith, one, two, here, rest)
 
--- those at places that differ are at most all
+-- those at different places are at most all
 sum_some : (keys weights : List ℕ) → IsDistinct nat_eq keys → ((key : ℕ) → Contains keys key → key < length weights) → sum_by (λ k. get_or weights k 0) keys ≤ sum_by (λ x. x) weights
 unfolding IsDistinct
 sum_some [] weights once below = omega arith

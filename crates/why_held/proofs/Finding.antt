@@ -188,7 +188,7 @@ finds_next depth objects names k more name a b c l is e f g =
     ap (all_parts objects) names_are ∙ flat_map-append parts (take k names) (name ∷ []) ∙ ap (λ (vs : List Value). all_parts objects (take k names) ++ vs) one in
     finds_along depth (all_parts objects (take k names) ++ parts name) (all_parts objects (take more names)) a c (sym all) (finds_append depth (all_parts objects (take k names)) (parts name) a b c f g)
 
--- an object that was found stays at its place
+-- an object that was found keeps its place
 pub found_at : (depth : ℕ) (vs : List Value) (a b : Search) (start place : ℕ) → Finds depth vs a b → start ≤ place → place < length a.found → get_or b.found place 0 ≡ get_or (drop start a.found) (place - start) 0
 found_at depth vs a b start place f l m =
     let e : start + (place - start) ≡ place = omega arith in

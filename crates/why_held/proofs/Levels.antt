@@ -1,4 +1,4 @@
--- A search level by level: what holds when the objects of one depth were found, and those to which they refer were not.
+-- A search level by level: what is true when the objects of one depth were found, and those to which they refer were not.
 use Rattle.std.proofs.Common.{◌≡◌, ℕ, zero, suc, ◌+◌, ◌-◌, ◌<◌, ◌≤◌, ◌⊎◌, inl, inr, true, refl, sym, ◌∙◌, ap, subst, arith, List, [], ◌++◌, length, get_or, drop, replicate, Option, Some, None, Contains, All, unwrap_or, length-append, drop_of_length-le}
 use Rattle.std.proofs.Math.Seq.{drop-append_seam}
 use Rattle.std.proofs.lemmas.Bool.{cases_eq, cases_lt}
@@ -52,7 +52,7 @@ one_at_most (Some x) = omega arith
 pub found_few : (depths : List (Option ℕ)) → found_in depths ≤ length depths
 found_few depths = let x = sum_by-le one_where 1 depths (λ k d l. one_at_most (get_or depths k d)) in omega arith
 
--- The objects of this depth stand from `start` on, and all that are less deep are found and refer to found ones.
+-- The objects of this depth are found from `start` on, and all that are less deep are found and refer to found ones.
 pub record Level (graph : Graph) (depth start : ℕ) (s : Search) : Type 0 where
   pub each : length s.depths ≡ length graph.objects
   pub roots : (object : ℕ) → refers_in object graph.registers ≡ true → depth_at s.depths object ≡ Some 0

@@ -50,7 +50,7 @@ has_any area code (row ∷ rows) a = go a.0 a.1 a.2 a.3 a.4 (has_any area code r
     go zero x l e h rest = inl (ap (λ (r : CensusRow). r.area) e ∙ h.0, ap (λ (r : CensusRow). r.code) e ∙ h.1)
     go (suc k) x l e h rest = inr (rest (k, x, omega arith, e, h))
 
--- each of them stands behind a row
+-- each of them follows the row
 abbrev After : CensusRow → List CensusRow → Type 0
 After row [] = Unit {0}
 After row (next ∷ rows) = IsBefore row next × After row rows
@@ -67,13 +67,13 @@ ascend_pairs : (rows : List CensusRow) → AllPairs IsBefore rows → Ascend row
 ascend_pairs [] h = tt
 ascend_pairs (row ∷ rows) h = (after_pairs row rows (λ j d l. h 0 (suc j) d (omega arith) (omega arith)), ascend_pairs rows (λ i j d l m. h (suc i) (suc j) d (omega arith) (omega arith)))
 
--- a row of a kind that stands behind another isn't of its kind
+-- a row that follows another isn't of its kind
 after_has : (row : CensusRow) (rows : List CensusRow) (area : ℕ) (code : Option ℕ) → After row rows → Has area code rows → (row.area ≡ area) × (row.code ≡ code) → ⊥
 after_has row [] area code after has same = has
 after_has row (next ∷ rows) area code after (inl is) same = before_irreflexive row next (same.0 ∙ sym is.0) (same.1 ∙ sym is.1) after.0
 after_has row (next ∷ rows) area code after (inr has) same = after_has row rows area code after.1 has same
 
--- a row before another stands before those behind that
+-- a row before another precedes those that follow that one
 after_before : (row next : CensusRow) (rows : List CensusRow) → IsBefore row next → After next rows → After row rows
 after_before row next [] b after = tt
 after_before row next (other ∷ rows) b after = (before_transitive row next other b after.0, after_before row next rows b after.1)
@@ -101,7 +101,7 @@ all_rows counted (row ∷ rows) all = (All-head (IsRow counted) row rows all, al
 
 -- Rows and those that are reached
 
--- what is counted of the kinds of these rows has its rows among those that are reached, which are of these kinds
+-- what is counted of the kinds of these rows has its rows among the reached ones, and these are of no other kinds
 record Matches (counted : List Counted) (rows reached : List CensusRow) : Type 0 where
   ordered : Ascend rows
   ascend : Ascend reached
@@ -122,7 +122,7 @@ code_same_as x y e = let P : Option ℕ → Type 0 = λ o. same_code x o ≡ tru
 is_same : (row other : CensusRow) → (row.area ≡ other.area) × (row.code ≡ other.code) → same_kind row other ≡ true
 is_same row other e = and_from (row.area == other.area) (same_code row.code other.code) (eq-eqb row.area other.area e.0) (code_same_as row.code other.code e.1)
 
--- those of other kinds than the first row are of the kinds of the rows behind it
+-- rows of other kinds than the first row are of the kinds of the rows after it
 have_behind : (row : CensusRow) (rows reached : List CensusRow) → AllHave reached (row ∷ rows) → (Has row.area row.code reached → ⊥) → AllHave reached rows
 have_behind row rows [] all none = tt
 have_behind row rows (first ∷ others) all none = (go all.0, have_behind row rows others all.1 (λ h. none (inr h)))

@@ -106,7 +106,7 @@ parts_refer n (Cons car cdr) =
     or_false false = refl
 parts_refer n (Block code fields) = refl
 
--- what stands in a part is referred to
+-- an object is referred to if a part refers to it
 pub part_refers : (n : ℕ) (b : Body) (p : Part) → value_in b p ≡ Ref n → body_refers n b ≡ true
 part_refers n (Cons car cdr) Car e = or_left (is_ref n car) (is_ref n cdr) (is_ref-of n car e)
 part_refers n (Cons car cdr) Cdr e = or_right (is_ref n car) (is_ref n cdr) (is_ref-of n cdr e)
@@ -117,7 +117,7 @@ part_refers n (Block code fields) Car e = absurd cc
 part_refers n (Block code fields) Cdr e = absurd cc
 part_refers n (Block code fields) (Root r) e = absurd cc
 
--- what is referred to stands in a part
+-- a part refers to an object that is referred to
 pub refers_part : (n : ℕ) (b : Body) → body_refers n b ≡ true → (p : Part) × (value_in b p ≡ Ref n)
 refers_part n (Cons car cdr) e = elim (or_cases (is_ref n car) (is_ref n cdr) e) [
   | inl x ↦ (Car, ref_of n car x)

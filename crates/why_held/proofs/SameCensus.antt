@@ -28,7 +28,7 @@ name_in name (first ∷ keys) key c = elim (contains_cases first key keys c) [
   | inr rest ↦ contains_tail (name first) (name key) (map name keys) (name_in name keys key rest)
 ]
 
--- a name is that of a key for which something holds
+-- a name is that of a key with a property
 record IsNameOf (name : ℕ → ℕ) (P : ℕ → Type 0) (key : ℕ) : Type 0 where
   pub one : ℕ
   pub holds : P one
@@ -91,7 +91,7 @@ module _ (name : ℕ → ℕ) (keys : List ℕ) (graph other : KeyedGraph) (same
       let w = refer_from name (fields_of graph f.one) key (subst P (fields_renamed name keys graph other f.one same (in_list keys f.one f.holds)) (subst Q (sym f.is) r)) in
       record { one = w.one; holds = (reached.each w.one).1 (from_field f.one w.one ((reached.each f.one).0 f.holds) w.holds); is = w.is }
 
-  -- names differ where keys do
+  -- names differ if their keys do
   others_named : (key : ℕ) (part : List ℕ) → is_numbered keys key ≡ true → ((one : ℕ) → Contains part one → is_numbered keys one ≡ true)
       → AllByRecursion (λ one. nat_eq key one ≡ false) part → AllByRecursion (λ one. nat_eq (name key) one ≡ false) (map name part)
   others_named key [] is all others = tt

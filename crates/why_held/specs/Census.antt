@@ -9,12 +9,12 @@ use Rattle.why_held.specs.declared.rows.Counted.{Counted}
 
 -- What is counted
 
--- the code of a block, and none for a cons
+-- the code of a block; None for a cons
 abbrev pub code_of : Body → Option ℕ
 code_of (Cons car cdr) = None
 code_of (Block code fields) = Some code
 
--- what is counted of an object
+-- what a census uses of an object
 abbrev pub counted_object : Object → Counted
 counted_object object = record { area = object.area; code = code_of object.body; charge = object.charge }
 
@@ -45,13 +45,13 @@ pub record IsRow (counted : List Counted) (row : CensusRow) : Type 0 where
   pub count : row.count ≡ count_of counted row.area row.code
   pub charge : row.charge ≡ charge_of counted row.area row.code
 
--- conses stand before blocks, and blocks by ascending code
+-- conses precede blocks, and blocks are in the order of their codes
 abbrev pub is_code_before : Option ℕ → Option ℕ → Bool
 is_code_before None (Some code) = true
 is_code_before (Some code) (Some other) = nat_lt code other
 is_code_before _ None = false
 
--- rows stand in the order of areas, and those of one area by their codes
+-- rows are in the order of areas, and those of one area in the order of their codes
 abbrev pub IsBefore : CensusRow → CensusRow → Type 0
 IsBefore row next = (row.area < next.area) ⊎ ((row.area ≡ next.area) × (is_code_before row.code next.code ≡ true))
 

@@ -12,16 +12,16 @@ abbrev pub code_text : Option ℕ → List ℕ
 code_text None = codes "cons"
 code_text (Some code) = codes "block " ++ decimal code
 
--- the line of a row, of whose objects so many are reached and have this charge: these counts, and those of the others
+-- the line of a row, if this many of its objects are reached and have this charge: these numbers, and those of the other objects
 abbrev pub census_line : List AreaRule → CensusRow → ℕ → ℕ → List ℕ
 census_line areas row count charge =
     name_of areas row.area ++ 32 ∷ code_text row.code ++ 32 ∷ decimal count ++ 32 ∷ decimal charge ++ 32 ∷ decimal (row.count - count) ++ 32 ∷ decimal (row.charge - charge) ++ 10 ∷ []
 
--- a line for each row, where what was counted is reached
+-- a line for each row, if what was counted is what is reached
 abbrev pub census_lines : List AreaRule → List Counted → List CensusRow → List ℕ
 census_lines areas counted rows = flat_map (λ row. census_line areas row (count_of counted row.area row.code) (charge_of counted row.area row.code)) rows
 
--- The text of the rows of all objects, where what was counted is reached.
+-- The text of the rows of all objects, if what was counted is what is reached.
 abbrev pub census_text : List AreaRule → List Counted → List CensusRow → List ℕ
 census_text areas counted rows = census_lines areas counted rows ++ codes "end-census" ++ 10 ∷ []
 
@@ -43,12 +43,12 @@ pub record IsPart (counted : List Counted) (rows reached : List CensusRow) : Typ
 abbrev pub same_kind : CensusRow → CensusRow → Bool
 same_kind row other = row.area == other.area && same_code row.code other.code
 
--- the first of these rows, where it is of the same kind
+-- the first of these rows, if it is of the same kind
 abbrev pub found : CensusRow → List CensusRow → Option CensusRow
 found row [] = None
 found row (first ∷ others) = if same_kind row first then Some first else None
 
--- those behind it, where it is
+-- the rows after it, if it is
 abbrev pub behind : Option CensusRow → List CensusRow → List CensusRow
 behind None reached = reached
 behind (Some first) reached = drop 1 reached
@@ -58,17 +58,17 @@ abbrev pub line_with : List AreaRule → CensusRow → Option CensusRow → List
 line_with areas all None = census_line areas all 0 0
 line_with areas all (Some reached) = census_line areas all reached.count reached.charge
 
--- the counts of the row that is reached are no greater than those of the row of all objects of the kind, so that those of the others add up to it
+-- the numbers of a reached row are no greater than those of the row of all objects of the kind, so that those of the others add up to it
 abbrev pub AddsUp : CensusRow → Option CensusRow → Type 0
 AddsUp all None = ⊤
 AddsUp all (Some reached) = (reached.count ≤ all.count) × (reached.charge ≤ all.charge)
 
--- so it is in each line
+-- this is so for each line
 abbrev pub AddUp : List CensusRow → List CensusRow → Type 0
 AddUp [] reached = ⊤
 AddUp (row ∷ rows) reached = AddsUp row (found row reached) × AddUp rows (behind (found row reached) reached)
 
--- the lines of rows, each with the next of those that are reached where that is of its kind
+-- the lines of rows, each with the next of the reached rows if that is of its kind
 abbrev pub lines_with : List AreaRule → List CensusRow → List CensusRow → List ℕ
 lines_with areas [] reached = []
 lines_with areas (row ∷ rows) reached = line_with areas row (found row reached) ++ lines_with areas rows (behind (found row reached) reached)

@@ -14,19 +14,19 @@ use Rattle.why_held.specs.declared.chain.Held.TheVariants.{Path, Free}
 
 -- Chains
 
--- what stands in a part of an object, and nil where it has no such part
+-- the value in a part of an object; nil if it has no such part
 abbrev pub value_in : Body → Part → Value
 value_in (Cons car cdr) Car = car
 value_in (Cons car cdr) Cdr = cdr
 value_in (Block code fields) (Field index) = value_at fields index
 value_in body part = Nil
 
--- what stands in the register that is named
+-- the value in the register that is named
 abbrev pub register_value : List Value → Part → Value
 register_value registers (Root register) = value_at registers register
 register_value registers part = Nil
 
--- a part of one object refers to the object to which the hop leads
+-- the part of one object that the hop names refers to the object to which the hop leads
 abbrev pub Refers : List Object → ℕ → Hop → Type 0
 Refers objects from hop = value_in (object_at objects from).body hop.part ≡ Ref hop.to
 
@@ -55,7 +55,7 @@ pub record IsShortest (graph : Graph) (hops : List Hop) (object : ℕ) : Type 0 
 abbrev pub IsFree : Graph → ℕ → Type 0
 IsFree graph object = (hops : List Hop) → IsChain graph hops object → ⊥
 
--- the depth of an object is the length of its shortest chain, and it has none where it has no chain
+-- the depth of an object is the length of its shortest chain; it has none if it has no chain
 abbrev pub HasDepth : Graph → ℕ → Option ℕ → Type 0
 HasDepth graph object None = IsFree graph object
 HasDepth graph object (Some depth) = (hops : List Hop) × IsShortest graph hops object × (references hops ≡ depth)
@@ -69,7 +69,7 @@ pub record AreDepths (graph : Graph) (depths : List (Option ℕ)) : Type 0 where
   pub each : length depths ≡ length graph.objects
   pub right : (object : ℕ) → object < length graph.objects → HasDepth graph object (depth_at depths object)
 
--- a shortest chain to the object, or that there is none
+-- a shortest chain to the object, or `Free` if there is none
 abbrev pub IsHeld : Graph → ℕ → Held → Type 0
 IsHeld graph object (Path hops) = IsShortest graph hops object
 IsHeld graph object Free = IsFree graph object

@@ -1,4 +1,4 @@
--- Which of the shortest chains is answered: it is chosen backwards, from the object to the register.
+-- Which of the shortest chains is the answer: it is chosen backwards, from the object to the register.
 use Rattle.std.specs.Prelude.{◌≡◌, ℕ, suc, ◌<◌, List, [], ◌∷◌, Bool, true, false, ◌==◌, ◌&&◌, Option, Some, ⊤}
 use Rattle.lisp_graph.specs.declared.object.Value.TheVariants.{Ref}
 use Rattle.lisp_graph.specs.declared.object.Body.{Body}
@@ -43,12 +43,12 @@ pub record IsFirstReference (objects : List Object) (depths : List (Option ℕ))
   pub object : IsFirst (is_nearer objects depths hop.to) from
   pub part : IsFirst (λ place. is_ref hop.to (part_of (object_at objects from).body place)) (place_of hop.part)
 
--- so is each of these, which follow one another
+-- this is so for each of these references, which follow one another
 abbrev pub AreFirstReferences : List Object → List (Option ℕ) → ℕ → List Hop → Type 0
 AreFirstReferences objects depths from [] = ⊤
 AreFirstReferences objects depths from (hop ∷ hops) = IsFirstReference objects depths from hop × AreFirstReferences objects depths hop.to hops
 
--- the lowest register that refers to the first object, and behind it such references
+-- the lowest register that refers to the first object, and after it such references
 abbrev pub IsChosen : Graph → List (Option ℕ) → List Hop → Type 0
 IsChosen graph depths [] = ⊥
 IsChosen graph depths (hop ∷ hops) =

@@ -10,7 +10,7 @@ use Rattle.why_held.specs.Choice.{IsFirst, is_nearer, is_one_less}
 abbrev pub nearest_at : List (Option ℕ) → ℕ → Option ℕ
 nearest_at nearest object = slice_index_or nearest object None
 
--- what was found before, or else this object where it passes
+-- what was found before, or else this object if it passes
 abbrev pub or_this : Option ℕ → Bool → ℕ → Option ℕ
 or_this (Some before) passes object = Some before
 or_this None passes object = if passes then Some object else None
@@ -25,7 +25,7 @@ abbrev pub IsFirstBelow : (ℕ → Bool) → ℕ → Option ℕ → Type 0
 IsFirstBelow test count None = (number : ℕ) → number < count → test number ≡ false
 IsFirstBelow test count (Some number) = (number < count) × IsFirst test number
 
--- for each object, the lowest of so many objects that is one less deep and refers to it
+-- for each object, the lowest of the first `count` objects that is one less deep and refers to it
 pub record AreNearest (objects : List Object) (depths : List (Option ℕ)) (count : ℕ) (nearest : List (Option ℕ)) : Type 0 where
   pub size : length nearest ≡ length objects
   pub each : (to : ℕ) → IsFirstBelow (is_nearer objects depths to) count (nearest_at nearest to)

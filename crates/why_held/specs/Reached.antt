@@ -23,7 +23,7 @@ abbrev pub Refer : List Seen → ℕ → Type 0
 Refer [] key = ⊥
 Refer (value ∷ values) key = (key_of value ≡ Some key) ⊎ Refer values key
 
--- An object is reached where a register refers to it, or a field of an object that is reached.
+-- An object is reached if a register refers to it, or a field of an object that is reached.
 pub data IsReached (graph : KeyedGraph) : ℕ → Type 0 where
   from_register : (key : ℕ) → Refer graph.registers key → IsReached graph key
   from_field : (from key : ℕ) → IsReached graph from → Refer (fields_of graph from) key → IsReached graph key
@@ -33,11 +33,11 @@ pub record AreReached (graph : KeyedGraph) (keys : List ℕ) : Type 0 where
   pub each : (key : ℕ) → Contains keys key ↔ IsReached graph key
   pub once : IsDistinct nat_eq keys
 
--- what is counted of an object of this form
+-- what a census uses of an object of this form
 abbrev pub counted_form : Form → Bool → Counted
 counted_form form cons = record { area = form.area; code = if cons then None else Some form.code; charge = form.charge }
 
--- what is counted of the object with a key
+-- what a census uses of the object with a key
 abbrev pub counted_key : KeyedGraph → ℕ → Counted
 counted_key graph key = counted_form (graph.form key) (graph.cons key)
 
@@ -49,7 +49,7 @@ pub record IsReachedCensus (graph : KeyedGraph) (rows : List CensusRow) : Type 0
 
 -- While they are found
 
--- the objects to which these values refer are found, each that wasn't found before
+-- the objects to which these values refer are found; those that weren't found before are added
 pub record Meets (values : List Seen) (old new : Numbering) : Type 0 where
   pub added : List ℕ
   pub grows : new.keys ≡ old.keys ++ added
@@ -57,7 +57,7 @@ pub record Meets (values : List Seen) (old new : Numbering) : Type 0 where
   pub only : (key : ℕ) → Contains added key → Refer values key
   pub once : IsDistinct nat_eq old.keys → IsDistinct nat_eq new.keys
 
--- The first of the objects that were found are done, so many: what is found is reached, and has what the registers and the objects that are done refer to.
+-- The first `number` of the objects that were found are done: all that was found is reached, and includes what the registers and the objects that are done refer to.
 pub record IsReaching (graph : KeyedGraph) (number : ℕ) (met : Numbering) : Type 0 where
   pub sound : (key : ℕ) → Contains met.keys key → IsReached graph key
   pub registers : (key : ℕ) → Refer graph.registers key → Contains met.keys key

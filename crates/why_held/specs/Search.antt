@@ -35,7 +35,7 @@ found_in depths = sum_by one_where depths
 abbrev pub IsNew : List (Option ℕ) → List (Option ℕ) → ℕ → Type 0
 IsNew old new object = (depth_at old object ≡ None) × IsSome (depth_at new object)
 
--- the objects to which these values refer are found, each that wasn't found before with this depth
+-- the objects to which these values refer are found; those that weren't found before get this depth
 pub record Finds (depth : ℕ) (values : List Value) (old new : Search) : Type 0 where
   pub size : length new.depths ≡ length old.depths
   pub kept : (object before : ℕ) → depth_at old.depths object ≡ Some before → depth_at new.depths object ≡ Some before
@@ -63,7 +63,7 @@ AreWithin depths most values = (object : ℕ) → refers_in object values ≡ tr
 abbrev pub IsNextWithin : List Object → List (Option ℕ) → ℕ → Type 0
 IsNextWithin objects depths from = (to depth : ℕ) → depth_at depths from ≡ Some depth → body_refers to (object_at objects from).body ≡ true → IsWithin (suc depth) (depth_at depths to)
 
--- so does each reference
+-- this is so for each object
 abbrev pub AreNextWithin : List Object → List (Option ℕ) → Type 0
 AreNextWithin objects depths = (from : ℕ) → IsNextWithin objects depths from
 
@@ -72,7 +72,7 @@ pub record AreBounds (graph : Graph) (depths : List (Option ℕ)) : Type 0 where
   pub roots : AreWithin depths 0 graph.registers
   pub next : AreNextWithin graph.objects depths
 
--- so it is, and each object that has a depth is referred to by a register, or by an object that is one less deep
+-- this is so, and a register refers to each object that has a depth, or an object that is one less deep does
 pub record AreLevels (graph : Graph) (depths : List (Option ℕ)) : Type 0 where
   pub each : length depths ≡ length graph.objects
   pub bounds : AreBounds graph depths

@@ -18,7 +18,7 @@ Kind = ℕ × Option ℕ
 abbrev pub kind_cmp : Kind → Kind → Ordering
 kind_cmp = λ x y. ordering_then (nat_cmp x.0 y.0) (option_cmp nat_cmp x.1 y.1)
 
--- with one more object of this charge
+-- the tally with one more object of this charge
 abbrev pub more : Option Tally → ℕ → Tally
 more None charge = record { count = 1; charge = charge }
 more (Some tally) charge = record { count = tally.count + 1; charge = tally.charge + charge }
@@ -28,7 +28,7 @@ abbrev pub HasRoom : Option Tally → Type 0
 HasRoom None = ⊤
 HasRoom (Some tally) = (tally.count < 2 ^ 32) × (tally.charge ≤ 2 ^ 64 - 2 ^ 32)
 
--- the tally of an area and a code, where there are objects of them
+-- the tally of an area and a code, if there are objects of them
 abbrev pub tally_of : List Counted → ℕ → Option ℕ → Option Tally
 tally_of counted area code =
     if count_of counted area code == 0 then None

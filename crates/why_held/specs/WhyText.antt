@@ -1,4 +1,4 @@
--- The text that tells why an object is held.
+-- The text that says why an object is held.
 use Rattle.std.specs.Prelude.{ℕ, ◌+◌, List, [], ◌∷◌, ◌++◌, codes, decimal, flat_map, Option, Some, None}
 use Rattle.why_held.specs.declared.chain.Part.{Part}
 use Rattle.why_held.specs.declared.chain.Part.TheVariants.{Root, Car, Cdr, Field}
@@ -15,7 +15,7 @@ part_text Car = codes "car"
 part_text Cdr = codes "cdr"
 part_text (Field index) = codes "field " ++ decimal index
 
--- the line of a reference: the part in which it stands, and the object to which it leads
+-- the line of a reference: the part that contains it, and the object to which it leads
 abbrev pub hop_line : Hop → List ℕ
 hop_line hop = part_text hop.part ++ codes " #" ++ decimal hop.to ++ 10 ∷ []
 

@@ -1,7 +1,7 @@
-//! Chains of references, and the answer why an object is held.
+//! Chains of references, and the answer to why an object is held.
 use lisp_graph::Sequence;
 
-/// Where a reference stands: in a register, or in a part of an object.
+/// The place of a reference: a register, or a part of an object.
 #[derive(Clone, Copy, Debug, PartialEq, Eq)]
 pub enum Part {
     Root(u8),

@@ -1,4 +1,4 @@
-//! Whether an answer why an object is held is right.
+//! Checking an answer to why an object is held.
 ghost use Rattle.std.specs.Prelude.{◌≡◌, ◌↔◌, ◌+◌, ◌<◌, ◌∷◌, [], length, IsTrue};
 ghost use Rattle.std.specs.List.{All};
 ghost use Rattle.lisp_graph.specs.Graph.{IsGraph, IsObject, PartsReferBelow, RefersBelow};
@@ -15,7 +15,7 @@ use lisp_graph::{Body, Object, Value, World};
 
 // Depths
 
-/// The object to which a value refers, if it does, has a depth of at most this.
+/// Whether the object to which a value refers, if there is one, has a depth of at most `most`.
 fn is_within(depths: &[Option<u32>], most: u64, value: Value) -> bool
     requires { RefersBelow (length depths.now) value }
     ensures { IsTrue result ↔ AreWithin depths.now most (value ∷ []) }
@@ -29,7 +29,7 @@ fn is_within(depths: &[Option<u32>], most: u64, value: Value) -> bool
     }
 }
 
-/// So do those to which these values refer.
+/// Whether the objects to which these values refer do.
 fn are_within(depths: &[Option<u32>], most: u64, values: &[Value]) -> bool
     requires { All (RefersBelow (length depths.now)) values.now }
     ensures { IsTrue result ↔ AreWithin depths.now most values.now }
@@ -42,7 +42,7 @@ fn are_within(depths: &[Option<u32>], most: u64, values: &[Value]) -> bool
     true
 }
 
-/// So do those to which the parts of an object refer.
+/// Whether the objects to which the parts of an object refer do.
 fn parts_within(depths: &[Option<u32>], most: u64, body: &Body) -> bool
     requires { PartsReferBelow (length depths.now) body.now }
     ensures { IsTrue result ↔ AreWithin depths.now most (parts_of body.now) }
@@ -53,7 +53,7 @@ fn parts_within(depths: &[Option<u32>], most: u64, body: &Body) -> bool
     }
 }
 
-/// A reference in this object leads at most one deeper.
+/// Whether each reference in this object leads at most one deeper.
 fn is_next_within(depths: &[Option<u32>], objects: &[Object], from: u64) -> bool
     requires from { from < length objects.now }
     requires size { length depths.now ≡ length objects.now }
@@ -66,7 +66,7 @@ fn is_next_within(depths: &[Option<u32>], objects: &[Object], from: u64) -> bool
     }
 }
 
-/// A reference leads at most one deeper.
+/// Whether each reference leads at most one deeper.
 fn are_next_within(depths: &[Option<u32>], objects: &[Object]) -> bool
     requires size { length depths.now ≡ length objects.now }
     requires objects { All (IsObject (length objects.now)) objects.now }
@@ -82,7 +82,7 @@ fn are_next_within(depths: &[Option<u32>], objects: &[Object]) -> bool
     true
 }
 
-/// No chain to an object is shorter than its depth.
+/// Whether no chain to an object is shorter than its depth.
 fn are_bounds(depths: &[Option<u32>], world: &World) -> bool
     requires size { length depths.now ≡ length world.now.objects }
     requires graph { IsGraph (opening world.now) }
@@ -96,7 +96,7 @@ fn are_bounds(depths: &[Option<u32>], world: &World) -> bool
 
 // Chains
 
-/// What stands in a part of an object, and nil where it has no such part.
+/// The value in a part of an object; nil if it has no such part.
 fn value_in(body: &Body, part: Part) -> Value
     ensures { result ≡ value_in body.now part }
 {
@@ -113,7 +113,7 @@ fn value_in(body: &Body, part: Part) -> Value
     }
 }
 
-/// A part of an object refers to the object to which the hop leads.
+/// Whether the part of the object `from` that the hop names refers to the object to which the hop leads.
 fn refers(objects: &[Object], from: u64, hop: Hop) -> bool
     ensures { IsTrue result ↔ Refers objects.now from hop }
 {
@@ -123,7 +123,7 @@ fn refers(objects: &[Object], from: u64, hop: Hop) -> bool
     is_ref(hop.to, value_in(&object_at(objects, from).body, hop.part))
 }
 
-/// References lead from one object to another.
+/// Whether the references lead from one object to the other.
 fn leads(objects: &[Object], from: u64, hops: &[Hop], to: u64) -> bool
     ensures { IsTrue result ↔ Leads objects.now from hops.now to }
 {
@@ -137,7 +137,7 @@ fn leads(objects: &[Object], from: u64, hops: &[Hop], to: u64) -> bool
     at == to
 }
 
-/// What stands in the register that is named, and nil where there is none.
+/// The value in the register that is named; nil if there is none.
 fn register_value(registers: &[Value], part: Part) -> Value
     ensures { result ≡ register_value registers.now part }
 {
@@ -150,7 +150,7 @@ fn register_value(registers: &[Value], part: Part) -> Value
     }
 }
 
-/// A register leads to the object.
+/// Whether the hops are a chain from a register to the object.
 fn is_chain(world: &World, hops: &[Hop], object: u64) -> bool
     ensures { IsTrue result ↔ IsChain (opening world.now) hops.now object }
 {
@@ -166,7 +166,7 @@ fn is_chain(world: &World, hops: &[Hop], object: u64) -> bool
 
 // Answers
 
-/// So many hops are a chain as long as the depth.
+/// Whether this many hops are a chain as long as the depth.
 fn has_length(depth: Option<u32>, hops: usize) -> bool
     ensures { result ≡ has_length depth hops }
 {
@@ -176,7 +176,7 @@ fn has_length(depth: Option<u32>, hops: usize) -> bool
     }
 }
 
-/// The answer is a chain as long as the object is deep, or that it has no depth.
+/// Whether the answer is a chain as long as the object is deep, or `Free` for an object without a depth.
 fn is_answered(world: &World, depths: &[Option<u32>], object: u64, held: &Held) -> bool
     requires { object < length depths.now }
     ensures { IsTrue result ↔ IsAnswered (opening world.now) depths.now object held.now }
@@ -190,8 +190,8 @@ fn is_answered(world: &World, depths: &[Option<u32>], object: u64, held: &Held) 
     }
 }
 
-/// Whether an answer is one of `why`, but for the choice among chains of the same length: it is false of an answer whose chain is
-/// no chain, or is longer than some chain, or that says `Free` of an object that is held. It takes no memory, and follows each
+/// Whether an answer is one of `why`, except for the choice among chains of the same length. The result is false if the hops aren't
+/// a chain, if some chain is shorter, or if the answer is `Free` for an object that is held. Allocates no memory, and follows each
 /// reference once.
 pub fn check_why(world: &World, object: u64, answer: &Why) -> bool
     requires graph { IsGraph (opening world.now) }

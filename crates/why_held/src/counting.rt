@@ -8,7 +8,7 @@ use lisp_graph::{Body, NoMemory, Object, World};
 use std::alloc::Global;
 use std::collections::BTreeMap;
 
-/// The code of a block, and none for a cons.
+/// The code of a block; None for a cons.
 fn code_of(body: &Body) -> Option<u16>
     ensures { result ≡ code_of body.now }
 {
@@ -18,7 +18,7 @@ fn code_of(body: &Body) -> Option<u16>
     }
 }
 
-/// What is counted of an object.
+/// What a census uses of an object.
 fn counted_object(object: &Object) -> Counted
     ensures { result ≡ counted_object object.now }
 {
@@ -29,7 +29,7 @@ fn counted_object(object: &Object) -> Counted
     }
 }
 
-/// Counts all objects of a world, of which there are fewer than 2^32. Each is looked at once. It fails only where memory runs
+/// Counts all objects of a world, of which there are fewer than 2^32. Each is looked at once. It fails only if memory runs
 /// out.
 pub fn census(alloc: Global, world: &World) -> Result<CensusRows, NoMemory>
     requires { length world.now.objects < 2 ^ 32 }

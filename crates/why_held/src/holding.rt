@@ -23,7 +23,7 @@ pub(crate) fn is_ref(object: u64, value: Value) -> bool
     }
 }
 
-/// The place of the first of these values that refers to an object to which one of them does.
+/// The index of the first of these values that refers to the object; one of them does.
 fn first_reference(values: &[Value], object: u64) -> usize
     requires { refers_in object values.now ≡ true }
     ensures first { IsFirst (λ place. is_ref object (value_at values.now place)) result }
@@ -36,7 +36,7 @@ fn first_reference(values: &[Value], object: u64) -> usize
     place
 }
 
-/// The first part of an object that refers to another one to which a part does.
+/// The first part of an object that refers to another object; one of its parts does.
 fn first_part(body: &Body, object: u64) -> Part
     requires refers { body_refers object body.now ≡ true }
     requires wide { width body.now ≤ 2047 }
@@ -56,7 +56,7 @@ fn first_part(body: &Body, object: u64) -> Part
     }
 }
 
-/// The first register that refers to an object to which one does.
+/// The first register that refers to an object; one of them does.
 fn first_hop(registers: &[Value], object: u64) -> Hop
     requires refers { refers_in object registers.now ≡ true }
     requires few { length registers.now ≤ 256 }
@@ -145,7 +145,7 @@ fn held_of(
 /// Why an object of a world is held: a shortest chain of references from a register to it, and the depths of all objects. The
 /// chain is chosen backwards: each reference is from the lowest numbered object that is one less deep, and from the first of
 /// its parts that refer to the object; the first hop is from the lowest register. The world has at most 256 registers and
-/// fewer than 2^32 objects. It takes memory for all objects, and follows each reference twice.
+/// fewer than 2^32 objects. It allocates memory for all objects, and follows each reference twice.
 pub fn why(alloc: Global, world: &World, object: u64) -> Result<Why, NoMemory>
     requires graph { IsGraph (opening world.now) }
     requires registers { length world.now.roots ≤ 256 }

@@ -1,4 +1,4 @@
-//! What holds of every census.
+//! Laws on every census.
 ghost use Rattle.std.specs.Prelude.{ℕ, List, map};
 ghost use Rattle.lisp_graph.specs.Graph.{Graph, IsGraph};
 ghost use Rattle.lisp_graph.specs.KeyedGraph.{KeyedGraph, keyed};

@@ -1,7 +1,7 @@
 //! Why an object of a world is held, and how many objects of each kind there are.
 //!
-//! `why` answers a shortest chain of references from a register to an object (specs/Chains), chosen as specs/Choice says, and
-//! `check_why` tells whether such an answer is right. `census` counts all objects of a world, and `reached` those that the
+//! `why` returns a shortest chain of references from a register to an object (specs/Chains), chosen as specs/Choice says, and
+//! `check_why` decides whether such an answer is right. `census` counts all objects of a world, and `reached` those that the
 //! registers of a walk reach (specs/Census, specs/Reached); `why_text` and `census_text` write what a program prints of them.
 //! Begin with `chain` and `holding`, and with `rows` and `reaching`.
 #![tactic(auto)]

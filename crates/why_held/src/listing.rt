@@ -24,7 +24,7 @@ fn push_code(text: &mut Text, code: Option<u16>) -> Result<(), NoMemory>
     }
 }
 
-/// A count and a charge, each behind a space.
+/// A count and a charge, each after a space.
 #[tactic(auto, using(std::proofs::Common::append_assoc))]
 fn push_count(text: &mut Text, count: u64, charge: u64) -> Result<(), NoMemory>
     ensures { OnOk result (text.new ≡ text.old ++ 32 ∷ decimal count ++ 32 ∷ decimal charge) }
@@ -45,7 +45,7 @@ fn push_head(text: &mut Text, areas: &[AreaRule], row: CensusRow) -> Result<(), 
     push_code(text, row.code)
 }
 
-/// The line of a row, of whose objects so many are reached and have this charge. The two counts add up to the row's, and so do the
+/// The line of a row: `count` of its objects are reached, and have the charge `charge`. The two counts add up to the row's, and so do the
 /// charges.
 #[tactic(auto, using(std::proofs::Common::append_assoc))]
 fn push_line(
@@ -91,14 +91,14 @@ fn same_code(code: Option<u16>, other: Option<u16>) -> bool
     }
 }
 
-/// Two rows of one area and code.
+/// Whether two rows are of one area and code.
 fn same_kind(row: CensusRow, other: CensusRow) -> bool
     ensures { result ≡ same_kind row other }
 {
     row.area == other.area && same_code(row.code, other.code)
 }
 
-/// The first of these rows, where it is of the same kind.
+/// The first of these rows, if it is of the same kind.
 fn found(row: CensusRow, reached: &[CensusRow]) -> Option<CensusRow>
     ensures { result ≡ found row reached.now }
 {
@@ -113,7 +113,7 @@ fn found(row: CensusRow, reached: &[CensusRow]) -> Option<CensusRow>
     }
 }
 
-/// The lines of rows, each with the next of those that are reached where that is of its kind. Each row is looked at once.
+/// The lines of rows, each with the next of the reached rows if that is of its kind. Each row is looked at once.
 fn push_rows(
     text: &mut Text,
     areas: &[AreaRule],
@@ -135,7 +135,7 @@ fn push_rows(
 }
 
 /// The text of a census: a line for each row of all objects, with the counts and charges of those that are reached and of the
-/// others, and a last line. It fails only where memory runs out.
+/// others, and a last line. It fails only if memory runs out.
 pub fn census_text(
     alloc: Global,
     areas: &Areas,

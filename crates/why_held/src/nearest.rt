@@ -11,7 +11,7 @@ use crate::search::{depth_at, object_at};
 use lisp_graph::{Body, NoMemory, Object, Sequence, Value};
 use std::alloc::Global;
 
-/// The first depth is one less than the second.
+/// Whether the first depth is one less than the second.
 fn is_one_less(less: Option<u32>, more: Option<u32>) -> bool
     ensures { result ≡ is_one_less less more }
 {
@@ -29,7 +29,7 @@ pub(crate) fn nearest_at(nearest: &[Option<u64>], object: u64) -> Option<u64>
     nearest[object as usize]
 }
 
-/// A value in the object `from` may be the first reference to an object that is one deeper.
+/// Records the object `from` for the object to which a value in it refers, if that is one deeper and none was recorded for it.
 fn offer(nearest: &mut Sequence<Option<u64>>, depths: &[Option<u32>], from: u64, value: Value)
     requires depths { length depths.now ≡ length nearest.old }
     requires from { from < length nearest.old }
@@ -45,7 +45,7 @@ fn offer(nearest: &mut Sequence<Option<u64>>, depths: &[Option<u32>], from: u64,
     }
 }
 
-/// Each of these values may be.
+/// Does this for each of these values.
 fn offer_all(
     nearest: &mut Sequence<Option<u64>>,
     depths: &[Option<u32>],
@@ -62,7 +62,7 @@ fn offer_all(
     }
 }
 
-/// Each part of the object `from` may be.
+/// Does this for each part of the object `from`.
 fn offer_parts(nearest: &mut Sequence<Option<u64>>, depths: &[Option<u32>], from: u64, body: &Body)
     requires depths { length depths.now ≡ length nearest.old }
     requires from { from < length nearest.old }

@@ -8,7 +8,7 @@ ghost use Rattle.why_held.specs.Reached.{Meets};
 use lisp_graph::{NoMemory, Seen, Walk};
 use world_text::{DumpFault, Numbering};
 
-/// The object with this key is found, if it wasn't before.
+/// Adds the object with this key to those that were found, if it isn't among them.
 fn meet(met: &mut Numbering, key: u64, cons: bool) -> Result<(), NoMemory>
     ensures ok { OnOk result (Meets (seen_as cons key ∷ []) met.old met.new) }
     ensures known { (graph : KeyedGraph) → Shows graph (seen_as cons key) → IsKnown graph met.old → OnOk result (IsKnown graph met.new) }
@@ -20,7 +20,7 @@ fn meet(met: &mut Numbering, key: u64, cons: bool) -> Result<(), NoMemory>
     Ok(())
 }
 
-/// The object to which a value refers is found.
+/// Adds the object to which a value refers, if there is one.
 fn meet_value(met: &mut Numbering, value: Seen) -> Result<(), NoMemory>
     ensures ok { OnOk result (Meets (value ∷ []) met.old met.new) }
     ensures known { (graph : KeyedGraph) → Shows graph value → IsKnown graph met.old → OnOk result (IsKnown graph met.new) }
@@ -32,7 +32,7 @@ fn meet_value(met: &mut Numbering, value: Seen) -> Result<(), NoMemory>
     }
 }
 
-/// The objects to which the registers refer are found.
+/// Adds the objects to which the registers refer.
 pub(crate) fn meet_registers<W: Walk>(walk: &mut W, met: &mut Numbering) -> Result<(), DumpFault>
     requires { IsKnown (W.graph walk.old) met.old }
     ensures ok { OnOk result (Meets (W.graph walk.old).registers met.old met.new) }
@@ -50,7 +50,7 @@ pub(crate) fn meet_registers<W: Walk>(walk: &mut W, met: &mut Numbering) -> Resu
     Ok(())
 }
 
-/// The objects to which the fields of an object refer, which are so many, are found.
+/// Adds the objects to which the fields of an object refer.
 pub(crate) fn meet_fields<W: Walk>(
     walk: &mut W,
     met: &mut Numbering,

@@ -14,7 +14,7 @@ use std::alloc::Global;
 use std::collections::BTreeMap;
 use world_text::{DumpFault, Numbering};
 
-/// What is counted of an object of this form.
+/// What a census uses of an object of this form.
 fn counted_form(form: Form, cons: bool) -> Counted
     ensures { result ≡ counted_form form cons }
 {
@@ -25,7 +25,7 @@ fn counted_form(form: Form, cons: bool) -> Counted
     }
 }
 
-/// An object that was found is counted, and those to which its fields refer are found.
+/// Counts an object that was found, and adds those to which its fields refer.
 fn count_object<W: Walk>(
     walk: &mut W,
     met: &mut Numbering,
@@ -48,7 +48,7 @@ fn count_object<W: Walk>(
     meet_fields(walk, met, key, form.length)
 }
 
-/// The objects that are reached are found and counted, one after another.
+/// Finds and counts the reachable objects, one after another.
 fn count_objects<W: Walk>(
     walk: &mut W,
     met: &mut Numbering,
@@ -71,8 +71,8 @@ fn count_objects<W: Walk>(
     Ok(())
 }
 
-/// Counts the objects that the registers of a walk reach, whose areas are these. Each object is looked at once, and each of its
-/// fields. It fails where memory runs out, where more than 2^32 - 1 objects are reached, and where the swap fails.
+/// Counts the objects that the registers of a walk reach; the world has these areas. Each object is looked at once, and so is each of its
+/// fields. It fails if memory runs out, if more than 2^32 - 1 objects are reached, or if a page call of the swap device fails.
 pub fn reached<W: Walk>(
     alloc: Global,
     walk: &mut W,

@@ -1,7 +1,7 @@
 //! The rows of a census.
 use lisp_graph::Sequence;
 
-/// The conses of an area, where the code is none, or its blocks of one code: how many they are, and what they are charged
+/// The conses of an area, if the code is None, or its blocks of one code: how many they are, and what they are charged
 /// together, in words.
 #[derive(Clone, Copy, Debug, PartialEq, Eq)]
 pub struct CensusRow {
@@ -14,7 +14,7 @@ pub struct CensusRow {
 /// The rows of a census: in the order of areas, and in each area conses first, then blocks by ascending code.
 pub type CensusRows = Sequence<CensusRow>;
 
-/// What is counted of an object: its area, the code of a block or none for a cons, and its charge in words.
+/// What a census uses of an object: its area, the code of a block or None for a cons, and its charge in words.
 #[derive(Clone, Copy, Debug)]
 pub struct Counted {
     pub area: u8,

@@ -33,7 +33,7 @@ pub(crate) fn depth_at(depths: &[Option<u32>], object: u64) -> Option<u32>
     depths[object as usize]
 }
 
-/// The object to which a value refers is found, if it wasn't before.
+/// Gives a depth to the object to which a value refers, if there is one and it has none.
 fn find(search: &mut Search, value: Value, depth: u32) -> Result<(), NoMemory>
     requires { RefersBelow (length search.old.depths) value }
     ensures { OnOk result (Finds depth (value ∷ []) search.old search.new) }
@@ -53,7 +53,7 @@ fn find(search: &mut Search, value: Value, depth: u32) -> Result<(), NoMemory>
     }
 }
 
-/// The objects to which these values refer are found.
+/// Does this for the objects to which these values refer.
 fn find_all(search: &mut Search, values: &[Value], depth: u32) -> Result<(), NoMemory>
     requires { All (RefersBelow (length search.old.depths)) values.now }
     ensures { OnOk result (Finds depth values.now search.old search.new) }
@@ -64,7 +64,7 @@ fn find_all(search: &mut Search, values: &[Value], depth: u32) -> Result<(), NoM
     Ok(())
 }
 
-/// The objects to which the parts of an object refer are found.
+/// Does this for the objects to which the parts of an object refer.
 fn find_parts(search: &mut Search, body: &Body, depth: u32) -> Result<(), NoMemory>
     requires { PartsReferBelow (length search.old.depths) body.now }
     ensures { OnOk result (Finds depth (parts_of body.now) search.old search.new) }
@@ -78,7 +78,7 @@ fn find_parts(search: &mut Search, body: &Body, depth: u32) -> Result<(), NoMemo
     }
 }
 
-/// The objects to which those that were found from `start` on refer are found.
+/// Does this for the objects to which those refer that were found from `start` on.
 fn find_next(
     search: &mut Search,
     objects: &[Object],

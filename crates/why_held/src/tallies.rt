@@ -35,7 +35,7 @@ fn more(tally: Option<Tally>, charge: u32) -> Tally
     }
 }
 
-/// An object is counted.
+/// Counts an object.
 pub(crate) fn count(tallies: &mut Tallies, one: Counted) -> Result<(), NoMemory>
     requires { HasRoom (get kind_cmp tallies.old (one.area, one.code)) }
     ensures { OnOk result (Counts one tallies.old tallies.new) }

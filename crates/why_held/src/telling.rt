@@ -1,4 +1,4 @@
-//! The text that tells why an object is held.
+//! The text that says why an object is held.
 ghost use Rattle.std.specs.Prelude.{◌≡◌, ◌++◌, OnOk, IfOk};
 ghost use Rattle.why_held.specs.WhyText.{held_text, hop_line, hop_lines, level_line, level_lines, part_text, why_text};
 
@@ -48,7 +48,7 @@ fn push_hops(text: &mut Text, hops: &[Hop]) -> Result<(), NoMemory>
     Ok(())
 }
 
-/// The lines of a chain, or that there is none.
+/// The lines of a chain, or `free`.
 #[tactic(auto, using(std::proofs::Common::append_assoc))]
 fn push_held(text: &mut Text, held: &Held) -> Result<(), NoMemory>
     ensures { OnOk result (text.new ≡ text.old ++ held_text held.now) }
@@ -94,7 +94,7 @@ fn push_levels(text: &mut Text, depths: &[Option<u32>]) -> Result<(), NoMemory>
 }
 
 /// The text of an answer: whether the object is held, and by which chain; the depths of the objects that have one; and a last
-/// line. It fails only where memory runs out.
+/// line. It fails only if memory runs out.
 #[tactic(auto, using(std::proofs::Common::append_assoc))]
 pub fn why_text(alloc: Global, why: &Why) -> Result<Text, NoMemory>
     ensures { IfOk result (λ text. text ≡ why_text why.now) }

@@ -1,4 +1,4 @@
--- The census of what is reached in the graph shown is that of each state for which the ground and the registers stand.
+-- The census of what is reached in the graph shown is that of each state that the ground and the registers represent.
 use Rattle.std.proofs.Common.{◌≡◌, ℕ, zero, suc, ◌+◌, ◌<◌, inl, inr, true, sym, ◌∙◌, ap, subst, List, [], ◌∷◌, length, get_or, map, Some, arith}
 use Rattle.std.specs.Prelude.{nat_eq}
 use Rattle.std.proofs.lemmas.Map.Views.{Contains-from_any}

@@ -130,7 +130,7 @@ module _ (m : Memory.Store) (t : Table) (k : RoleMap) (top : ℕ) (areas : List 
       let r = placed_ref k.at (part_of (object s n).body i) a (sym (part_placed k.at (object s n).body i low) ∙ e) in
       subst (λ (x : ℕ). held_at k s x ≡ true) r.2 (is_held_at r.0 (part_used m t k top areas s aim on n i r.0 used low r.1))
 
-  -- what stands at a held address refers to held addresses
+  -- what is at a held address refers to held addresses
   pub body_held : (a b : ℕ) → held_at k s a ≡ true → body_refers b (object_at (objects_in m t) a).body ≡ true → held_at k s b ≡ true
   body_held a b held r =
       let w = who_is_held a held in
@@ -172,9 +172,9 @@ module _ (m : Memory.Store) (t : Table) (k : RoleMap) (top : ℕ) (areas : List 
 pub reached_are_held : ReachedAreHeld
 reached_are_held m t k top areas s aim registers values on means a e = reached_held m t k top areas s aim on registers values means a e
 
--- What a walk tells
+-- What a walk returns
 
--- a reference is shown as it is, where its object is reached
+-- a reference is shown as it is, if its object is reached
 shows_body : (m : Memory.Store) (t : Table) (registers : List Parts) (a : ℕ) → is_reached m t registers a ≡ true → (body : Body) → (object_at (objects_in m t) a).body ≡ body
     → Shows (shown_by m t registers) (seen_body a body)
 shows_body m t registers a reached (Cons car cdr) e = (reached, ap width e, ap code_of e, ap is_cons e)

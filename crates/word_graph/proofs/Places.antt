@@ -1,4 +1,4 @@
--- Words show the objects that a ground stands for, by their places.
+-- Words show the objects that a ground represents, by their places.
 use Rattle.std.proofs.Common.{◌≡◌, ℕ, zero, suc, ◌+◌, ◌<◌, ◌==◌, inl, inr, Bool, true, false, if◌then◌else◌, refl, sym, ◌∙◌, ap, subst, List, length, get_or, map, Option, Some, None, arith}
 use Rattle.std.specs.List.{range_with_len}
 use Rattle.std.proofs.lemmas.List.{get_or-map, length-map, ext_get_or}
@@ -60,7 +60,7 @@ named_by : (o : Option ℕ) (q : ℕ) → as_ref o ≡ Some (V.Ref q) → o ≡ 
 named_by None q e = absurd cc
 named_by (Some n) q e = let same : n ≡ q = cc in ap Some same
 
--- where a word has a value, no header stands
+-- if a word has a value, it isn't a header
 no_header_body : (words : List Parts) (role : ℕ → Role) (c : Content) (v : Value) (at : ℕ) → value_of role c ≡ Some v → body_by words at c ≡ Cons (value_in words (car_in words at)) (value_in words (cdr_in words at))
 no_header_body words role Null v at e = absurd cc
 no_header_body words role NilWord v at e = refl
@@ -192,7 +192,7 @@ module _ (m : Memory.Store) (t : Table) (k : RoleMap) (top : ℕ) (areas : List 
       ∙ ap (λ (c : ℕ). record { area = (object s n).area; charge = c; body = body_by m.words (k.at n) (word_at m.words (k.at n)).content }) (charge_place n used)
       ∙ ap (λ (b : Body). record { area = (object s n).area; charge = (object s n).charge; body = b }) (body_place n used)
 
-  -- in the graph it stands at its place
+  -- in the graph it is at its place
   pub object_there : (n : ℕ) → in_use s n → object_at (objects_in m t) (k.at n) ≡ placed_object k.at (object s n)
   object_there n used =
       get_or-map-range_with_len (object_in m t) 0 (length m.words) (k.at n) (k.at n) no_object (place_inside m t k top areas s aim on_ground n used) (omega arith)

@@ -1,4 +1,4 @@
--- The graph shown is that of each state for which the ground and the registers stand, by other names.
+-- The graph shown is that of each state that the ground and the registers represent, with other names.
 use Rattle.std.proofs.Common.{◌≡◌, ℕ, ◌<◌, ◌==◌, nat_lt, Bool, true, false, ◌&&◌, refl, sym, ◌∙◌, ap, List, length, get_or, map, Option, Some, None, arith}
 use Rattle.std.proofs.lemmas.Bool.Decides.{nat_tests}
 use Rattle.std.proofs.lemmas.List.{get_or-map, length-map, ext_get_or}
@@ -50,7 +50,7 @@ seen_renamed name at n (Block code fields) e = ap S.Block e
 abbrev word_value : Memory.Store → Parts → Value
 word_value m w = value_in m.words w.content
 
--- an object that is held stands at an address
+-- an object that is held is at an address
 abbrev stands_at : RoleMap → Store → ℕ → ℕ → Bool
 stands_at k s a n = is_held s n && (k.at n == a)
 
@@ -85,7 +85,7 @@ module _ (m : Memory.Store) (t : Table) (registers : List Parts) (k : RoleMap) (
 
   -- Values
 
-  -- a value that refers to held objects alone is told by its place
+  -- a value that refers to held objects only is shown by its place
   value_renamed : (v : Value) → ((q : ℕ) → v ≡ V.Ref q → in_use s.store q) → renamed name (keyed_value (objects_in m t) (placed k.at v)) ≡ keyed_value s.store.objects v
   value_renamed (V.Fix i) used = refl
   value_renamed V.Nil used = refl
@@ -146,7 +146,7 @@ module _ (m : Memory.Store) (t : Table) (registers : List Parts) (k : RoleMap) (
         let l = on.kept.names x.0 x.1 in
         ap (λ (n : ℕ). nat_lt n (length s.store.objects)) x.2 ∙ (grind (arith, nat_tests))
 
-    -- what is told of an object by a function of it that looks at no name
+    -- what a function that ignores names gives for an object is the same
     same_told : {A : Type 0} (f : Object → A) → ((o : Object) → f (placed_object k.at o) ≡ f o) → (key : ℕ) → is_numbered keys key ≡ true → f (object_at s.store.objects (name key)) ≡ f (object_at (objects_in m t) key)
     same_told f blind key a =
         let x = object_is key (reached key a) in

@@ -1,4 +1,4 @@
--- Words and objects as they are told.
+-- Words and objects as they are shown.
 use Rattle.std.proofs.Common.{◌≡◌, ◌≢◌, ◌==◌, if◌then◌else◌, ℕ, suc, ◌+◌, ◌<◌, ◌/◌, inl, inr, Bool, true, false, refl, sym, ◌∙◌, ap, subst, List, length, Some, None, Contains, arith}
 use Rattle.std.proofs.lemmas.List.FromFn.{get_or-map-range_with_len, length-map-range_with_len}
 use Rattle.std.proofs.lemmas.Bool.{ne_eqb}
@@ -69,7 +69,7 @@ module _ (m : Store) (t : Table) where
   pub struct_final : (c : Content) (a : ℕ) → CanSee m t c → c ≡ StructAt a → HasFinal m.words a
   struct_final c a can is = has_final AsBlock a (subst (CanSee m t) is can)
 
-  -- and is told by it, and by its kind
+  -- and is shown by it, and by its kind
   told_there : (kind : Kind) (a to : ℕ) (can : CanSee m t (reference kind a)) → Final m.words a to → (body : Body) × (kind_of body ≡ kind) × (told m t (reference kind a) ≡ seen_body to body)
   told_there kind a to can final =
       let r = refers kind a can in
@@ -119,7 +119,7 @@ count_told words at (Header code n) = length-map-range_with_len (λ i. value_in 
 count_told words at (HeaderForward a) = refl
 count_told words at (GcForward a) = refl
 
--- where a word has a value or a header stands, no forward stands
+-- if a word has a value or is a header, it isn't a forward
 no_forward : (role : ℕ → Role) (c : Content) (v : Value) → value_of role c ≡ Some v → forward_of c ≡ None
 no_forward role Null v e = absurd cc
 no_forward role NilWord v e = refl
@@ -130,7 +130,7 @@ no_forward role (Header code n) v e = absurd cc
 no_forward role (HeaderForward a) v e = absurd cc
 no_forward role (GcForward a) v e = absurd cc
 
--- a part of a cons is in the memory where its cdr is
+-- a part of a cons is in the memory if its cdr is
 cons_part_inside : (words : List Parts) (role : ℕ → Role) (at index : ℕ) (c : Content) (v : Value) → value_of role c ≡ Some v → HasCdr words at → HasPart words at index c
 cons_part_inside words role at index Null v e cdr = absurd cc
 cons_part_inside words role at index NilWord v e cdr = cdr

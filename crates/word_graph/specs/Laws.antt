@@ -1,4 +1,4 @@
--- What the words of a ground show of the objects that it stands for.
+-- What the words of a ground show of the objects that it represents.
 use Rattle.std.specs.Prelude.{◌≡◌, ℕ, ◌<◌, ◌≤◌, ◌&&◌, ◌==◌, List, length, get_or, slice_get, map, true, Some, IsTrue}
 use Rattle.store_word.specs.Words.{Parts, null_word}
 use Rattle.store_word.specs.declared.word.Content.{Content}
@@ -42,16 +42,16 @@ placed_body at (Block code fields) = Block code (map (placed at) fields)
 abbrev pub placed_object : (ℕ → ℕ) → Object → Object
 placed_object at o = record o { body = placed_body at o.body }
 
--- forwards are followed to where they lead
+-- forwards are followed to the address to which they lead
 abbrev pub LeadsThere : Type 0
 LeadsThere = (words : List Parts) (fuel count at to : ℕ) → Leads words count at to → count ≤ fuel → led fuel words at ≡ to
 
--- a word's value is told by the place of its object
+-- a word's value is shown by the place of its object
 abbrev pub ValuesArePlaces : Type 0
 ValuesArePlaces = (m : Store) (t : Table) (k : RoleMap) (top : ℕ) (areas : List AreaRule) (s : M.Store) (aim : Condemned) → GroundInvariant m t k top areas s aim
     → (c : Content) (v : Value) → value_of k.role c ≡ Some v → value_in m.words c ≡ placed k.at v
 
--- at its place a held object is told: its area, its charge and its parts
+-- at its place a held object is shown: its area, its charge and its parts
 abbrev pub ObjectsArePlaces : Type 0
 ObjectsArePlaces = (m : Store) (t : Table) (k : RoleMap) (top : ℕ) (areas : List AreaRule) (s : M.Store) (aim : Condemned) → GroundInvariant m t k top areas s aim
     → (n : ℕ) → in_use s n → object_in m t (k.at n) ≡ placed_object k.at (object s n)
@@ -62,40 +62,40 @@ ReachedAreHeld = (m : Store) (t : Table) (k : RoleMap) (top : ℕ) (areas : List
     → GroundInvariant m t k top areas s aim → MeanValues k registers values
     → (a : ℕ) → IsTrue (is_reached m t registers a) → ((n : ℕ) × in_use s n × (k.at n ≡ a))
 
--- What a walk owes
+-- What a walk requires
 
--- there are as many registers; each can be seen, and is told as the graph has it
+-- there is the same number of registers; each can be seen, and is shown as the graph has it
 pub record RegistersAreTold : Type 0 where
   pub count : (m : Store) (t : Table) (registers : List Parts) → length (shown_by m t registers).registers ≡ length registers
   pub can : (m : Store) (t : Table) (registers : List Parts) → CanWalk m t registers → (r : ℕ) → r < length registers → CanSee m t (get_or registers r null_word).content
   pub is : (m : Store) (t : Table) (registers : List Parts) (r : ℕ) → r < length registers → slice_get (shown_by m t registers).registers r ≡ Some (told m t (get_or registers r null_word).content)
 
--- an object stands at each key, below the end of the memory
+-- an object is at each key, below the end of the memory
 pub record KeysAreObjects : Type 0 where
   pub can : (m : Store) (t : Table) (registers : List Parts) → CanWalk m t registers → (key : ℕ) → (shown_by m t registers).has key ≡ true → HasObject m t key
   pub inside : (m : Store) (t : Table) (registers : List Parts) → CanWalk m t registers → (key : ℕ) → (shown_by m t registers).has key ≡ true → key < length m.words
 
--- what a register or a part of an object with a key refers to has a key, and is of the kind that is told
+-- what a register or a part of an object with a key refers to has a key, and is of the kind that is shown
 pub record ReachedShow : Type 0 where
   pub registers : (m : Store) (t : Table) (registers : List Parts) → CanWalk m t registers → (r : ℕ) → r < length registers → Shows (shown_by m t registers) (told m t (get_or registers r null_word).content)
   pub fields : (m : Store) (t : Table) (registers : List Parts) → CanWalk m t registers → (key : ℕ) → (shown_by m t registers).has key ≡ true → (index : ℕ)
       → Shows (shown_by m t registers) ((shown_by m t registers).field key index)
 
--- where nothing is stored the graph is the same,
+-- if nothing is stored the graph is the same,
 abbrev pub ReadsShowTheSame : Type 0
 ReadsShowTheSame = (m m' : Store) (t : Table) (registers : List Parts) → StoresNothing m m' → shown_by m' t registers ≡ shown_by m t registers
 
--- and can be walked over, whatever the marks of its pages are
+-- and a walk over it is possible, for any marks of its pages
 abbrev pub WalksGoOn : Type 0
 WalksGoOn = (m m' : Store) (t : Table) (registers : List Parts) → m'.words ≡ m.words → m'.levels ≡ m.levels → m'.top ≡ m.top → CanWalk m t registers → CanWalk m' t registers
 
 -- The graph of a state
 
--- the least name whose object is held and stands at the address
+-- the least name whose object is held and is at the address
 abbrev pub name_of : RoleMap → M.Store → ℕ → ℕ
 name_of k s a = name_or (lowest (λ n. is_held s n && (k.at n == a)) (length s.objects))
 
--- The graph shown is that of a state for which the ground and the registers stand, by other names, and with the same charges.
+-- The graph shown is that of a state that the ground and the registers represent, with other names, and with the same charges.
 pub record WalkShowsState : Type 0 where
   pub renamed : (m : Store) (t : Table) (registers : List Parts) (k : RoleMap) (s : State) → GroundInvariant m t k s.space.levels s.areas s.store (aim_of s.phase) → MeanValues k registers s.registers
       → (keys : List ℕ) → ((key : ℕ) → is_numbered keys key ≡ true → (shown_by m t registers).has key ≡ true) → IsRenamed (name_of k s.store) keys (shown_by m t registers) (keyed (graph_of s))

@@ -1,4 +1,4 @@
--- What a walker owes: that the ground stands for some objects.
+-- What a walker requires: that the ground represents some objects.
 use Rattle.std.specs.Prelude.{◌≡◌, ℕ, ◌<◌, List, length, get_or, Some}
 use Rattle.store_word.specs.Words.{Parts, null_word}
 use Rattle.store_word.specs.declared.word.Content.{Content}
@@ -17,7 +17,7 @@ pub record MeanValues (k : RoleMap) (registers : List Parts) (values : List Valu
   pub count : length registers ≡ length values
   pub each : (r : ℕ) → r < length values → value_of k.role (get_or registers r null_word).content ≡ Some (get_or values r V.Nil)
 
--- the ground stands for some objects, and the registers' words for values
+-- the ground represents some objects, and the registers' words represent values
 pub record CanWalk (m : Store) (t : Table) (registers : List Parts) : Type 0 where
   pub map : RoleMap
   pub top : ℕ
@@ -28,7 +28,7 @@ pub record CanWalk (m : Store) (t : Table) (registers : List Parts) : Type 0 whe
   pub values : List Value
   pub means : MeanValues map registers values
 
--- the ground stands for some objects, and a word with this content for a value
+-- the ground represents some objects, and a word with this content represents a value
 pub record CanSee (m : Store) (t : Table) (content : Content) : Type 0 where
   pub map : RoleMap
   pub top : ℕ
@@ -39,7 +39,7 @@ pub record CanSee (m : Store) (t : Table) (content : Content) : Type 0 where
   pub value : Value
   pub value_is : value_of map.role content ≡ Some value
 
--- the ground stands for some objects, and one that is held stands at this address
+-- the ground represents some objects, and one that is held is at this address
 pub record HasObject (m : Store) (t : Table) (at : ℕ) : Type 0 where
   pub map : RoleMap
   pub top : ℕ

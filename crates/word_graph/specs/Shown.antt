@@ -28,7 +28,7 @@ abbrev pub onward : Option ℕ → ℕ → (ℕ → ℕ) → ℕ
 onward None at rest = at
 onward (Some next) at rest = rest next
 
--- where at most so many forwards lead
+-- the address to which at most this number of forwards lead
 unfoldable pub led : ℕ → List Parts → ℕ → ℕ
 led zero words at = at
 led (suc n) words at = onward (forward_of (word_at words at).content) at (led n words)
@@ -37,7 +37,7 @@ led (suc n) words at = onward (forward_of (word_at words at).content) at (led n 
 abbrev pub place_of : List Parts → ℕ → ℕ
 place_of words at = led 12 words at
 
--- What stands at a place
+-- What is at a place
 
 -- a value by the place of its object
 abbrev pub value_in : List Parts → Content → Value
@@ -75,7 +75,7 @@ is_reached m t registers = closure (address_graph m t registers).objects (λ a. 
 abbrev pub shown_by : Store → Table → List Parts → KeyedGraph
 shown_by m t registers = record (keyed (address_graph m t registers)) { has = is_reached m t registers }
 
--- What a walk tells of it
+-- What a walk returns of it
 
 -- a word
 abbrev pub told : Store → Table → Content → Seen
@@ -85,7 +85,7 @@ told m t content = keyed_value (objects_in m t) (value_in m.words content)
 abbrev pub form_in : Store → Table → ℕ → Form
 form_in m t at = form_of (object_at (objects_in m t) at)
 
--- a part of it: of a cons the car, then the cdr; of a block a field
+-- a part of it: for a cons the car, then the cdr; for a block a field
 abbrev pub field_in : Store → Table → ℕ → ℕ → Seen
 field_in m t at index = keyed_value (objects_in m t) (part_of (object_at (objects_in m t) at).body index)
 

@@ -1,4 +1,4 @@
--- Where the words of a part are.
+-- The addresses of the words of a part.
 use Rattle.std.specs.Prelude.{ℕ, suc, ◌+◌, ◌<◌, List, length}
 use Rattle.store_word.specs.Words.{Parts}
 use Rattle.store_word.specs.declared.word.Content.{Content}

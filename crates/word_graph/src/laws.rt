@@ -3,7 +3,7 @@ ghost use Rattle.word_graph.specs.Laws.{LeadsThere, ValuesArePlaces, ObjectsAreP
 ghost use Rattle.word_graph.specs.Laws.{RegistersAreTold, KeysAreObjects, ReachedShow, ReadsShowTheSame, WalksGoOn};
 ghost use Rattle.word_graph.specs.Laws.{WalkShowsState, DumpIsOfState, CensusIsOfState};
 
-/// By any map by which a ground stands for objects, its words show these objects by their places, and
+/// By any map by which a ground represents objects, its words show these objects by their places, and
 /// what the registers reach is held.
 pub fn words_show_objects()
     ensures leads { LeadsThere }
@@ -12,7 +12,7 @@ pub fn words_show_objects()
     ensures reached { ReachedAreHeld }
 {}
 
-/// What a walk over registers and what they reach owes, and what it may tell.
+/// What a walk over registers and what they reach requires, and what it may return.
 pub fn words_show_what_is_reached()
     ensures registers { RegistersAreTold }
     ensures keys { KeysAreObjects }
@@ -21,7 +21,7 @@ pub fn words_show_what_is_reached()
     ensures on { WalksGoOn }
 {}
 
-/// The graph that the words show is that of each state for which they stand, and so are its dump and
+/// The graph that the words show is that of each state that they represent, and so are its dump and
 /// the census of what its registers reach.
 pub fn walks_show_states()
     ensures state { WalkShowsState }

@@ -1,7 +1,7 @@
 //! The graph that the words of a ground show: its names are addresses.
 //!
-//! It is told by what stands in the words, with no map (`specs/Shown.antt`). The laws say that it is
-//! the graph of each state that the ground stands for, by other names. The functions tell words and
+//! It is determined by the words alone, with no map (`specs/Shown.antt`). By the laws it is
+//! the graph of each state that the ground represents, with other names. The functions return words and
 //! objects of it, and store nothing.
 #![tactic(auto)]
 

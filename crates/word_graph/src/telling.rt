@@ -1,4 +1,4 @@
-//! The calls of a walk, which has no counter of steps: each opens one for itself.
+//! The calls of a walk, which has no counter of memory accesses: each opens one for itself.
 ghost use Rattle.std.specs.Prelude.{◌≡◌, ◌<◌, IfOk};
 ghost use Rattle.store_word.specs.Faults.{TellsFaults};
 ghost use Rattle.mem_port.specs.Frames.{LeavesRoom};
@@ -66,10 +66,10 @@ fn field_over<M: Memory, L: Ledger>(
     requires object { HasObject (view ground.old) key }
     requires within { index < parts_in (view ground.old) key }
 
-    // What is answered.
+    // What is returned.
     ensures is { IfOk result (λ seen. seen ≡ field_in (view ground.old) key index) }
 
-    // What stays, and faults.
+    // What is unchanged, and swap errors.
     ensures stays { StoresNothing (view ground.old).mem.store (view ground.new).mem.store }
     ensures table { ground.new.table ≡ ground.old.table }
     ensures cause { TellsFaults (view ground.old).mem.faults (view ground.new).mem.faults result }
@@ -78,7 +78,7 @@ fn field_over<M: Memory, L: Ledger>(
     field_at(ground, key, index, &mut Steps::<L>::new(blank))
 }
 
-/// `value_of_word`, without a counter of steps.
+/// `value_of_word`, without a counter of memory accesses.
 pub fn read_word<M: Memory>(ground: &mut Ground<M>, word: Word) -> Result<Seen, SwapFault>
     requires { CanSee (view ground.old) word.content }
     ensures is { IfOk result (λ seen. seen ≡ told (view ground.old) word.content) }
@@ -90,7 +90,7 @@ pub fn read_word<M: Memory>(ground: &mut Ground<M>, word: Word) -> Result<Seen, 
     value_over::<M, Brand>(ground, word, Blank::new(1))
 }
 
-/// `form_at`, without a counter of steps.
+/// `form_at`, without a counter of memory accesses.
 pub fn read_form<M: Memory>(ground: &mut Ground<M>, key: u64) -> Result<Form, SwapFault>
     requires { HasObject (view ground.old) key }
     ensures is { IfOk result (λ form. form ≡ form_in (view ground.old) key) }
@@ -102,7 +102,7 @@ pub fn read_form<M: Memory>(ground: &mut Ground<M>, key: u64) -> Result<Form, Sw
     form_over::<M, Brand>(ground, key, Blank::new(1))
 }
 
-/// `field_at`, without a counter of steps.
+/// `field_at`, without a counter of memory accesses.
 pub fn read_field<M: Memory>(
     ground: &mut Ground<M>,
     key: u64,

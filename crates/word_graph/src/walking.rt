@@ -1,4 +1,4 @@
-//! Words and objects are told, and nothing is stored.
+//! Reads words and objects, and stores nothing.
 ghost use Rattle.std.specs.Prelude.{◌≡◌, ◌+◌, ◌<◌, ◌≤◌, IfOk, length};
 ghost use Rattle.mem_port.specs.View.{Tells, shown};
 ghost use Rattle.area_space.specs.View.{view};
@@ -17,9 +17,9 @@ use obj_layout::resolve;
 use std::sync::ledger::Ledger;
 use store_word::{CdrCode, Content, Steps, SwapFault, Word};
 
-/// The value of a word: a reference by the place of its object, which forwards lead to, into old
-/// regions too. It takes at most twelve steps. A fault stores nothing, and the count of faults
-/// rises.
+/// The value of a word: a reference by the place of its object, to which forwards lead, into old
+/// regions too. It takes at most 12 memory accesses. On a swap error nothing is stored, and the count of swap
+/// errors rises.
 pub fn value_of_word<M: Memory, L: Ledger>(
     ground: &mut Ground<M>,
     word: Word,
@@ -64,7 +64,7 @@ fn pair_charge(second: Word) -> u32
     }
 }
 
-// What the object that begins with this word is charged, in words. It takes at most one step.
+// The charge of the object that begins with this word, in words. It takes at most one memory access.
 fn charge_behind<M: Memory, L: Ledger>(
     mem: &mut M,
     at: u32,
@@ -92,9 +92,9 @@ fn charge_behind<M: Memory, L: Ledger>(
     }
 }
 
-/// What there is to tell of the object at a place: its area, its code and the number of its parts,
-/// and its charge, in words. Its first word is read once. It takes at most two steps. A fault stores nothing, and the count of
-/// faults rises.
+/// The form of the object at a place: its area, its code and the number of its parts,
+/// and its charge, in words. Its first word is read once. It takes at most 2 memory accesses. On a swap error nothing is
+/// stored, and the count of swap errors rises.
 pub fn form_at<M: Memory, L: Ledger>(
     ground: &mut Ground<M>,
     key: u64,
@@ -123,7 +123,7 @@ pub fn form_at<M: Memory, L: Ledger>(
     }
 }
 
-// The cdr of the cons that begins with this word. It takes at most one step.
+// The cdr of the cons that begins with this word. It takes at most one memory access.
 fn cdr_behind<M: Memory, L: Ledger>(
     mem: &mut M,
     at: u32,
@@ -147,7 +147,7 @@ fn cdr_behind<M: Memory, L: Ledger>(
     }
 }
 
-// The word of a part of the object at a place. It takes at most two steps.
+// The word of a part of the object at a place. It takes at most 2 memory accesses.
 fn part_at<M: Memory, L: Ledger>(
     mem: &mut M,
     at: u32,
@@ -174,9 +174,9 @@ fn part_at<M: Memory, L: Ledger>(
     }
 }
 
-/// A part of the object at a place, below the number of its parts: of a cons the car, then the cdr;
-/// of a block a field. It takes at most fourteen steps. A fault stores nothing, and the count of
-/// faults rises.
+/// A part of the object at a place, below the number of its parts: for a cons the car, then the cdr;
+/// for a block a field. It takes at most 14 memory accesses. On a swap error nothing is stored, and the count of
+/// swap errors rises.
 pub fn field_at<M: Memory, L: Ledger>(
     ground: &mut Ground<M>,
     key: u64,

@@ -5,7 +5,7 @@ use Rattle.std.proofs.lemmas.Fmt.{decimal-digits_value}
 use Rattle.world_text.specs.reading.Numbers.{are_digits, number_value}
 use Rattle.world_text.proofs.reading_laws.NumberLaws.{own}
 
--- the first of some
+-- the first element of a part at the front
 first_same : (text : List ℕ) (count : ℕ) → 0 < count → get_or (take count text) 0 0 ≡ get_or text 0 0
 first_same text zero some = absurd (omega arith)
 first_same [] (suc count) some = refl

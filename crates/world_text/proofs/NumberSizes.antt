@@ -9,7 +9,7 @@ use Rattle.world_text.specs.reading.Numbers.{are_digits, is_number, number_in, n
 use Rattle.world_text.proofs.reading_laws.NumberLaws.{number_parts}
 use Rattle.world_text.proofs.reading_laws.Rows.{both}
 
--- digits behind a number make it as many times ten times as large
+-- each digit after a number makes it at least ten times as large
 fold_least : (before : ℕ) (digits : List ℕ) → before * 10 ^ length digits ≤ fold (λ value digit. 10 * value + (digit - 48)) before digits
 fold_least before [] = omega arith
 fold_least before (digit ∷ digits) =
@@ -18,7 +18,7 @@ fold_least before (digit ∷ digits) =
     let more = mul-le-mul_right (10 ^ length digits) most in
     rw (pow-suc 10 (length digits)) (omega (arith, later, more))
 
--- eleven digits, of which the first is not 0, make ten thousand millions at least
+-- eleven digits, of which the first is not 0, make at least ten thousand millions
 large : (word : List ℕ) → 10 < length word → (get_or word 0 0 ≡ 48 → length word ≡ 1) → are_digits word ≡ true → 10 ^ 10 ≤ number_value word
 large [] long first digits = absurd (omega arith)
 large (byte ∷ bytes) long first digits =

@@ -1,4 +1,4 @@
--- Lemmas on what the lines of a world say.
+-- Lemmas on what the lines of a world mean.
 pub mod EachLemmas
 pub mod Runs
 pub mod WordLemmas

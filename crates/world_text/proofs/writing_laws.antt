@@ -1,6 +1,7 @@
 -- Lemmas on how a world is written.
 pub mod Visits
 pub mod Numbers
+pub mod Entries
 pub mod Walks
 pub mod GroupLaws
 pub mod FileLaws

@@ -1,4 +1,4 @@
--- What the lines of a world say.
+-- What the lines of a world mean.
 pub mod Words
 pub mod Numbers
 pub mod Next

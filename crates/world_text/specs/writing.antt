@@ -2,6 +2,7 @@
 pub mod Tails
 pub mod Spelling
 pub mod File
+pub mod NumberTable
 pub mod Numbering
 pub mod Dump
 pub mod Visits

@@ -1,4 +1,4 @@
-//! What a line of a world brings about, and why a line or a dump is refused.
+//! What an accepted line of a world causes, and why a line or a dump is refused.
 ghost use Rattle.std.specs.Prelude.{◌≡◌};
 ghost use Rattle.world_text.specs.declared.fault.WorldFault.TheVariants.{Bad, NoMemory};
 ghost use Rattle.world_text.specs.declared.fault.DumpFault.TheVariants.{NoMemory as no_room, Swap};
@@ -8,13 +8,13 @@ use std::alloc::AllocError;
 use store_word::{NoMemory, SwapFault};
 use thiserror::Error;
 
-/// What an accepted line brings about.
+/// What an accepted line causes.
 #[derive(Clone, Copy, Debug, PartialEq, Eq)]
 pub enum WorldStep {
     Next,
-    /// The world of an input is closed.
+    /// The line closed the world of an input: its trace begins.
     TraceBegins,
-    /// The world of a world file is closed.
+    /// The line closed the world of a world file.
     WorldEnds,
 }
 
@@ -22,9 +22,9 @@ pub enum WorldStep {
 #[derive(Clone, Copy, Debug, Drop, PartialEq, Eq)]
 pub enum WorldFault {
     Bad(Reason),
-    /// With the area of this line the areas want more regions than there are.
+    /// With the area of this line the areas need more regions than there are.
     TooSmall,
-    /// The area's objects so far (`charged`) and those of this line (`wanted`) are charged for more words than its quota.
+    /// With this line the area's objects would be charged for more words than its quota: `charged` so far, and `wanted` by the line.
     Exhausted {
         area: u8,
         charged: u32,
@@ -50,7 +50,7 @@ impl From<NoMemory> for WorldFault {
     }
 }
 
-/// Why a dump is not written.
+/// Why a dump isn't written.
 #[derive(Clone, Copy, Debug, Drop, PartialEq, Eq, Error)]
 pub enum DumpFault {
     /// Memory ran out, or more than 2^32 - 1 objects are reached.

@@ -1,7 +1,7 @@
 //! Worlds as text: read line by line, and dumped.
 //!
-//! `WorldBuilder` takes the lines of a world, each in its place, and refuses each line that breaks a rule with the rule's
-//! reason: what a line says in its place is one definition, `line_at` of specs/reading/Line. `dump_text` writes what a walk shows as a
+//! `WorldBuilder` takes the lines of a world in order, and refuses each line that breaks a rule, with a reason for each
+//! rule: one definition, `line_at` of specs/reading/Line, gives what a line means in its place. `dump_text` writes what a walk shows as a
 //! world file (specs/writing/Dump). Begin with `reading` and its `builder`, and with `writing` and its `dump`.
 #![tactic(auto)]
 

@@ -5,6 +5,7 @@ mod dumped;
 mod file;
 mod file_lines;
 mod groups;
+mod number_table;
 mod numbering;
 mod text;
 mod visit;

@@ -75,7 +75,7 @@ uint32_t heap_level_charged(uint32_t level);
 
 /* Collections.  The levels of a flip are a set of bits, 1 << level, and ALL_LEVELS if it is full.  It returns
    the greatest number of pages of 256 words that it will scan, besides registers and what is condemned.  heap_scan does
-   this number of units of work, or all that remain; the phase is OVER as soon as none remains. */
+   this number of units of work, or all that remain; when none remains, the phase is OVER. */
 enum phase { IDLE, RUNNING, OVER };
 enum { ALL_LEVELS = 0x7f };
 enum phase heap_phase(void);

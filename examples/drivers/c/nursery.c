@@ -8,7 +8,7 @@
 enum { WRITER = 0x80 };                         /* in `remembered` of an object's first word: it is in `writers` */
 
 static struct slots writers;                    /* objects outside that may refer to young ones */
-static struct slots copies;                     /* where each object that moved out is, and its number of words */
+static struct slots copies;                     /* the place of each object that moved out, and its number of words */
 static bool is_full;
 
 static uint32_t nursery_of(uint32_t area)

@@ -1,5 +1,5 @@
 /* A nursery: with NURSERY_WORDS above 0, new objects are placed in that many words of their area's own.  When these
-   are full, the objects that are still reached move out, to where they would be without a nursery.  No command sees these
+   are full, the objects that are still reached move out, to the regions that they would be in without one.  No command sees these
    minor collections. */
 #ifndef NURSERY_H
 #define NURSERY_H

@@ -1,17 +1,14 @@
 #!/usr/bin/env python3
 """driver.py  a template: answers the input on standard input over a runtime of yours. Grade: identity.
 
-The repository reads worlds, runs commands and writes dumps (tools/lib/adapting.py). Put your runtime's calls in the place of
-these methods; objects are Python's own here, and nothing is collected. For the grade space, add `charged`, `husks`,
+The repository reads worlds, runs commands and writes dumps (tools/lib/drive/adapting.py). Put your runtime's calls in the
+place of these methods; objects are Python's own here, and nothing is collected. For the grade space, add `charged`, `husks`,
 `grow`, `flip`, `scan` and `reclaim`, which Heap explains.
 """
-import os
-import sys
 from typing import Any, List
 
-sys.path.insert(0, os.path.join(os.path.dirname(os.path.realpath(__file__)), "..", "..", "..", "tools"))
-from lib.adapting import Heap, run  # noqa: E402
-from lib.values import Obj  # noqa: E402
+from lib.drive.adapting import Heap, run
+from lib.inputs.values import Obj
 
 
 class Item:

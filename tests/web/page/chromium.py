@@ -1,4 +1,4 @@
-"""A headless Chromium that opens a page, presses keys and is asked what it shows, over the pipe of its DevTools protocol."""
+"""A headless Chromium that opens a page, presses keys and reports what it shows, over the pipe of its DevTools protocol."""
 import base64
 import fcntl
 import json
@@ -10,9 +10,9 @@ import tempfile
 import time
 from typing import Any, Optional, Sequence
 
-SECONDS = 60
+SECONDS = 180
 KEYS = {"ArrowRight": 39, "ArrowLeft": 37, "Home": 36, "End": 35, "Tab": 9, "Enter": 13}
-IN, OUT = 3, 4      # where the browser reads commands and writes answers
+IN, OUT = 3, 4      # the descriptors from which the browser reads commands and to which it writes answers
 
 
 class Failed(Exception):
@@ -46,7 +46,11 @@ class Chromium:
         os.close(reads)
         os.close(writes)
         self.count, self.rest, self.session = 0, b"", None
-        self.attach()
+        try:
+            self.attach()
+        except BaseException:
+            self.__exit__()
+            raise
 
     def __enter__(self) -> "Chromium":
         return self
@@ -88,6 +92,15 @@ class Chromium:
         if "error" in told:
             raise Failed(f"{method}: {told['error']['message']}")
         return told["result"]
+
+    def processor_time(self) -> float:
+        """The processor time in seconds that the processes of the browser's pages have taken, with all their threads."""
+        session, self.session = self.session, None
+        try:
+            told = self.call("SystemInfo.getProcessInfo")["processInfo"]
+        finally:
+            self.session = session
+        return sum(one["cpuTime"] for one in told if one["type"] == "renderer")
 
     def open(self, path: str, width: int, height: int) -> None:
         """Opens a file at a size, and waits until it is loaded."""

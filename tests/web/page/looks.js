@@ -13,6 +13,15 @@ URL.createObjectURL = blob => {
   return create(blob);
 };
 
+// Questions to the machine about a dump: the delay in milliseconds after which each is sent, and the number of answers so far.
+window.asked = { wait: 0, answers: 0 };
+const post = Worker.prototype.postMessage;
+Worker.prototype.postMessage = function (data, ...more) {
+  if (data.kind !== "run") return post.call(this, data, ...more);
+  this.addEventListener("message", event => { if (event.data.id === data.id) asked.answers++; });
+  setTimeout(() => post.call(this, data, ...more), asked.wait);
+};
+
 const at = id => document.getElementById(id);
 const svg = () => document.querySelector("#regions svg");
 const texts = selector => [...document.querySelectorAll(selector)].map(one => one.textContent);
@@ -37,6 +46,21 @@ window.look = {
     return [(mark.left - paper.left - pad) / letter, mark.width / letter];
   },
 
+  // The curves of a chart by their names, read back with the scale on the left side: a value for each step.
+  curves: () => {
+    const drawing = document.querySelector("#curves svg"), all = selector => [...drawing.querySelectorAll(selector)];
+    const number = (one, name) => Number(one.getAttribute(name));
+    const grid = all("path.d-grid").map(one => Number(/^M[^,]*,([^h]*)/.exec(one.getAttribute("d"))[1]));
+    const numbers = all('text.quiet[text-anchor="end"]').map(one => Number(one.textContent));
+    const steps = all('text.quiet[text-anchor="middle"]').map(one => [Number(one.textContent), number(one, "x")]);
+    const wide = (steps[steps.length - 1][1] - steps[0][1]) / steps[steps.length - 1][0];
+    const valueOf = y => Math.round((grid[0] - y) / (grid[0] - grid[1]) * (numbers[1] - numbers[0]) * 10) / 10;
+    return Object.fromEntries(all("path[data-series]").map(one => {
+      const corners = [...one.getAttribute("d").matchAll(/(?:M([^,]*),|H([^V]*)V)([-0-9.]*)/g)];
+      const values = corners.map(([, first, next, y]) => [Math.round((Number(first ?? next) - steps[0][1]) / wide), valueOf(Number(y))]);
+      return [one.dataset.series, values];
+    }));
+  },
   // The height of the drawing's letters on the screen.
   letters: () => {
     const box = svg().viewBox.baseVal, shown = svg().getBoundingClientRect(), font = parseFloat(getComputedStyle(svg().querySelector("text.quiet")).fontSize);
@@ -47,6 +71,14 @@ window.look = {
     const whole = svg().getBoundingClientRect(), box = document.querySelector('#regions [data-region="0"] rect').getBoundingClientRect();
     return [whole.width, whole.height, box.left - whole.left, box.top - whole.top].map(Math.round);
   },
+  // How much of its pane the drawn part of the first curves fills: its width and its height.
+  filled: () => {
+    const pane = at("curves").getBoundingClientRect(), shown = document.querySelector("#curves svg").getBoundingClientRect(), whole = document.querySelector("#curves svg").viewBox.baseVal,
+      scale = Math.min(shown.width / whole.width, shown.height / whole.height);
+    return [whole.width * scale / pane.width, whole.height * scale / pane.height];
+  },
+  // Texts of a step that don't fit their pane.
+  cut: () => at("said").scrollHeight > at("said").clientHeight + 1 ? [look.step(), at("said").scrollHeight, at("said").clientHeight] : [],
   main: () => { const box = document.querySelector("main").getBoundingClientRect(); return [box.width, box.height]; },
   page: () => [document.documentElement.scrollWidth, document.documentElement.scrollHeight],
   sideways: () => at("regions").scrollWidth - at("regions").clientWidth,

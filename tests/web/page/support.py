@@ -1,22 +1,25 @@
 """What the tests of the drawing and of the page share: sessions, what lispm_inside writes of them, and drawings by node."""
+import base64
 import glob
 import json
 import os
 import subprocess
-import sys
 import unittest
 from functools import lru_cache
 from typing import Any, Dict, List, NamedTuple
 
+from lib import program
+from lib.inputs import session
+from lib.judge import answers
+from lib.pictures import inside, node
+
 HERE = os.path.dirname(os.path.realpath(__file__))
 TOP = os.path.dirname(os.path.dirname(os.path.dirname(HERE)))
-sys.path[:0] = [os.path.join(TOP, "tools")]
-from lib import answers, inside, node, program, session  # noqa: E402
-
 INSIDE = program.place("lispm_inside", None)
 has_inside, has_node = program.is_there("lispm_inside", None), node.find() is not None
 needs_node = unittest.skipUnless(has_node, "node 18 or later isn't there")
 needs_both = unittest.skipUnless(has_inside and has_node, "lispm_inside isn't built, or node 18 or later isn't there")
+ANSWERS = os.path.join(TOP, "tests", "web_module", "answers.mjs")
 DRAW = os.path.join(TOP, "web", "draw", "draw.mjs")
 
 
@@ -41,14 +44,27 @@ def is_session(path: str) -> bool:
     return b"\ntrace\n" in data and b"\nend\n" in data
 
 
+def path_of(name: str) -> str:
+    return next(path for found, path in sessions().items() if found == name)
+
+
+def lesson(number: int) -> str:
+    return next(path for name, path in sessions().items() if name.startswith(f"tour/{number:02}-"))
+
+
 def parsed(path: str) -> session.Session:
     with open(path, "rb") as file:
         return session.parse(file.read())
 
 
-def inside_text(trace: session.Session, number: int) -> str:
-    """What lispm_inside writes of a session up to a command."""
-    return program.run(INSIDE, [], trace.cut(number).text()).output.decode("latin-1")
+def insides(inputs: List[bytes]) -> List[str]:
+    """What lispm_inside writes of each input. If the module runs in its place, one process of node answers all."""
+    if INSIDE != program.on_node("lispm_inside"):
+        return [program.run(INSIDE, [], data).output.decode("latin-1") for data in inputs]
+    asked = [{"call": "inside", "given": [], "input": base64.b64encode(data).decode()} for data in inputs]
+    ended = subprocess.run([node.find() or "node", ANSWERS], input="".join(json.dumps(one) + "\n" for one in asked).encode(),
+                           stdout=subprocess.PIPE, check=True)
+    return [base64.b64decode(json.loads(line)["output"]).decode("latin-1") for line in ended.stdout.splitlines()]
 
 
 def machine_of(text: str) -> inside.Machine:
@@ -68,7 +84,8 @@ def last_reply(text: str, trace: session.Session, number: int) -> str:
 def steps(path: str) -> List[Step]:
     """Each moment of a session."""
     trace = parsed(path)
-    return [Step(number, trace.areas, inside_text(trace, number)) for number in range(len(trace.commands) + 1)]
+    texts = insides([trace.cut(number).text() for number in range(len(trace.commands) + 1)])
+    return [Step(number, trace.areas, text) for number, text in enumerate(texts)]
 
 
 def drawn(values: List[Dict[str, Any]]) -> List[str]:

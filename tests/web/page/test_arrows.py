@@ -6,14 +6,14 @@ Which references there are is read from lispm_inside's text, and the drawn SVG i
 import random
 import re
 import unittest
-from typing import Any, Dict, List, Tuple
+from typing import Any, Callable, Dict, Iterator, List, Tuple, Union
 
 import drawing
 import support
 from drawing import Drawing
 from support import has_inside, memory_of, needs_both, needs_node, objects_of, sessions, steps, drawn, Step
 
-from lib import inside
+from lib.pictures import inside
 
 # Ways in which regions are laid out.
 WAYS: List[Dict[str, Any]] = [{}, {"across": 1}, {"across": 2}, {"across": 4}, {"stacked": True}, {"font": 24}]
@@ -113,7 +113,7 @@ def digits(draw: random.Random, addresses: List[int]) -> str:
 class Generated(unittest.TestCase):
     """Machines with random words: more arrows than any session has."""
 
-    def test_memory(self):
+    def test_memory(self) -> None:
         found = [generated(seed) for seed in range(60)]
         for step, svg in zip(found, drawn([memory_of(step, **WAYS[step.number % len(WAYS)]) for step in found])):
             scale = WAYS[step.number % len(WAYS)].get("font", 12) / 12
@@ -122,7 +122,7 @@ class Generated(unittest.TestCase):
             self.assertEqual(drawing.wrong(read), [], step.number)
             self.assertEqual((missing_words(machine, read), unfolded(machine, read)), ([], []), step.number)
 
-    def test_moments_side_by_side(self):
+    def test_moments_side_by_side(self) -> None:
         """Two moments in one drawing: each reference of each has its arrow, and none runs into the other."""
         for seed in range(10):
             steps_ = [generated(seed), generated(seed + 100)]
@@ -138,7 +138,7 @@ class Generated(unittest.TestCase):
 class GeneratedObjects(unittest.TestCase):
     """Objects with random references, among them to cells in the middle of a compact list."""
 
-    def test_objects(self):
+    def test_objects(self) -> None:
         found = [generated_objects(seed) for seed in range(60)]
         for step, svg in zip(found, drawn([objects_of(step) for step in found])):
             machine, read = machine_of(step), drawing.read(svg)
@@ -159,7 +159,7 @@ def generated_objects(seed: int) -> Step:
         bodies: Dict[str, List] = {"pair": [2, 3], "run": [0] * (count - 1) + [1], "block": [("header", count)] + [0] * count}
         words += bodies[kind]
 
-    def bits(code) -> int:
+    def bits(code: Union[int, Tuple[str, int]]) -> int:
         if isinstance(code, tuple):
             return 4 << 28 | 9 << 11 | code[1]
         target, tag = draw.choice(starts)
@@ -173,21 +173,23 @@ def generated_objects(seed: int) -> Step:
 
 @needs_both
 class EveryStep(unittest.TestCase):
+    steps: Dict[str, List[Step]]
+
     @classmethod
-    def setUpClass(cls):
-        cls.steps: Dict[str, List[Step]] = {name: steps(path) for name, path in sessions().items()} if has_inside else {}
+    def setUpClass(cls) -> None:
+        cls.steps = {name: steps(path) for name, path in sessions().items()} if has_inside else {}
 
-    def each(self, draws):
+    def each(self, draws: Callable[[Step], Dict[str, Any]]) -> Iterator[Tuple[str, inside.Machine, Drawing]]:
         """Each moment: its name, its machine, and its drawing."""
-        for name, found in self.steps.items():
-            for step, svg in zip(found, drawn([draws(step) for step in found])):
-                yield f"{name} after command {step.number}", machine_of(step), drawing.read(svg)
+        found = [(name, step) for name, steps_ in self.steps.items() for step in steps_]
+        for (name, step), svg in zip(found, drawn([draws(step) for _, step in found])):
+            yield f"{name} after command {step.number}", machine_of(step), drawing.read(svg)
 
-    def test_there_are_sessions(self):
+    def test_there_are_sessions(self) -> None:
         self.assertGreaterEqual(len(self.steps), 24)
-        self.assertGreater(sum(map(len, self.steps.values())), 300)
+        self.assertGreater(sum(len(found) for found in self.steps.values()), 300)
 
-    def test_memory(self):
+    def test_memory(self) -> None:
         for where, machine, found in self.each(memory_of):
             self.assertEqual(drawn_references(found), held_references(machine, found), where)
             self.assertEqual(drawing.wrong(found), [], where)
@@ -195,7 +197,7 @@ class EveryStep(unittest.TestCase):
             registers = [at for at, word in enumerate(machine.registers) if word.tag != "nil"]
             self.assertEqual([at for at in registers if at not in found.registers], [], where)
 
-    def test_objects(self):
+    def test_objects(self) -> None:
         for where, machine, found in self.each(objects_of):
             self.assertEqual(drawing.wrong(found), [], where)
             wanted = [(holder, to) for holder, to in graph_references(machine, found) if to in found.words]
@@ -219,7 +221,7 @@ def reached(machine: inside.Machine) -> List[int]:
 class Planted(unittest.TestCase):
     """A drawing that is spoilt on purpose is found to be wrong."""
 
-    def setUp(self):
+    def setUp(self) -> None:
         self.svg = drawn([memory_of(STEP)])[0]
         self.good = drawing.read(self.svg)
 
@@ -228,29 +230,29 @@ class Planted(unittest.TestCase):
         self.assertNotEqual(svg, self.svg)
         return drawing.read(svg)
 
-    def test_the_drawing_itself_is_right(self):
+    def test_the_drawing_itself_is_right(self) -> None:
         self.assertEqual(drawing.wrong(self.good), [])
         self.assertEqual(drawn_references(self.good), [("0", 2), ("1", 0), ("r0", 0)])
         self.assertEqual(held_references(machine_of(STEP), self.good), [("0", 2), ("1", 0), ("r0", 0)])
 
-    def test_an_arrow_that_is_missing(self):
+    def test_an_arrow_that_is_missing(self) -> None:
         found = self.spoilt(r'<path class="d-arrow reference"[^>]*/>', "")
         self.assertNotEqual(drawn_references(found), held_references(machine_of(STEP), found))
 
-    def test_an_arrow_to_another_word(self):
+    def test_an_arrow_to_another_word(self) -> None:
         found = self.spoilt('data-target="2"', 'data-target="3"')
         self.assertEqual([words for words in drawing.wrong(found) if "to 3 ends at" in words], drawing.wrong_ends(found))
         self.assertNotEqual(drawing.wrong_ends(found), [])
 
-    def test_an_arrow_from_another_word(self):
+    def test_an_arrow_from_another_word(self) -> None:
         self.assertNotEqual(drawing.wrong_ends(self.spoilt('data-holder="0"', 'data-holder="3"')), [])
 
-    def test_an_arrow_through_a_cell(self):
+    def test_an_arrow_through_a_cell(self) -> None:
         box = self.good.words[3]
         found = self.spoilt('(<path class="d-arrow root" d="M[^ ]+ )', rf"\1H{(box.left + box.right) / 2} V{box.bottom + 5} ")
         self.assertIn("runs through a cell", " ".join(drawing.wrong(found)))
 
-    def test_arrows_on_one_another(self):
+    def test_arrows_on_one_another(self) -> None:
         arrow = next(one for one in self.good.arrows if one.target == 2)
         found = self.good._replace(arrows=[*self.good.arrows, arrow._replace(target=3)])
         self.assertNotEqual(drawing.wrong_overlaps(found), [])

@@ -16,7 +16,7 @@ impl RegionTable {
         self.debts[area as usize]
     }
 
-    /// The charges and the husks of the live classes of a level, over all areas, in words. Its time
+    /// The charges and the husks of the live classes of a level, in all areas, in words. Its time
     /// grows with the areas.
     pub fn total(&self, level: u8) -> u32
         requires { level < levels_of self.now }

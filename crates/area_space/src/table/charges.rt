@@ -9,7 +9,7 @@ use super::RegionTable;
 use crate::classes::Origin;
 
 impl RegionTable {
-    // Charges the live class of a slot, as the origin of the charge says.
+    // Charges the live class of a slot, by the origin of the charge.
     pub(crate) fn charge_by(&mut self, slot: u32, charge: u32, origin: Origin)
         requires inside { slot < slots_of self.old }
         requires placed { chain self.old (live slot) ≢ [] }
@@ -51,7 +51,7 @@ impl RegionTable {
         self.debts[area as usize] -= amount;
     }
 
-    // Makes charges of the live class of a place its husks.
+    // Turns charges of the live class of a place into husks.
     pub(crate) fn note_husk(&mut self, at: u32, words: u32)
         requires inside { (slot : ℕ) × Contains (chain self.old (live slot)) (at / 4096) }
         requires enough { (slot : ℕ) → Contains (chain self.old (live slot)) (at / 4096) → words ≤ slice_index self.old.charges (live slot) }
@@ -61,7 +61,7 @@ impl RegionTable {
         self.add_husk(2 * slot, words);
     }
 
-    // Makes charges of a class its husks.
+    // Turns charges of a class into husks.
     fn add_husk(&mut self, class: u32, words: u32)
         requires inside { class < 2 * slots_of self.old }
         requires enough { words ≤ slice_index self.old.charges class }

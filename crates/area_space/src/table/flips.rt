@@ -8,14 +8,14 @@ use lisp_graph::Condemn;
 use store_word::Flags;
 
 impl RegionTable {
-    /// What was condemned by the flip of the collection that runs; None where none runs.
+    /// What the flip of the collection that runs condemned; None if no collection runs.
     pub fn condemned(&self) -> Option<Condemn>
         ensures { result ≡ self.now.aim }
     {
         self.aim
     }
 
-    /// The level at which the survivors of a level stand while a collection runs: 0 in a full one,
+    /// The level of the survivors of a level while a collection runs: 0 in a full collection,
     /// else the next level, or 0 for the greatest.
     pub fn survivor_level(&self, level: u8) -> u8
         requires running { IsSome self.now.aim }
@@ -28,7 +28,7 @@ impl RegionTable {
         }
     }
 
-    // Makes what is condemned old, and the used end of every other live region its flip mark.
+    // Makes what is condemned old, and the used end of each other live region its flip mark.
     pub(crate) fn condemn(&mut self, what: Condemn)
         requires { (region : ℕ) → IsOld self.old region → ⊥ }
         ensures { Condemns self.old self.new what }
@@ -53,7 +53,7 @@ impl RegionTable {
         self.placed = 0;
     }
 
-    // Makes what is live of a slot old, where it is condemned.
+    // Makes the live regions of a slot old, if the slot is condemned.
     fn flip_slot(&mut self, slot: u32, what: Condemn)
         requires inside { slot < slots_of self.old }
         requires empty { chain self.old (stale slot) ≡ [] }
@@ -66,7 +66,7 @@ impl RegionTable {
         }
     }
 
-    // Whether the level and the area of a slot are condemned.
+    // Whether a slot is condemned, by its level and its area.
     fn is_condemned(&self, slot: u32, what: Condemn) -> bool
         requires { slot < slots_of self.now }
         ensures { result ≡ condemns self.now what slot }
@@ -75,7 +75,7 @@ impl RegionTable {
         !self.is_static(slot / levels) && condemned(what, (slot % levels) as u8)
     }
 
-    // Makes what is live of a slot old.
+    // Makes the live regions of a slot old.
     fn turn(&mut self, slot: u32)
         requires inside { slot < slots_of self.old }
         requires empty { chain self.old (stale slot) ≡ [] }

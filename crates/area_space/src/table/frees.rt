@@ -1,4 +1,4 @@
-//! A reclaim: old classes are gone, and their regions free.
+//! A reclaim: old classes become empty, and their regions free.
 ghost use Rattle.std.specs.Prelude.{◌≡◌, ◌<◌, IfSome, IfNone, Some, None, []};
 ghost use Rattle.index_lists.specs.Chains.{first_of};
 ghost use Rattle.area_space.specs.Table.{slots_of, stale, chain};
@@ -33,7 +33,7 @@ impl RegionTable {
         while let Some(_region) = self.release(slot) {}
     }
 
-    // Makes an old class owe nothing.
+    // Removes all charges and husks of an old class.
     fn forgive(&mut self, slot: u32)
         requires { slot < slots_of self.old }
         ensures { self.new ≡ forgiven self.old slot }
@@ -46,7 +46,7 @@ impl RegionTable {
         self.husks[class as usize] = 0;
     }
 
-    // Makes the first region of an old class that owes nothing free, if it has one.
+    // Frees the first region of an old class without charges, if it has one.
     fn release(&mut self, slot: u32) -> Option<u32>
         requires inside { slot < slots_of self.old }
         requires forgiven { debt self.old (stale slot) ≡ 0 }

@@ -1,4 +1,4 @@
-//! Places: where the words of an object fit, a region that is opened for them, and their used end.
+//! Places: room for the words of an object, a region that is opened for them, and their used end.
 ghost use Rattle.std.specs.Prelude.{◌≡◌, ℕ, ◌+◌, ◌-◌, ◌*◌, ◌/◌, ◌<◌, ◌≤◌, IfSome, IfNone, Some};
 ghost use Rattle.index_lists.specs.Chains.{last_of};
 ghost use Rattle.area_space.specs.Table.{areas_of, levels_of, slots_of, slot_of, live, chain, used_of, IsUnclassed, page_list};
@@ -10,7 +10,7 @@ ghost use Rattle.area_space.specs.PageList.{Adds};
 use super::RegionTable;
 
 impl RegionTable {
-    // The used end of a live chain, if so many words fit there.
+    // The used end of a live chain, if this many words fit there.
     pub(crate) fn room(&self, area: u8, level: u8, words: u32) -> Option<u32>
         requires area_in { area < areas_of self.now }
         requires level_in { level < levels_of self.now }
@@ -45,7 +45,7 @@ impl RegionTable {
         self.chains.back(2 * slot)
     }
 
-    // The lowest free region, where there is one.
+    // The lowest free region. There must be one.
     pub(crate) fn lowest_free(&self) -> u32
         requires { ((region : ℕ) → region < self.now.regions → IsUnclassed self.now region → ⊥) → ⊥ }
         ensures inside { result < self.now.regions }

@@ -7,8 +7,8 @@ use super::RegionTable;
 use crate::page_set::PageSet;
 
 impl RegionTable {
-    /// The page of the last word of the latest transport; None where nothing moved since the latest
-    /// flip, or there was no flip. It stays after a reclaim.
+    /// The page of the last word of the latest transport; None if nothing was moved since the
+    /// latest flip, or there was no flip. A reclaim doesn't change it.
     pub fn last_moved(&self) -> Option<u32>
         ensures { result ≡ self.now.last }
     {
@@ -40,7 +40,7 @@ impl RegionTable {
         self.scan.insert(page);
     }
 
-    /// Takes a page out of those that have a word to be scanned.
+    /// Removes a page from those that have a word to be scanned.
     pub fn drop_scan_page(&mut self, page: u32)
         requires { page < 16 * self.old.regions }
         ensures same { self.new ≡ record self.old { pages = self.new.pages } }

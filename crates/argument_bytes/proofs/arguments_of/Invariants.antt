@@ -1,4 +1,4 @@
--- The words and the begun one are the bytes so far, cut at each NUL byte.
+-- The arguments so far and the begun one are the bytes so far, cut at each NUL byte.
 use Rattle.std.proofs.Common.{◌≡◌, map, string_bytes, take}
 use Rattle.argument_bytes.specs.Arguments.{split_at_nuls}
 use Rattle.argument_bytes.proofs.arguments_of.Given as goal

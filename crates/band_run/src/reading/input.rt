@@ -1,4 +1,4 @@
-//! What the lines so far say.
+//! What the lines so far mean.
 ghost use Rattle.std.specs.Prelude.{◌≡◌};
 ghost use Rattle.band_run.specs.Verdict.{new_file, start};
 
@@ -7,7 +7,7 @@ use lisp_graph::{Name, Text};
 use std::alloc::Global;
 use world_text::WorldBuilder;
 
-/// A file that is to be saved, as far as its lines were read.
+/// A file to save, as far as its lines were read.
 #[derive(Drop)]
 pub struct BandFile {
     pub name: Name,
@@ -17,7 +17,7 @@ pub struct BandFile {
 }
 
 impl BandFile {
-    /// The file that is to be saved under this name, before its first line.
+    /// The file to save under this name, before its first line.
     pub fn new(alloc: Global, name: Name) -> BandFile
         ensures { result ≡ new_file name }
     {
@@ -32,11 +32,11 @@ impl BandFile {
 /// An input, as far as its lines were read.
 #[derive(Drop)]
 pub struct BandInput {
-    /// The commands so far, a save among them once its file is whole.
+    /// The commands so far. A save is one of them once its file is whole.
     pub commands: Commands,
-    /// The file of a save, from the line behind `save` up to `end-world`.
+    /// The file of a save, from the line after `save` up to `end-world`.
     pub file: Option<BandFile>,
-    /// The line `end` was read.
+    /// Whether the line `end` was read.
     pub ended: bool,
 }
 

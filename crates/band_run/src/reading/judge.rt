@@ -1,4 +1,4 @@
-//! One line in its place.
+//! Judging one line.
 ghost use Rattle.std.specs.Prelude.{◌≡◌, ◌++◌, [], ◌∷◌, Ok, None, OnOk, ⊤};
 ghost use Rattle.world_text.specs.Line.{line_at};
 ghost use Rattle.line_input.specs.Verdict.{Judged};
@@ -23,7 +23,7 @@ fn push(input: &mut BandInput, command: BandCommand) -> Result<(), RunError>
     }
 }
 
-/// Adds a line with its line feed.
+/// Appends a line and its line feed.
 #[tactic(auto, using(std::proofs::Common::append_assoc))]
 fn push_line(text: &mut Text, line: &[u8]) -> Result<(), NoMemory>
     ensures { OnOk result (text.new ≡ text.old ++ (line.now ++ 10 ∷ [])) }
@@ -32,7 +32,7 @@ fn push_line(text: &mut Text, line: &[u8]) -> Result<(), NoMemory>
     text.push(b'\n')
 }
 
-/// A line where a command may stand.
+/// Judges a line that isn't part of a file.
 fn command_line(
     input: &mut BandInput,
     alloc: Global,
@@ -57,7 +57,7 @@ fn command_line(
     }
 }
 
-/// A line of the file that is to be saved.
+/// Judges a line of a file to save.
 fn file_line(
     input: &mut BandInput,
     file: BandFile,
@@ -92,7 +92,7 @@ fn file_line(
     Ok(())
 }
 
-/// What a text says as a line in its place.
+/// Judges a text as the next line.
 fn line_in(input: &mut BandInput, alloc: Global, number: u64, text: &[u8]) -> Result<(), RunError>
     ensures { Judged input.new result (line_in number input.old input.old.file text.now) }
 {

@@ -1,4 +1,4 @@
-//! A line where a command may stand.
+//! A line that isn't part of a file: a command, or `end`.
 ghost use Rattle.std.specs.Prelude.{◌≡◌};
 ghost use Rattle.world_text.specs.Words.{words_of};
 ghost use Rattle.world_text.specs.Next.{Gives};
@@ -7,19 +7,19 @@ ghost use Rattle.band_run.specs.Lines.{alone, band_line, line_in, name_in};
 use lisp_graph::Name;
 use world_text::{Reason, next_word, split_line};
 
-/// What a line says where a command may stand.
+/// What such a line means.
 #[derive(Debug, Drop)]
 pub enum BandLine {
     Open,
-    /// The lines of a file follow, to be saved under this name.
+    /// The lines of a file follow. It will be saved under this name.
     Save(Name),
     Load(Name),
     List,
-    /// Nothing may follow.
+    /// No line may follow.
     End,
 }
 
-/// A line of one word.
+/// The meaning of a line of one word.
 fn alone(count: usize, line: BandLine) -> Result<BandLine, Reason>
     ensures { result ≡ alone count line }
 {
@@ -30,7 +30,7 @@ fn alone(count: usize, line: BandLine) -> Result<BandLine, Reason>
     }
 }
 
-/// The name in a line of two words. The text stands behind the first of them.
+/// The name in a line of two words. `text` is what follows the first word.
 fn name_in(count: usize, text: &[u8]) -> Result<Name, Reason>
     ensures { Gives (λ x. x) result (name_in count (words_of text.now)) }
 {
@@ -44,7 +44,7 @@ fn name_in(count: usize, text: &[u8]) -> Result<Name, Reason>
     }
 }
 
-/// A line with this first word.
+/// The meaning of a line with this first word.
 #[tactic(auto, unfolding(crate::specs::Lines::line_in))]
 fn line_in(head: &[u8], count: usize, text: &[u8]) -> Result<BandLine, Reason>
     ensures { Gives (λ x. x) result (line_in head.now count (words_of text.now)) }
@@ -69,8 +69,8 @@ fn line_in(head: &[u8], count: usize, text: &[u8]) -> Result<BandLine, Reason>
     Err(Reason::UnknownCommand)
 }
 
-/// What a line says where a command may stand, or why it is refused: it isn't well formed, its first word is no command, it has
-/// the wrong number of words, or its name is none. It takes no memory.
+/// What a line that isn't part of a file means, or why it is refused: it isn't well formed, its first word is no command, it has
+/// the wrong number of words, or its name isn't valid. It allocates no memory.
 pub fn read_line(line: &[u8]) -> Result<BandLine, Reason>
     ensures { Gives (λ x. x) result (band_line line.now) }
 {

@@ -11,8 +11,8 @@ use line_input::{RunError, read_lines};
 use outer_ports::Source;
 use std::alloc::Global;
 
-/// The commands of an input, which is read through one buffer of 32,769 bytes up to its end or its first bad line, and the whole
-/// of it before any of them is answered. The trouble is with the first line that breaks a rule; or the source failed, or memory
+/// The commands of an input, which is read through one buffer of 32,769 bytes up to its end or its first bad line. All of it is
+/// read before any command is answered. The trouble is that of the first line that breaks a rule; or the source failed, or memory
 /// ran out.
 pub fn read_bands<S: Source>(alloc: Global, source: &mut S) -> Result<Commands, RunError>
     ensures was_read { WasRead band_rules start (S.left source.old) (S.left source.new) result }

@@ -18,18 +18,18 @@ use mem_port::Memory;
 use std::sync::ledger::Ledger;
 use store_word::{Steps, SwapFault, Word};
 
-/// What `grow` finds before a block grows.
+/// What `find_growing` finds before a block grows.
 #[derive(Clone, Copy, Debug)]
 pub enum Growing {
-    /// It is answered: the register holds no block, or the block has the fields wanted, or the swap
+    /// The reply is known: the register holds no block, or the block has the requested fields, or the swap
     /// device failed.
     Answered(Reply),
-    /// The block will be charged so many words to its area.
+    /// The block has to grow: this area will be charged this number of words.
     Wants { area: u8, charge: u32 },
 }
 
-/// `grow`, before the quota is asked: whether it is answered, or what the block will be charged. It
-/// places at most 2,048 words. Where no fault comes, it takes at most 59 steps, and 4 for each word
+/// `grow`, up to the test of the quota: finds the reply, or what the block will be charged. It
+/// places at most 2,048 words. If no swap error occurs, it takes at most 59 memory accesses, and 4 for each word
 /// placed.
 pub fn find_growing<M: Memory, L: Ledger>(
     ground: &mut Ground<M>,
@@ -52,7 +52,7 @@ pub fn find_growing<M: Memory, L: Ledger>(
     ensures stays_fresh { RegistersFresh ground.old.table registers.old → AllFresh (view ground.old) → AllFresh (view ground.new) }
     ensures marks { MarksFollow (view ground.old) (view ground.new) }
 
-    // costs and faults
+    // costs and swap errors
     ensures tells { TellsIf (view ground.old).mem (view ground.new).mem steps.old steps.new (is_found_fault result) }
     ensures few { ground.new.table.placed ≤ ground.old.table.placed + 2048 }
     ensures cost { result ≢ Growing.Answered Reply.Fault → steps.new ≤ steps.old + 4 * (ground.new.table.placed - ground.old.table.placed) + 59 }
@@ -72,9 +72,9 @@ pub fn find_growing<M: Memory, L: Ledger>(
     }
 }
 
-/// `grow` of the block in a settled register, which has fewer fields, and whose charge the quota of
-/// its area leaves. It takes at most 40 steps, and 4 for each field wanted. Where no fault comes, the
-/// block has grown, and as many words were placed as it is charged.
+/// `grow` of the block in a settled register, which has fewer fields, and whose charge fits the quota
+/// of its area. It takes at most 40 memory accesses, and 4 for each requested field. If no swap error occurs, the
+/// block has grown, and the number of words placed is its charge.
 pub fn grow<M: Memory, L: Ledger>(
     ground: &mut Ground<M>,
     registers: &[Word],
@@ -90,7 +90,7 @@ pub fn grow<M: Memory, L: Ledger>(
     // what is performed
     ensures performs { Performs (view ground.old) registers.now (view ground.new) registers.now (Command.Grow target wanted) (reply_of result) }
 
-    // faults
+    // swap errors
     ensures tells { TellsIf (view ground.old).mem (view ground.new).mem steps.old steps.new (is_fault (reply_of result)) }
     ensures sure { IfOk result (λ reply. reply ≡ Reply.Fine) }
 

@@ -1,4 +1,4 @@
-//! New blocks go to registers.
+//! Makes new blocks, with a register for each.
 ghost use Rattle.std.specs.Prelude.{◌+◌, ◌<◌, ◌≤◌, length as list_length, OnOk};
 ghost use Rattle.mem_port.specs.View.{TellsIf};
 ghost use Rattle.area_space.specs.View.{view};
@@ -14,10 +14,10 @@ use mem_port::Memory;
 use std::sync::ledger::Ledger;
 use store_word::{Steps, SwapFault, Word};
 
-/// `make`: a new block of this code and so many fields, at most 2,047, into a register. It is made in
+/// `make`: a register gets a new block with this code and this number of fields, at most 2,047. It is made in
 /// an area, at the level of its new objects, and its charge, one more than its fields, has to fit
-/// what the quota leaves. It takes at most 10 steps more than it has fields. Where it was made, at most
-/// as many words were placed as it is charged.
+/// the quota. It takes at most 10 memory accesses more than it has fields. If it was made, the number of
+/// words placed is at most its charge.
 pub fn make<M: Memory, L: Ledger>(
     ground: &mut Ground<M>,
     registers: &mut [Word],
@@ -38,7 +38,7 @@ pub fn make<M: Memory, L: Ledger>(
     // what is performed
     ensures performs { PerformsAt (view ground.old) registers.old (view ground.new) registers.new (Command.Make to area code length) (reply_of result) area level }
 
-    // costs and faults
+    // costs and swap errors
     ensures few { OnOk result (ground.new.table.placed ≤ ground.old.table.placed + (length + 1)) }
     ensures tells { TellsIf (view ground.old).mem (view ground.new).mem steps.old steps.new (is_fault (reply_of result)) }
     ensures cost { steps.new ≤ steps.old + length + 10 }

@@ -1,6 +1,7 @@
-//! The fields of blocks go to registers, and are counted.
+//! Copies the fields of blocks to registers, and counts them.
 ghost use Rattle.std.specs.Prelude.{◌≡◌, ◌<◌, pos, length as list_length};
 ghost use Rattle.area_space.specs.View.{view};
+ghost use Rattle.block_store.specs.transporter.Views.{MovesAtMost};
 ghost use Rattle.heap_commands.specs.Costs.{CommandCosts};
 ghost use Rattle.heap_state.specs.Reads.{reply_of};
 ghost use Rattle.heap_state.specs.Views.{IsConsistent, Performs};
@@ -13,8 +14,8 @@ use mem_port::Memory;
 use std::sync::ledger::Ledger;
 use store_word::{Steps, SwapFault, Word};
 
-/// `size`: how many fields the block in a register has. It places at most 2,048 words. Where no fault
-/// comes, it takes at most 59 steps, and 4 for each word placed.
+/// `size`: how many fields the block in a register has. It places at most 2,048 words. If no swap error
+/// occurs, it takes at most 59 memory accesses, and 4 for each word placed.
 pub fn size<M: Memory, L: Ledger>(
     ground: &mut Ground<M>,
     registers: &mut [Word],
@@ -24,6 +25,7 @@ pub fn size<M: Memory, L: Ledger>(
     requires consistent { IsConsistent (view ground.old) registers.old }
     requires of { of < list_length registers.old }
     ensures performs { Performs (view ground.old) registers.old (view ground.new) registers.new (Command.Size of) (reply_of result) }
+    ensures moves { MovesAtMost (view ground.old) (view ground.new) 1 }
     ensures costs { CommandCosts (view ground.old) (view ground.new) steps.old steps.new result 2048 59 }
 {
     let block = settle_register(ground, registers, of, steps)?;
@@ -35,15 +37,15 @@ pub fn size<M: Memory, L: Ledger>(
     }
 }
 
-// The reply that tells a number of fields.
+// The reply that shows a number of fields.
 fn number(count: u16) -> Reply
     ensures { result ≡ Reply.Number (pos count) }
 {
     Reply::Number(count as i32)
 }
 
-/// `get`: the field of this index of the block in a register into a register. It places at most 4,096
-/// words. Where no fault comes, it takes at most 120 steps, and 4 for each word placed.
+/// `get`: a register gets the field of this index of the block in another. It places at most 4,096
+/// words. If no swap error occurs, it takes at most 120 memory accesses, and 4 for each word placed.
 pub fn get<M: Memory, L: Ledger>(
     ground: &mut Ground<M>,
     registers: &mut [Word],
@@ -56,6 +58,7 @@ pub fn get<M: Memory, L: Ledger>(
     requires to { to < list_length registers.old }
     requires from { from < list_length registers.old }
     ensures performs { Performs (view ground.old) registers.old (view ground.new) registers.new (Command.Get to from index) (reply_of result) }
+    ensures moves { MovesAtMost (view ground.old) (view ground.new) 2 }
     ensures costs { CommandCosts (view ground.old) (view ground.new) steps.old steps.new result 4096 120 }
 {
     let block = settle_register(ground, registers, from, steps)?;

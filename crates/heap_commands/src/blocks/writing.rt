@@ -1,6 +1,7 @@
-//! The values of registers go into fields of blocks.
+//! Copies the values of registers to fields of blocks.
 ghost use Rattle.std.specs.Prelude.{◌<◌, length};
 ghost use Rattle.area_space.specs.View.{view};
+ghost use Rattle.block_store.specs.transporter.Views.{MovesAtMost};
 ghost use Rattle.heap_commands.specs.Costs.{CommandCosts};
 ghost use Rattle.heap_state.specs.Reads.{reply_of};
 ghost use Rattle.heap_state.specs.Views.{IsConsistent, Performs};
@@ -13,8 +14,8 @@ use mem_port::Memory;
 use std::sync::ledger::Ledger;
 use store_word::{Steps, SwapFault, Word};
 
-/// `put`: the value of a register into the field of this index of the block in another. It places at
-/// most 4,096 words. Where no fault comes, it takes at most 107 steps, and 4 for each word placed.
+/// `put`: the field of this index of the block in a register gets the value of another register. It places at
+/// most 4,096 words. If no swap error occurs, it takes at most 107 memory accesses, and 4 for each word placed.
 pub fn put<M: Memory, L: Ledger>(
     ground: &mut Ground<M>,
     registers: &mut [Word],
@@ -27,6 +28,7 @@ pub fn put<M: Memory, L: Ledger>(
     requires target { target < length registers.old }
     requires from { from < length registers.old }
     ensures performs { Performs (view ground.old) registers.old (view ground.new) registers.new (Command.Put target index from) (reply_of result) }
+    ensures moves { MovesAtMost (view ground.old) (view ground.new) 2 }
     ensures costs { CommandCosts (view ground.old) (view ground.new) steps.old steps.new result 4096 107 }
 {
     settle_items(ground, registers, &[target, from], steps)?;

@@ -1,4 +1,4 @@
-//! New conses go to registers.
+//! Makes new conses, with a register for each.
 ghost use Rattle.std.specs.Prelude.{◌+◌, ◌*◌, ◌<◌, ◌≤◌, length, OnOk, get_or};
 ghost use Rattle.area_space.specs.View.{view};
 ghost use Rattle.heap_commands.specs.Costs.{CommandCosts};
@@ -18,9 +18,9 @@ use mem_port::Memory;
 use std::sync::ledger::Ledger;
 use store_word::{Steps, SwapFault, Word};
 
-/// `cons`: a new cons of two registers' values into a register, in an area, at the level of its new
-/// objects. Its charge, 2 words, has to fit what the quota of the area leaves. It places at most 4,098
-/// words. Where no fault comes, it takes at most 96 steps, and 4 for each word placed.
+/// `cons`: a register gets a new cons of the values of two registers, in an area, at the level of its new
+/// objects. Its charge, 2 words, has to fit the quota of the area. It places at most 4,098
+/// words. If no swap error occurs, it takes at most 96 memory accesses, and 4 for each word placed.
 pub fn cons<M: Memory, L: Ledger>(
     ground: &mut Ground<M>,
     registers: &mut [Word],
@@ -42,7 +42,7 @@ pub fn cons<M: Memory, L: Ledger>(
     // what is performed
     ensures performs { PerformsAt (view ground.old) registers.old (view ground.new) registers.new (Command.Cons to area car cdr) (reply_of result) area level }
 
-    // costs and faults
+    // costs and swap errors
     ensures costs { CommandCosts (view ground.old) (view ground.new) steps.old steps.new result 4098 96 }
 {
     settle_items(ground, registers, &[car, cdr], steps)?;
@@ -53,9 +53,9 @@ pub fn cons<M: Memory, L: Ledger>(
     Ok(Reply::Fine)
 }
 
-/// `list`: a new list of 1 to 1,024 registers' values into a register, in an area, at the level of
-/// its new objects. Its charge, 3 words a cons, has to fit what the quota of the area leaves. It places
-/// at most 2,049 words for each item. Where no fault comes, it takes at most 5 steps, 47 for each item,
+/// `list`: a register gets a new list of the values of 1 to 1,024 registers, in an area, at the level of
+/// its new objects. Its charge, 3 words a cons, has to fit the quota of the area. It places
+/// at most 2,049 words for each item. If no swap error occurs, it takes at most 5 memory accesses, 47 for each item,
 /// and 4 for each word placed.
 pub fn list<M: Memory, L: Ledger>(
     ground: &mut Ground<M>,
@@ -78,7 +78,7 @@ pub fn list<M: Memory, L: Ledger>(
     ensures performs { PerformsAt (view ground.old) registers.old (view ground.new) registers.new (Command.List to area items.now) (reply_of result) area level }
     ensures cells { OnOk result (RefersToCells (view ground.new).mem.store.words (get_or registers.new to null_word) (length items.now)) }
 
-    // costs and faults
+    // costs and swap errors
     ensures costs { CommandCosts (view ground.old) (view ground.new) steps.old steps.new result (2049 * length items.now) (47 * length items.now + 5) }
 {
     settle_items(ground, registers, items.as_slice(), steps)?;

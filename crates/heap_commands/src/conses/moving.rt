@@ -1,6 +1,7 @@
-//! A register's value goes to another, and two are compared.
+//! Copies a register's value to another, and compares two.
 ghost use Rattle.std.specs.Prelude.{◌≡◌, ◌<◌, if◌then◌else◌, length};
 ghost use Rattle.area_space.specs.View.{view};
+ghost use Rattle.block_store.specs.transporter.Views.{MovesAtMost};
 ghost use Rattle.heap_commands.specs.Costs.{CommandCosts};
 ghost use Rattle.heap_state.specs.Reads.{reply_of};
 ghost use Rattle.heap_state.specs.Views.{IsConsistent, Performs};
@@ -12,8 +13,8 @@ use mem_port::Memory;
 use std::sync::ledger::Ledger;
 use store_word::{Steps, SwapFault, Word};
 
-/// `move`: the value of a register into another. It places at most 2,048 words. Where no fault comes,
-/// it takes at most 46 steps, and 4 for each word placed.
+/// `move`: a register gets the value of another. It places at most 2,048 words. If no swap error occurs,
+/// it takes at most 46 memory accesses, and 4 for each word placed.
 pub fn copy_register<M: Memory, L: Ledger>(
     ground: &mut Ground<M>,
     registers: &mut [Word],
@@ -25,6 +26,7 @@ pub fn copy_register<M: Memory, L: Ledger>(
     requires to { to < length registers.old }
     requires from { from < length registers.old }
     ensures performs { Performs (view ground.old) registers.old (view ground.new) registers.new (Command.Move to from) (reply_of result) }
+    ensures moves { MovesAtMost (view ground.old) (view ground.new) 1 }
     ensures costs { CommandCosts (view ground.old) (view ground.new) steps.old steps.new result 2048 46 }
 {
     let word = settle_register(ground, registers, from, steps)?;
@@ -39,8 +41,8 @@ fn truth(yes: bool) -> Reply
     if yes { Reply::True } else { Reply::Nil }
 }
 
-/// `eq`: whether two registers have one value. It places at most 4,096 words. Where no fault comes, it
-/// takes at most 116 steps, and 4 for each word placed.
+/// `eq`: whether two registers have the same value. It places at most 4,096 words. If no swap error occurs, it
+/// takes at most 116 memory accesses, and 4 for each word placed.
 pub fn eq<M: Memory, L: Ledger>(
     ground: &mut Ground<M>,
     registers: &mut [Word],
@@ -52,6 +54,7 @@ pub fn eq<M: Memory, L: Ledger>(
     requires left { left < length registers.old }
     requires right { right < length registers.old }
     ensures performs { Performs (view ground.old) registers.old (view ground.new) registers.new (Command.Eq left right) (reply_of result) }
+    ensures moves { MovesAtMost (view ground.old) (view ground.new) 2 }
     ensures costs { CommandCosts (view ground.old) (view ground.new) steps.old steps.new result 4096 116 }
 {
     settle_items(ground, registers, &[left, right], steps)?;

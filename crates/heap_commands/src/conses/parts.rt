@@ -1,7 +1,10 @@
-//! The parts of conses go to registers, and values of registers into them.
-ghost use Rattle.std.specs.Prelude.{◌<◌, length};
+//! Copies the parts of conses to registers, and values of registers to them.
+ghost use Rattle.std.specs.Prelude.{◌<◌, get_or, length};
 ghost use Rattle.area_space.specs.View.{view};
+ghost use Rattle.store_word.specs.Words.{null_word};
+ghost use Rattle.block_store.specs.transporter.Views.{MovesAtMost};
 ghost use Rattle.heap_commands.specs.Costs.{CommandCosts};
+ghost use Rattle.heap_commands.specs.Views.{MovesOrLays};
 ghost use Rattle.heap_state.specs.Reads.{reply_of};
 ghost use Rattle.heap_state.specs.Views.{IsConsistent, Performs};
 
@@ -13,8 +16,8 @@ use mem_port::Memory;
 use std::sync::ledger::Ledger;
 use store_word::{Steps, SwapFault, Word};
 
-/// `car`: the car of the cons in a register into a register. It places at most 4,096 words. Where no
-/// fault comes, it takes at most 119 steps, and 4 for each word placed.
+/// `car`: a register gets the car of the cons in another. It places at most 4,096 words. If no swap
+/// error occurs, it takes at most 119 memory accesses, and 4 for each word placed.
 pub fn car<M: Memory, L: Ledger>(
     ground: &mut Ground<M>,
     registers: &mut [Word],
@@ -26,6 +29,7 @@ pub fn car<M: Memory, L: Ledger>(
     requires to { to < length registers.old }
     requires from { from < length registers.old }
     ensures performs { Performs (view ground.old) registers.old (view ground.new) registers.new (Command.Car to from) (reply_of result) }
+    ensures moves { MovesAtMost (view ground.old) (view ground.new) 2 }
     ensures costs { CommandCosts (view ground.old) (view ground.new) steps.old steps.new result 4096 119 }
 {
     let cons = settle_register(ground, registers, from, steps)?;
@@ -36,8 +40,8 @@ pub fn car<M: Memory, L: Ledger>(
     }
 }
 
-/// `cdr`: the cdr of the cons in a register into a register. It places at most 4,096 words. Where no
-/// fault comes, it takes at most 120 steps, and 4 for each word placed.
+/// `cdr`: a register gets the cdr of the cons in another. It places at most 4,096 words. If no swap
+/// error occurs, it takes at most 120 memory accesses, and 4 for each word placed.
 pub fn cdr<M: Memory, L: Ledger>(
     ground: &mut Ground<M>,
     registers: &mut [Word],
@@ -49,6 +53,7 @@ pub fn cdr<M: Memory, L: Ledger>(
     requires to { to < length registers.old }
     requires from { from < length registers.old }
     ensures performs { Performs (view ground.old) registers.old (view ground.new) registers.new (Command.Cdr to from) (reply_of result) }
+    ensures moves { MovesAtMost (view ground.old) (view ground.new) 2 }
     ensures costs { CommandCosts (view ground.old) (view ground.new) steps.old steps.new result 4096 120 }
 {
     let cons = settle_register(ground, registers, from, steps)?;
@@ -59,8 +64,8 @@ pub fn cdr<M: Memory, L: Ledger>(
     }
 }
 
-/// `rplaca`: the value of a register into the car of the cons in another. It places at most 4,096 words.
-/// Where no fault comes, it takes at most 106 steps, and 4 for each word placed.
+/// `rplaca`: the car of the cons in a register gets the value of another. It places at most 4,096 words.
+/// If no swap error occurs, it takes at most 106 memory accesses, and 4 for each word placed.
 pub fn rplaca<M: Memory, L: Ledger>(
     ground: &mut Ground<M>,
     registers: &mut [Word],
@@ -72,6 +77,7 @@ pub fn rplaca<M: Memory, L: Ledger>(
     requires target { target < length registers.old }
     requires from { from < length registers.old }
     ensures performs { Performs (view ground.old) registers.old (view ground.new) registers.new (Command.Rplaca target from) (reply_of result) }
+    ensures moves { MovesAtMost (view ground.old) (view ground.new) 2 }
     ensures costs { CommandCosts (view ground.old) (view ground.new) steps.old steps.new result 4096 106 }
 {
     settle_items(ground, registers, &[target, from], steps)?;
@@ -84,8 +90,8 @@ pub fn rplaca<M: Memory, L: Ledger>(
     }
 }
 
-/// `rplacd`: the value of a register into the cdr of the cons in another. It places at most 6,146 words.
-/// Where no fault comes, it takes at most 159 steps, and 4 for each word placed.
+/// `rplacd`: the cdr of the cons in a register gets the value of another. It places at most 6,146 words.
+/// If no swap error occurs, it takes at most 159 memory accesses, and 4 for each word placed.
 pub fn rplacd<M: Memory, L: Ledger>(
     ground: &mut Ground<M>,
     registers: &mut [Word],
@@ -97,6 +103,7 @@ pub fn rplacd<M: Memory, L: Ledger>(
     requires target { target < length registers.old }
     requires from { from < length registers.old }
     ensures performs { Performs (view ground.old) registers.old (view ground.new) registers.new (Command.Rplacd target from) (reply_of result) }
+    ensures moves { MovesOrLays (view ground.old) (view ground.new) (get_or registers.new target null_word) (get_or registers.new from null_word) }
     ensures costs { CommandCosts (view ground.old) (view ground.new) steps.old steps.new result 6146 159 }
 {
     settle_items(ground, registers, &[target, from], steps)?;

@@ -10,7 +10,7 @@ use crate::statuses::RunError;
 use std::alloc::Global;
 use world_text::Reason;
 
-/// What the lines so far say, how many they are, and how many bytes they have, their line feeds counted.
+/// What the lines so far mean (`judge`), their number, and how many bytes they have, line feeds included.
 #[derive(Drop)]
 pub struct InputReader<J> {
     pub judge: J,
@@ -18,7 +18,7 @@ pub struct InputReader<J> {
     pub bytes: u64,
 }
 
-/// The trouble with an input that ends behind so many lines before they are whole. One without a line is refused for the reason `empty`.
+/// The trouble with an input that ends after `lines` lines, before it is whole. An input without a line is refused for the reason `empty`.
 pub fn early_end(lines: u64, empty: Reason) -> RunError
     requires { lines < 2 ^ 50 }
     ensures { result ≡ Line (lines + 1) (early_reason lines empty) }
@@ -39,9 +39,9 @@ impl<J> InputReader<J> {
         }
     }
 
-    /// How many bytes of the next line, from 1 to 32,769, decide which limit it breaks, where no line feed is among them: the first one,
-    /// if the lines so far are whole (`whole`), so that none may follow; else those up to the first that is one too many, of an input or
-    /// of a line.
+    /// How many bytes of the next line, from 1 to 32,769, decide which limit it breaks if they contain no line feed: one byte
+    /// if the lines so far are whole (`whole`), so that none may follow; otherwise the bytes up to the first one beyond the limit of
+    /// the input or of a line.
     #[inline(always)]
     pub fn enough_if(&self, whole: bool) -> usize
         requires { self.now.bytes ≤ 2 ^ 40 }
@@ -55,10 +55,10 @@ impl<J> InputReader<J> {
         (LONGEST_INPUT - self.bytes).min(LONGEST_LINE as u64) as usize + 1
     }
 
-    /// The first limit that the next line breaks, whatever it says: none may stand behind lines that are whole (`whole`), an input has at
-    /// most 2^40 bytes, and a line 32,768. The line has `length` bytes, and `size` with its line feed where that stands.
+    /// The first limit that the next line breaks, whatever its text: no line may follow lines that are whole (`whole`), an input has at
+    /// most 2^40 bytes, and a line at most 32,768. The line has `length` bytes, and `size` bytes with its line feed, if it has one.
     ///
-    /// Of a line that doesn't end within its first `enough_if` bytes these are enough.
+    /// If a line doesn't end within its first `enough_if` bytes, these decide.
     #[inline(always)]
     pub fn broken(&self, whole: bool, length: usize, size: usize) -> Option<Reason>
         requires { self.now.bytes ≤ 2 ^ 40 }
@@ -77,7 +77,7 @@ impl<J> InputReader<J> {
         None
     }
 
-    /// Counts one more line, which has this many bytes.
+    /// Goes past a line of this many bytes.
     #[inline(always)]
     pub fn passed(&mut self, size: usize)
         requires place { IsPlace self.old }
@@ -99,7 +99,7 @@ impl<J: LineJudge + Drop> InputReader<J> {
         self.judge.is_whole()
     }
 
-    /// How many bytes of the next line, from 1 to 32,769, decide it, where no line feed is among them.
+    /// How many bytes of the next line, from 1 to 32,769, decide it if they contain no line feed.
     pub fn enough(&self) -> usize
         requires { IsPlace self.now }
         ensures value { result ≡ enough J.rules self.now }
@@ -109,8 +109,8 @@ impl<J: LineJudge + Drop> InputReader<J> {
         self.enough_if(self.is_whole())
     }
 
-    /// Goes past the next line, which has this text and, with its line feed where that stands, this many bytes. Where it is
-    /// refused, or memory runs out, the place isn't to be used again.
+    /// Goes past the next line, which has this text and, including its line feed if it has one, this many bytes. If the line is
+    /// refused, or memory runs out, this place must not be used again.
     pub fn line(&mut self, alloc: Global, text: &[u8], size: usize) -> Result<(), RunError>
         requires place { IsPlace self.old }
         requires some { 1 ≤ size }
@@ -131,7 +131,7 @@ impl<J: LineJudge + Drop> InputReader<J> {
         Ok(())
     }
 
-    /// What the lines say, where they end here; or the trouble, where they aren't whole.
+    /// What the lines mean if they end here; or the trouble if they aren't whole.
     pub fn close(self) -> Result<J::Whole, RunError>
         requires { IsPlace self }
         ensures is { result ≡ ended J.rules (Ok self) }

@@ -11,7 +11,7 @@ use crate::statuses::RunError;
 use outer_ports::Source;
 use std::alloc::Global;
 
-/// Judges line after line, up to the end of the input or the first trouble.
+/// Judges one line after another, up to the end of the input or the first trouble.
 fn judge_lines<J: LineJudge + Drop, S: Source>(
     alloc: Global,
     judge: J,
@@ -42,8 +42,8 @@ fn judge_lines<J: LineJudge + Drop, S: Source>(
     }
 }
 
-/// What the lines of an input say, which is read through one buffer of 32,769 bytes up to its end or its first bad line. The
-/// trouble is with the first line that breaks a rule; or the source failed, or memory ran out.
+/// Reads an input through one buffer of 32,769 bytes, up to its end or its first bad line, and returns what its lines mean. The
+/// trouble is that of the first line that breaks a rule; or the source failed, or memory ran out.
 pub fn read_lines<J: LineJudge + Drop, S: Source>(
     alloc: Global,
     judge: J,

@@ -1,4 +1,4 @@
-//! Small work on a buffer of bytes.
+//! Small operations on a buffer of bytes.
 ghost use Rattle.std.specs.Prelude.{◌≡◌, ◌<◌, ◌≤◌, ◌+◌, ◌-◌, ◌++◌, ℕ, List, true, length, take, drop, slice_index, MatchOption, IfOk, OnErr};
 ghost use Rattle.outer_ports.specs.Ports.{Gave, HasCause, IsAtEnd};
 ghost use Rattle.line_input.specs.Reader.{no_feed};
@@ -6,7 +6,7 @@ ghost use Rattle.line_input.specs.Reader.{no_feed};
 use memchr::memchr;
 use outer_ports::{Source, SourceFault};
 
-/// The first line feed from a place on, where none stands before it.
+/// The position of the first line feed, given that none precedes `from`.
 #[inline(always)]
 pub fn feed_from(bytes: &[u8], from: usize) -> Option<usize>
     requires within { from ≤ length bytes.now }
@@ -31,7 +31,7 @@ fn shift(buffer: &mut [u8], start: usize, end: usize)
     }
 }
 
-/// Where the part stands once there is room behind it.
+/// Makes room after the part: moves it to the front if it reaches the end of the buffer. Returns its start and its end.
 pub fn make_room(buffer: &mut [u8], start: usize, end: usize) -> (usize, usize)
     requires order { start ≤ end }
     requires within { end ≤ length buffer.old }
@@ -47,7 +47,7 @@ pub fn make_room(buffer: &mut [u8], start: usize, end: usize) -> (usize, usize)
     (0, end - start)
 }
 
-/// Takes bytes into the buffer behind the part.
+/// Takes bytes from the source into the buffer, after the part.
 pub fn take_behind<S: Source>(
     source: &mut S,
     buffer: &mut [u8],

@@ -1,6 +1,6 @@
-//! Where a line was found.
+//! The length of a line that was found.
 
-/// How many bytes the next line has without its line feed, and with it.
+/// The number of bytes of the next line without its line feed (`length`), and with it (`size`).
 #[derive(Clone, Copy, Debug, PartialEq, Eq)]
 pub struct Found {
     pub length: usize,

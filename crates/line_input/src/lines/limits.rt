@@ -1,7 +1,7 @@
-//! What no line of an input may exceed.
+//! Limits of lines and inputs.
 
-/// How many bytes an input has at most.
+/// The most bytes of an input.
 pub const LONGEST_INPUT: u64 = 1 << 40;
 
-/// How many bytes a line has at most, its line feed not counted.
+/// The most bytes of a line, its line feed not counted.
 pub const LONGEST_LINE: usize = 32_768;

@@ -1,4 +1,4 @@
-//! Lines through one buffer.
+//! Reading lines through one buffer.
 ghost use Rattle.std.specs.Prelude.{◌≡◌, ◌<◌, ◌≤◌, ◌++◌, ℕ, List, [], true, false, length, take, drop, MatchOption, IfOk, IfSome, OnOk, OnErr};
 ghost use Rattle.outer_ports.specs.Ports.{Gave, HasCause, IsAtEnd};
 ghost use Rattle.line_input.specs.Reader.{FitsIn, IsFound, IsNext, IsPart, no_feed};
@@ -9,7 +9,7 @@ use outer_ports::{Source, SourceFault};
 use std::alloc::{AllocError, Global};
 use std::marker::Model;
 
-/// How many bytes the buffer holds: the longest line with its line feed.
+/// The size of the buffer in bytes: the longest line with its line feed.
 pub const BUFFER: usize = 32_769;
 
 /// Takes bytes from a source into one buffer, and finds the lines in it.
@@ -33,7 +33,7 @@ impl Model for LineReader {
 }
 
 impl LineReader {
-    /// Takes the buffer, 32,769 bytes. It fails where there is no memory for it.
+    /// Allocates the buffer of 32,769 bytes. It fails if there is no memory for it.
     pub fn new(alloc: Global) -> Result<LineReader, AllocError>
         ensures bytes { IfOk result (λ reader. reader.bytes ≡ []) }
         ensures ended { IfOk result (λ reader. reader.ended ≡ false) }
@@ -47,7 +47,7 @@ impl LineReader {
         })
     }
 
-    /// The bytes that were taken and not passed.
+    /// The bytes that were taken and not yet passed.
     #[inline(always)]
     pub fn bytes(&self) -> &[u8]
         ensures value { result.now ≡ self.now.bytes }
@@ -56,14 +56,14 @@ impl LineReader {
         &self.buffer[self.start..self.end]
     }
 
-    /// Whether the source has come to its end.
+    /// Whether the source has reached its end.
     pub fn is_ended(&self) -> bool
         ensures { result ≡ self.now.ended }
     {
         self.ended
     }
 
-    /// Goes past these many bytes.
+    /// Goes past this many bytes.
     #[inline(always)]
     pub fn pass(&mut self, size: usize)
         requires { size ≤ length self.old.bytes }
@@ -73,8 +73,8 @@ impl LineReader {
         self.start += size;
     }
 
-    /// The next line, where it stands in the bytes that are buffered, of which the first `seen` have no line feed; or all that is buffered, where
-    /// that has no line feed and at least `enough` bytes. `enough` is at least 1.
+    /// The next line, if its end is buffered; or all buffered bytes, if they contain no line feed and are at least `enough`. The first `seen`
+    /// buffered bytes contain no line feed. `enough` is at least 1.
     #[inline(always)]
     pub fn buffered(&self, seen: usize, enough: usize) -> Option<Found>
         requires within { seen ≤ length self.now.bytes }
@@ -101,7 +101,7 @@ impl LineReader {
         None
     }
 
-    /// Takes more bytes, or learns that there are none.
+    /// Takes more bytes, or finds that there are none.
     fn more<S: Source>(&mut self, source: &mut S) -> Result<(), SourceFault>
         requires room { length self.old.bytes < 32769 }
         ensures given { IfOk result (λ _. (piece : List ℕ) × Gave (S.left source.old) (S.left source.new) piece
@@ -123,8 +123,8 @@ impl LineReader {
         Ok(())
     }
 
-    /// The next line, or a prefix of it, where that has `enough` bytes, from 1 to 32,769; or none at the end of the input. Where one is buffered,
-    /// no more bytes are taken. It fails where the source does: then what was taken is buffered, and has neither a line nor `enough` bytes.
+    /// The next line, or a prefix of it that has `enough` bytes, from 1 to 32,769; or none at the end of the input. If one is buffered, no
+    /// more bytes are taken. If the source fails, so does the call: then the bytes taken are buffered, and are neither a line nor `enough`.
     pub fn next<S: Source>(
         &mut self,
         source: &mut S,

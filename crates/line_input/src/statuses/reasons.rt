@@ -1,6 +1,6 @@
 //! Error lines.
-ghost use Rattle.std.specs.Prelude.{◌≡◌};
-ghost use Rattle.outer_ports.specs.Ports.{HasCause, Wrote};
+ghost use Rattle.std.specs.Prelude.{◌≡◌, OnErr};
+ghost use Rattle.outer_ports.specs.Ports.{FailedLast, HasCause, Wrote};
 ghost use Rattle.line_input.specs.Statuses.{error_line, exhausted_words, fixed_words, reason_words, trouble_line};
 
 use crate::statuses::status::RunError;
@@ -8,7 +8,7 @@ use itoa::Buffer;
 use outer_ports::{Sink, SinkFault, give_all, give_parts};
 use world_text::Reason;
 
-/// The words of a reason that has no number in them.
+/// The words of a reason, without a number.
 fn fixed_words(reason: Reason) -> &'static [u8]
     ensures { result.now ≡ fixed_words reason }
 {
@@ -41,20 +41,22 @@ fn fixed_words(reason: Reason) -> &'static [u8]
     }
 }
 
-/// Writes the error line of a line with these words.
+/// Writes the error line with these words for the line of this number.
 pub fn write_error<K: Sink>(sink: &mut K, line: u64, words: &[u8]) -> Result<(), SinkFault>
     ensures wrote { Wrote (K.stands sink.old) (K.stands sink.new) (error_line line words.now) result }
     ensures cause { HasCause (K.faults sink.old) (K.faults sink.new) result }
+    ensures last { OnErr result (FailedLast (K.faults sink.old) (K.faults sink.new) (K.failed sink.new)) }
 {
     let mut digits = Buffer::new();
     let number = digits.format(line).as_bytes();
     give_parts(sink, &[b"error line ", number, b": ", words, b"\n"])
 }
 
-/// Writes the error line of a line that names an object which isn't there.
+/// Writes the error line for a line that names an object that doesn't exist.
 fn write_no_object<K: Sink>(sink: &mut K, line: u64, object: u32) -> Result<(), SinkFault>
     ensures wrote { Wrote (K.stands sink.old) (K.stands sink.new) (error_line line (reason_words (Reason.NoObject object))) result }
     ensures cause { HasCause (K.faults sink.old) (K.faults sink.new) result }
+    ensures last { OnErr result (FailedLast (K.faults sink.old) (K.faults sink.new) (K.failed sink.new)) }
 {
     let mut digits = Buffer::new();
     let number = digits.format(line).as_bytes();
@@ -66,10 +68,11 @@ fn write_no_object<K: Sink>(sink: &mut K, line: u64, object: u32) -> Result<(), 
     )
 }
 
-/// Writes the error line of a line for a reason.
+/// Writes the error line with this reason for the line of this number.
 fn write_reason<K: Sink>(sink: &mut K, line: u64, reason: Reason) -> Result<(), SinkFault>
     ensures wrote { Wrote (K.stands sink.old) (K.stands sink.new) (error_line line (reason_words reason)) result }
     ensures cause { HasCause (K.faults sink.old) (K.faults sink.new) result }
+    ensures last { OnErr result (FailedLast (K.faults sink.old) (K.faults sink.new) (K.failed sink.new)) }
 {
     match reason {
         Reason::NoObject { object } => write_no_object(sink, line, object),
@@ -77,7 +80,7 @@ fn write_reason<K: Sink>(sink: &mut K, line: u64, reason: Reason) -> Result<(), 
     }
 }
 
-/// Writes the error line of a line whose objects exceed a quota.
+/// Writes the error line for a line whose objects exceed a quota.
 fn write_exhausted<K: Sink>(
     sink: &mut K,
     line: u64,
@@ -88,6 +91,7 @@ fn write_exhausted<K: Sink>(
 ) -> Result<(), SinkFault>
     ensures wrote { Wrote (K.stands sink.old) (K.stands sink.new) (error_line line (exhausted_words area.now charged wanted quota)) result }
     ensures cause { HasCause (K.faults sink.old) (K.faults sink.new) result }
+    ensures last { OnErr result (FailedLast (K.faults sink.old) (K.faults sink.new) (K.failed sink.new)) }
 {
     let mut first = Buffer::new();
     let mut second = Buffer::new();
@@ -111,10 +115,11 @@ fn write_exhausted<K: Sink>(
     )
 }
 
-/// Writes the error line of an object that was asked for.
+/// Writes the error line for a requested object that doesn't exist.
 fn write_missing<K: Sink>(sink: &mut K, object: u32) -> Result<(), SinkFault>
     ensures wrote { Wrote (K.stands sink.old) (K.stands sink.new) (trouble_line (RunError.NoObject object)) result }
     ensures cause { HasCause (K.faults sink.old) (K.faults sink.new) result }
+    ensures last { OnErr result (FailedLast (K.faults sink.old) (K.faults sink.new) (K.failed sink.new)) }
 {
     let mut digits = Buffer::new();
     give_parts(
@@ -127,10 +132,11 @@ fn write_missing<K: Sink>(sink: &mut K, object: u32) -> Result<(), SinkFault>
     )
 }
 
-/// Writes an error line.
+/// Writes the error line of a trouble.
 pub fn write_trouble<K: Sink>(sink: &mut K, trouble: &RunError) -> Result<(), SinkFault>
     ensures wrote { Wrote (K.stands sink.old) (K.stands sink.new) (trouble_line trouble.now) result }
     ensures cause { HasCause (K.faults sink.old) (K.faults sink.new) result }
+    ensures last { OnErr result (FailedLast (K.faults sink.old) (K.faults sink.new) (K.failed sink.new)) }
 {
     match trouble {
         RunError::Line(line, reason) => write_reason(sink, *line, *reason),

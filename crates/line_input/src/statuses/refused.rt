@@ -1,4 +1,4 @@
-//! What trouble a refused line of a world is.
+//! The trouble with a refused line of a world.
 ghost use Rattle.std.specs.Prelude.{◌≡◌};
 ghost use Rattle.world_text.specs.Reader.{NamesArea};
 ghost use Rattle.line_input.specs.Statuses.{world_trouble};
@@ -7,7 +7,7 @@ use crate::statuses::status::RunError;
 use lisp_graph::AreaRule;
 use world_text::WorldFault;
 
-/// The trouble where the line of this number is refused so, behind lines that name these areas.
+/// The trouble if the line of this number is refused for this reason (`fault`); the lines before it name these areas.
 pub fn world_trouble(line: u64, areas: &[AreaRule], fault: WorldFault) -> RunError
     requires { NamesArea areas.now fault }
     ensures { result ≡ world_trouble line areas.now fault }

@@ -1,4 +1,4 @@
-//! How a run ends.
+//! The ways in which a run ends.
 ghost use Rattle.std.specs.Prelude.{◌≡◌};
 ghost use Rattle.line_input.specs.Statuses.{code, status_of};
 
@@ -8,7 +8,7 @@ use world_text::Reason;
 /// How a run ended.
 #[derive(Clone, Copy, Debug, PartialEq, Eq)]
 pub enum Status {
-    /// The input was read to its end, and all that it asks for was written.
+    /// The input was read to its end, and everything that it requests was written.
     Done,
     /// The sink failed.
     WriteFailed,
@@ -22,14 +22,14 @@ pub enum Status {
     NoMemory,
     /// The swap device failed.
     SwapFailed,
-    /// The words after the program's name were refused.
+    /// The arguments of the program were refused.
     Usage,
-    /// The object that was asked for isn't one of the world's.
+    /// The requested object isn't one of the world's.
     NoObject,
 }
 
 impl Status {
-    /// Its number, 0 to 8 in the order of the variants.
+    /// The number of the status: 0 to 8, in the order of the variants.
     pub fn code(self) -> u8
         ensures { result ≡ code self }
     {
@@ -47,14 +47,14 @@ impl Status {
     }
 }
 
-/// What an error line tells. Lines are counted from 1.
+/// The trouble that an error line reports. Lines are counted from 1.
 #[derive(Debug, Drop)]
 pub enum RunError {
     /// The line breaks a rule, for this reason.
     Line(u64, Reason),
-    /// With the area of the line the areas want more regions than there are.
+    /// With the area of this line, the areas need more regions than there are.
     TooSmall(u64),
-    /// What the area's objects before the line are charged, in words, and what those of the line are, exceed the area's quota together.
+    /// The objects before the line are charged `charged` words in the area, and those of the line `wanted`; the sum exceeds the quota.
     Exhausted {
         line: u64,
         area: Name,
@@ -68,14 +68,14 @@ pub enum RunError {
     Memory,
     /// The swap device failed.
     Swap,
-    /// The words after the program's name were refused.
+    /// The arguments of the program were refused.
     Usage,
     /// No object of the world has this number.
     NoObject(u32),
 }
 
 impl RunError {
-    /// How a run with this trouble ends.
+    /// The status of a run with this trouble.
     pub fn status(&self) -> Status
         ensures { result ≡ status_of self.now }
     {
@@ -92,7 +92,7 @@ impl RunError {
     }
 }
 
-/// Why a run stopped before the end of the input: a write failed, or there is trouble to be told.
+/// Why a run stopped before the end of the input: a write failed, or there is a trouble to report.
 #[derive(Debug, Drop)]
 pub enum Stop {
     Write,

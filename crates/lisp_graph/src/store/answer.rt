@@ -1,4 +1,4 @@
-//! Which call runs a command.
+//! Which call executes a command.
 ghost use Rattle.std.specs.Prelude.{◌≡◌, length, IsSome, IfOk, OnErr};
 ghost use Rattle.lisp_graph.specs.Graph.{IsGraph};
 ghost use Rattle.lisp_graph.specs.Effect.{Allocates, Answers, effect};

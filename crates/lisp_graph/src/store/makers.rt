@@ -11,7 +11,7 @@ use crate::object_map::ObjectMap;
 use crate::{Body, Command, Fields, Items, Object, Reply, Value};
 use store_word::NoMemory;
 
-/// The cdr of the cons with this name in a list, where so many conses are left behind it.
+/// The cdr of the cons with this name in a list, if `left` conses follow it: the next cons, or nil at the end.
 fn link(name: u64, left: usize) -> Value
     requires { name + 1 < 2 ^ 64 }
     ensures { result ≡ (if left == 0 then Value.Nil else Value.Ref (name + 1)) }

@@ -1,4 +1,4 @@
-//! What a command begins with that makes a new object.
+//! How a command begins that makes a new object.
 ghost use Rattle.std.specs.Prelude.{◌<◌, length, IfErr, IfOk, OnOk};
 ghost use Rattle.area_space.specs.Table.{areas_of, levels_of};
 ghost use Rattle.area_space.specs.View.{view};
@@ -17,7 +17,7 @@ use scavenger::ScanSet;
 use std::sync::ledger::Ledger;
 use store_word::{Space, Steps, Word};
 
-// The silent steps, the quota of an area and the scan: the level of the new object, or a refusal.
+// Takes the silent steps, tests the quota of an area and scans: the level of the new object, or a refusal.
 pub(super) fn admitted<M: Memory, L: Ledger>(
     ground: &mut Ground<M>,
     scan: &mut ScanSet,
@@ -34,7 +34,7 @@ pub(super) fn admitted<M: Memory, L: Ledger>(
     ensures admits { IfOk result (λ level. Admits (view ground.old) (view ground.new) scan.old scan.new registers.old registers.new space.now area charge steps.old steps.new level) }
     ensures refuses { IfErr result (λ reply. Refuses (contents_at ground.old scan.old registers.old space.now) (contents_at ground.new scan.new registers.new space.now) area charge steps.old steps.new reply) }
 
-    // where the new object may stand, and that it is a step to make it
+    // where the new object may be placed, and that to make it is a transition
     ensures consistent { OnOk result (IsConsistent (view ground.new) registers.new) }
     ensures area { OnOk result (area < areas_of ground.new.table) }
     ensures level { IfOk result (λ level. level < levels_of ground.new.table) }

@@ -1,6 +1,8 @@
 //! Commands on blocks.
-ghost use Rattle.std.specs.Prelude.{◌+◌, ◌<◌, ◌≤◌, length};
+ghost use Rattle.std.specs.Prelude.{◌≡◌, ◌+◌, ◌<◌, ◌≤◌, length};
 ghost use Rattle.lisp_heap.specs.Costs.{Makes, Takes};
+ghost use Rattle.lisp_heap.specs.Making.{ScansFirst};
+ghost use Rattle.lisp_heap.specs.Moves.{MovesAtMost};
 ghost use Rattle.lisp_heap.specs.Stands.{Runs};
 
 use crate::heap::allocating::admitted;
@@ -11,8 +13,8 @@ use std::sync::ledger::Ledger;
 use store_word::Steps;
 
 impl<M: Memory> Heap<M> {
-    /// `make`: a new block of at most 2,047 fields, all nil, into a register. Its charge is one word
-    /// more than its fields; else it is as `cons`.
+    /// `make`: a register gets a new block of at most 2,047 fields, all nil. Its charge is one word
+    /// more than its fields; otherwise it is like `cons`.
     pub fn make<L: Ledger>(
         &mut self,
         to: u8,
@@ -26,6 +28,7 @@ impl<M: Memory> Heap<M> {
         requires few { count ≤ 2047 }
         ensures runs { Runs self.old self.new steps.old steps.new (Command.Make to area code count) result }
         ensures makes { Makes self.old self.new steps.old steps.new (count + 1) (count + 1) 0 result }
+        ensures order { result ≡ Reply.Fine → ScansFirst self.old self.new (count + 1) (count + 1) 0 }
     {
         let registers = self.registers.as_mut_slice();
         match admitted(
@@ -54,13 +57,14 @@ impl<M: Memory> Heap<M> {
         }
     }
 
-    /// `get`: a field of the block in a register into a register. It places at most 4,096 words. Where
-    /// no fault comes, it takes at most 120 steps, and 4 for each word placed.
+    /// `get`: a register gets a field of the block in another. It places at most 4,096 words. If no
+    /// swap error occurs, it takes at most 120 memory accesses, and 4 for each word placed.
     pub fn get<L: Ledger>(&mut self, to: u8, from: u8, index: u32, steps: &mut Steps<L>) -> Reply
         requires to { to < length self.old.registers }
         requires from { from < length self.old.registers }
         ensures runs { Runs self.old self.new steps.old steps.new (Command.Get to from index) result }
         ensures takes { Takes self.old self.new steps.old steps.new 4096 120 result }
+        ensures moves { MovesAtMost self.old self.new 2 }
     {
         let answer = heap_commands::get(
             &mut self.ground,
@@ -73,8 +77,8 @@ impl<M: Memory> Heap<M> {
         ended(&self.ground.mem, answer)
     }
 
-    /// `put`: the value of a register into a field of the block in another. It places at most 4,096
-    /// words. Where no fault comes, it takes at most 107 steps, and 4 for each word placed.
+    /// `put`: a field of the block in a register gets the value of another. It places at most 4,096
+    /// words. If no swap error occurs, it takes at most 107 memory accesses, and 4 for each word placed.
     pub fn put<L: Ledger>(
         &mut self,
         target: u8,
@@ -86,6 +90,7 @@ impl<M: Memory> Heap<M> {
         requires from { from < length self.old.registers }
         ensures runs { Runs self.old self.new steps.old steps.new (Command.Put target index from) result }
         ensures takes { Takes self.old self.new steps.old steps.new 4096 107 result }
+        ensures moves { MovesAtMost self.old self.new 2 }
     {
         let answer = heap_commands::put(
             &mut self.ground,
@@ -98,12 +103,13 @@ impl<M: Memory> Heap<M> {
         ended(&self.ground.mem, answer)
     }
 
-    /// `size`: how many fields the block in a register has. It places at most 2,048 words. Where no
-    /// fault comes, it takes at most 59 steps, and 4 for each word placed.
+    /// `size`: how many fields the block in a register has. It places at most 2,048 words. If no
+    /// swap error occurs, it takes at most 59 memory accesses, and 4 for each word placed.
     pub fn size<L: Ledger>(&mut self, of: u8, steps: &mut Steps<L>) -> Reply
         requires of { of < length self.old.registers }
         ensures runs { Runs self.old self.new steps.old steps.new (Command.Size of) result }
         ensures takes { Takes self.old self.new steps.old steps.new 2048 59 result }
+        ensures moves { MovesAtMost self.old self.new 1 }
     {
         let answer = heap_commands::size(&mut self.ground, &mut self.registers, of, steps);
         ended(&self.ground.mem, answer)

@@ -3,11 +3,11 @@ ghost use Rattle.std.specs.Prelude.{◌≡◌, ◌≢◌, ◌+◌, ◌-◌, ◌*
 ghost use Rattle.area_space.specs.Flips.{Condemns};
 ghost use Rattle.scavenger.specs.Starting.{Begins, base_pages};
 ghost use Rattle.heap_collect.specs.Amounts.{CountsPlaced};
-ghost use Rattle.heap_state.specs.transporter.Moving.{MovesAtMost};
 ghost use Rattle.word_graph.specs.lisp_meaning.State.{State};
 ghost use Rattle.lisp_heap.specs.Contents.{store_of};
 ghost use Rattle.lisp_heap.specs.Costs.{ScansSome, left_in};
 ghost use Rattle.lisp_heap.specs.Freed.{Reclaimed};
+ghost use Rattle.lisp_heap.specs.Moves.{MovesAtMost};
 ghost use Rattle.lisp_heap.specs.Stands.{Runs, Stands};
 ghost use Rattle.lisp_heap.specs.Units.{IsUnfinished, ScansInOrder};
 
@@ -19,15 +19,16 @@ use std::sync::ledger::Ledger;
 use store_word::Steps;
 
 impl<M: Memory> Heap<M> {
-    /// `flip`: a collection begins, and is answered with the number of base pages to scan; where one runs,
-    /// it is answered `Busy`. Base pages are the used pages of regions that aren't condemned: in a full
-    /// flip all of them, else those whose marks have a condemned level. It takes no step, and the swap
+    /// `flip`: begins a collection, and replies with the number of base pages to scan; if one runs,
+    /// it replies `Busy`. Base pages are the used pages of regions that aren't condemned: in a full
+    /// flip all of them, otherwise those whose marks have a condemned level. It takes no memory access, and the swap
     /// can't fail in it.
     pub fn flip(&mut self, what: Condemn) -> Reply
         ensures runs { Runs self.old self.new 0 0 (Command.Flip what) result }
         ensures table { (count : ℕ) → result ≡ Reply.Flipped count → Condemns self.old.table (record self.new.table { pages = [] }) what }
         ensures pages { (count : ℕ) → result ≡ Reply.Flipped count → count ≡ base_pages (store_of self.old.memory) self.new.table what }
         ensures begins { (count : ℕ) → result ≡ Reply.Flipped count → Begins (store_of self.old.memory) self.new.table what self.old.scan self.new.scan }
+        ensures busy { result ≡ Reply.Busy → self.new.scan ≡ self.old.scan }
         ensures faults { self.new.faults ≡ self.old.faults }
     {
         let reply = flip(&mut self.ground, &mut self.scan, what);
@@ -35,12 +36,12 @@ impl<M: Memory> Heap<M> {
         reply
     }
 
-    /// `scavenge`: scans so many units of the collection that runs, or all that are left. It answers `More`
-    /// where a unit is left, and then less is paid than is owed, and `Done` where none is; `NotFlipped`
-    /// where no collection runs. Each unit is scanned when it is the next one: a word left on the page of
-    /// the latest transport, else a register, else the word of the lowest address. The units that were
-    /// scanned and those that are left are together those that were left and the words placed, whatever
-    /// it answers. Where no fault comes, it takes at most 48 steps for each unit scanned and 4 for each
+    /// `scavenge`: scans this number of units of the collection that runs, or all that remain. It replies `More`
+    /// if a unit remains, and then less is paid than is owed, and `Done` if none does; `NotFlipped`
+    /// if no collection runs. The next unit is always an unscanned word on the page of
+    /// the latest transport, else a register, else the word with the lowest address. Whatever it replies,
+    /// the units scanned and those that remain are together those that remained before and the words
+    /// placed. If no swap error occurs, it takes at most 48 memory accesses for each unit scanned and 4 for each
     /// word placed, and places at most 2,048 words for each unit.
     pub fn scavenge<L: Ledger>(&mut self, count: u32, steps: &mut Steps<L>) -> Reply
         ensures runs { Runs self.old self.new steps.old steps.new (Command.Scavenge count) result }
@@ -48,7 +49,7 @@ impl<M: Memory> Heap<M> {
         ensures order { result ≢ Reply.Fault → self.old.table.aim ≢ None → ScansInOrder self.old self.new count }
         ensures units { (self.new.scan.done - self.old.scan.done) + left_in self.new ≡ left_in self.old + (self.new.table.placed - self.old.table.placed) }
         ensures placed { CountsPlaced self.old.table self.new.table }
-        ensures moves { MovesAtMost (store_of self.old.memory) self.old.table (store_of self.new.memory) self.new.table (self.new.scan.done - self.old.scan.done + 1) }
+        ensures moves { MovesAtMost self.old self.new (self.new.scan.done - self.old.scan.done + 1) }
         ensures more { result ≡ Reply.More → IsUnfinished self.new }
         ensures done { result ≡ Reply.Done → left_in self.new ≡ 0 }
         ensures few { result ≢ Reply.Fault → self.new.table.placed ≤ self.old.table.placed + 2048 * (self.new.scan.done - self.old.scan.done) }
@@ -65,9 +66,9 @@ impl<M: Memory> Heap<M> {
         reply
     }
 
-    /// `reclaim`: ends the collection that runs, where no unit is left to scan: what was condemned and
-    /// not copied is gone, and no longer charged. It is answered `NotDone` where a unit is left, and
-    /// `NotFlipped` where no collection runs. It takes no step, and the swap can't fail in it.
+    /// `reclaim`: ends the collection that runs, if no unit remains to be scanned: what was condemned and
+    /// not copied is gone, and no longer charged. It replies `NotDone` if a unit remains, and
+    /// `NotFlipped` if no collection runs. It takes no memory access, and the swap can't fail in it.
     pub fn reclaim(&mut self) -> Reply
         ensures runs { Runs self.old self.new 0 0 Command.Reclaim result }
         ensures left { result ≡ Reply.NotDone → IsUnfinished self.new }

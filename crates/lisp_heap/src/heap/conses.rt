@@ -4,6 +4,8 @@ ghost use Rattle.std.specs.List.{All};
 ghost use Rattle.store_word.specs.Words.{null_word};
 ghost use Rattle.heap_commands.specs.Listing.{RefersToCells};
 ghost use Rattle.lisp_heap.specs.Costs.{Makes, Takes};
+ghost use Rattle.lisp_heap.specs.Making.{ScansFirst};
+ghost use Rattle.lisp_heap.specs.Moves.{MovesAtMost, MovesOrLays};
 ghost use Rattle.lisp_heap.specs.Stands.{Runs};
 
 use crate::heap::allocating::admitted;
@@ -15,14 +17,14 @@ use std::sync::ledger::Ledger;
 use store_word::Steps;
 
 impl<M: Memory> Heap<M> {
-    /// `cons`: a new cons of two registers' values into a register. In a world with a capacity above 0
-    /// a collection whose scan is over is reclaimed before it; and then, where no collection runs, the
-    /// levels that have reached their capacity are flipped. It is refused as exhausted exactly where its
-    /// charge of 2 words exceeds what the quota of its area leaves, and then takes no step. While a
-    /// collection runs it scans so many units as the rate says for those words, or all that are left.
+    /// `cons`: a register gets a new cons of the values of two registers. In a world with a capacity above 0
+    /// a collection whose scan has finished is reclaimed before it; and then, if no collection runs, the
+    /// levels that have reached their capacity are flipped. It is refused as exhausted if and only if its
+    /// charge of 2 words exceeds what its area's quota allows, and then takes no memory access. While a
+    /// collection runs it first scans the units that the rate requires for those words, or all that remain.
     ///
-    /// Where it was made, it took at most 128 steps for each word charged, 128 for each unit that the
-    /// rate says, and 8 for each word copied.
+    /// If it was made, it took at most 128 memory accesses for each word charged, 128 for each unit that the
+    /// rate requires, and 8 for each word copied.
     pub fn cons<L: Ledger>(
         &mut self,
         to: u8,
@@ -37,6 +39,7 @@ impl<M: Memory> Heap<M> {
         requires cdr { cdr < length self.old.registers }
         ensures runs { Runs self.old self.new steps.old steps.new (Command.Cons to area car cdr) result }
         ensures makes { Makes self.old self.new steps.old steps.new 2 2 2 result }
+        ensures order { result ≡ Reply.Fine → ScansFirst self.old self.new 2 2 2 }
     {
         let registers = self.registers.as_mut_slice();
         match admitted(
@@ -65,8 +68,8 @@ impl<M: Memory> Heap<M> {
         }
     }
 
-    /// `list`: a new list of 1 to 1,024 registers' values into a register, of cells in consecutive
-    /// words. Its charge is 3 words a cons; else it is as `cons`.
+    /// `list`: a register gets a new list of the values of 1 to 1,024 registers, in consecutive
+    /// cells. Its charge is 3 words a cons; otherwise it is like `cons`.
     pub fn list<L: Ledger>(
         &mut self,
         to: u8,
@@ -81,6 +84,7 @@ impl<M: Memory> Heap<M> {
         ensures runs { Runs self.old self.new steps.old steps.new (Command.List to area items.now) result }
         ensures cells { result ≡ Reply.Fine → RefersToCells self.new.memory.words (get_or self.new.registers to null_word) (length items.now) }
         ensures makes { Makes self.old self.new steps.old steps.new (3 * length items.now) (length items.now) (length items.now) result }
+        ensures order { result ≡ Reply.Fine → ScansFirst self.old self.new (3 * length items.now) (length items.now) (length items.now) }
     {
         let charge = list_charge(items);
         let registers = self.registers.as_mut_slice();
@@ -109,37 +113,40 @@ impl<M: Memory> Heap<M> {
         }
     }
 
-    /// `car`: the car of the cons in a register into a register. It places at most 4,096 words. Where no
-    /// fault comes, it takes at most 119 steps, and 4 for each word placed.
+    /// `car`: a register gets the car of the cons in another. It places at most 4,096 words. If no
+    /// swap error occurs, it takes at most 119 memory accesses, and 4 for each word placed.
     pub fn car<L: Ledger>(&mut self, to: u8, from: u8, steps: &mut Steps<L>) -> Reply
         requires to { to < length self.old.registers }
         requires from { from < length self.old.registers }
         ensures runs { Runs self.old self.new steps.old steps.new (Command.Car to from) result }
         ensures takes { Takes self.old self.new steps.old steps.new 4096 119 result }
+        ensures moves { MovesAtMost self.old self.new 2 }
     {
         let answer = heap_commands::car(&mut self.ground, &mut self.registers, to, from, steps);
         ended(&self.ground.mem, answer)
     }
 
-    /// `cdr`: the cdr of the cons in a register into a register. It places at most 4,096 words. Where no
-    /// fault comes, it takes at most 120 steps, and 4 for each word placed.
+    /// `cdr`: a register gets the cdr of the cons in another. It places at most 4,096 words. If no
+    /// swap error occurs, it takes at most 120 memory accesses, and 4 for each word placed.
     pub fn cdr<L: Ledger>(&mut self, to: u8, from: u8, steps: &mut Steps<L>) -> Reply
         requires to { to < length self.old.registers }
         requires from { from < length self.old.registers }
         ensures runs { Runs self.old self.new steps.old steps.new (Command.Cdr to from) result }
         ensures takes { Takes self.old self.new steps.old steps.new 4096 120 result }
+        ensures moves { MovesAtMost self.old self.new 2 }
     {
         let answer = heap_commands::cdr(&mut self.ground, &mut self.registers, to, from, steps);
         ended(&self.ground.mem, answer)
     }
 
-    /// `rplaca`: the value of a register into the car of the cons in another. It places at most 4,096
-    /// words. Where no fault comes, it takes at most 106 steps, and 4 for each word placed.
+    /// `rplaca`: the car of the cons in a register gets the value of another. It places at most 4,096
+    /// words. If no swap error occurs, it takes at most 106 memory accesses, and 4 for each word placed.
     pub fn rplaca<L: Ledger>(&mut self, target: u8, from: u8, steps: &mut Steps<L>) -> Reply
         requires target { target < length self.old.registers }
         requires from { from < length self.old.registers }
         ensures runs { Runs self.old self.new steps.old steps.new (Command.Rplaca target from) result }
         ensures takes { Takes self.old self.new steps.old steps.new 4096 106 result }
+        ensures moves { MovesAtMost self.old self.new 2 }
     {
         let answer = heap_commands::rplaca(
             &mut self.ground,
@@ -151,13 +158,15 @@ impl<M: Memory> Heap<M> {
         ended(&self.ground.mem, answer)
     }
 
-    /// `rplacd`: the value of a register into the cdr of the cons in another. It places at most 6,146
-    /// words. Where no fault comes, it takes at most 159 steps, and 4 for each word placed.
+    /// `rplacd`: the cdr of the cons in a register gets the value of another. It places at most 6,146
+    /// words. If no swap error occurs, it takes at most 159 memory accesses, and 4 for each word placed.
+    /// It alone makes a cell a pair: the one to which the target refers.
     pub fn rplacd<L: Ledger>(&mut self, target: u8, from: u8, steps: &mut Steps<L>) -> Reply
         requires target { target < length self.old.registers }
         requires from { from < length self.old.registers }
         ensures runs { Runs self.old self.new steps.old steps.new (Command.Rplacd target from) result }
         ensures takes { Takes self.old self.new steps.old steps.new 6146 159 result }
+        ensures moves { MovesOrLays self.old self.new (get_or self.new.registers target null_word) (get_or self.new.registers from null_word) }
     {
         let answer = heap_commands::rplacd(
             &mut self.ground,
@@ -170,7 +179,7 @@ impl<M: Memory> Heap<M> {
     }
 }
 
-// What a list of so many items is charged.
+// The charge of a list of these items.
 fn list_charge(items: &Items) -> u32
     ensures { result ≡ 3 * length items.now }
 {

@@ -25,7 +25,7 @@ impl WalkStart for Brand {
     ghost start = { None };
 }
 
-// A heap over which a walk goes. It stands for what the heap stood for with which the walk began.
+// A heap that a walk visits. It represents the same states as the heap with which the walk began.
 #[derive(Drop)]
 struct Walked<M: Memory, O: WalkStart> {
     heap: Heap<M>,
@@ -67,8 +67,8 @@ impl<M: Memory, O: WalkStart> Walk for Walked<M, O> {
 }
 
 impl<M: Memory> Heap<M> {
-    /// `dump`: the text of the heap's dump, with these areas, and the heap again, which stands for all
-    /// that it stood for. Nothing is settled. It fails where memory runs out, and where the swap fails.
+    /// `dump`: the text of the heap's dump, with these areas, and the heap again, which represents the same
+    /// states. Nothing is settled. It fails if memory runs out, or if the swap fails.
     pub fn dump(self, alloc: Global, areas: &Areas) -> (Heap<M>, Result<Text, DumpFault>)
         ensures text { IfOk result.1 (λ text. (s : State) → Stands self s → s.areas ≡ areas.now → text ≡ dumped (world_of s)) }
         ensures stands { (s : State) → Stands self s → Stands result.0 s }

@@ -1,5 +1,5 @@
 //! The command by which a block grows.
-ghost use Rattle.std.specs.Prelude.{◌≡◌, ◌≢◌, ℕ, ◌-◌, ◌<◌, ◌≤◌, length, IsTrue, None, Some};
+ghost use Rattle.std.specs.Prelude.{◌≡◌, ◌≢◌, ℕ, ◌-◌, ◌*◌, ◌<◌, ◌≤◌, length, IsTrue, None, Some};
 ghost use Rattle.mem_port.specs.View.{TellsIf};
 ghost use Rattle.area_space.specs.View.{view};
 ghost use Rattle.heap_collect.specs.Views.{IsStanding};
@@ -13,6 +13,8 @@ ghost use Rattle.heap_state.specs.Reads.{is_fault, reads, IsDone};
 ghost use Rattle.heap_state.specs.Settled.{IsSettled};
 ghost use Rattle.heap_collect.specs.Laws.{StandsAfterLook, UnaskedIsStep};
 ghost use Rattle.lisp_heap.specs.Costs.{Costs, CostsLook, IsRefused, LookCosts, ScanGoesOn, Spends, wants_in};
+ghost use Rattle.lisp_heap.specs.Growth.{LooksAndWidens, ScansAndWidens};
+ghost use Rattle.lisp_heap.specs.Making.{ScansBeforeGrowth};
 ghost use Rattle.heap_state.specs.transporter.LiveSame.{OnlyGrows};
 ghost use Rattle.heap_state.specs.transporter.Views.{MarksFollow};
 ghost use Rattle.lisp_heap.specs.Stands.{Runs, Stands};
@@ -28,20 +30,22 @@ use std::sync::ledger::Ledger;
 use store_word::{Steps, Word};
 
 impl<M: Memory> Heap<M> {
-    /// `grow`: the block in a register gets at least so many fields, at most 2,047; the new ones are
-    /// nil. What a capacity brings about comes before it, as before `cons`. Where the block has the
-    /// fields, or the register holds no block, it is answered; where no fault comes, that takes at most
-    /// 59 steps and 4 for each word copied, at most 2,048. Else it is charged one word more than the
-    /// fields that it gets, to its own area, and is refused as exhausted exactly where that exceeds what
-    /// the quota leaves, with no more steps than where it is answered. While a collection runs it scans
-    /// so many units as the rate says for those words, or all that are left, and where the block grew it
-    /// took at most the steps of a `cons` with that charge.
+    /// `grow`: the block in a register gets at least `wanted` fields, at most 2,047; the new ones are
+    /// nil. Silent steps precede it, as they precede `cons`. If the block has the
+    /// fields, or the register holds no block, the reply is known; if no swap error occurs, that takes at most
+    /// 59 memory accesses and 4 for each word copied, at most 2,048. Otherwise its charge is one word more than
+    /// the fields that it gets, to its own area, and it is refused as exhausted if and only if that exceeds what
+    /// the quota allows; a refusal takes no more memory accesses than a known reply. While a collection runs it
+    /// scans the units that the rate requires for those words, or all that remain; if the block grew, it
+    /// took at most the memory accesses of a `cons` with that charge.
     pub fn grow<L: Ledger>(&mut self, target: u8, wanted: u16, steps: &mut Steps<L>) -> Reply
         requires target { target < length self.old.registers }
         requires few { wanted ≤ 2047 }
         ensures runs { Runs self.old self.new steps.old steps.new (Command.Grow target wanted) result }
         ensures costs { result ≡ Reply.Fine → (s : State) → Stands self.old s → (area charge : ℕ) → wants_in s (Command.Grow target wanted) ≡ Some (record { area = area; charge = charge })
             → Costs self.old self.new steps.old steps.new charge charge 1 }
+        ensures order { result ≡ Reply.Fine → (s : State) → Stands self.old s → (area charge : ℕ) → wants_in s (Command.Grow target wanted) ≡ Some (record { area = area; charge = charge })
+            → ScansBeforeGrowth self.old self.new charge }
         ensures looks { result ≢ Reply.Fault → (s : State) → Stands self.old s → wants_in s (Command.Grow target wanted) ≡ None → CostsLook self.old self.new steps.old steps.new }
         ensures refused { IsRefused result → CostsLook self.old self.new steps.old steps.new }
     {
@@ -61,7 +65,7 @@ impl<M: Memory> Heap<M> {
     }
 }
 
-// The same after the silent steps: the block is looked at, and answered or made wider.
+// The same after the silent steps: finds the reply, or makes the block wider.
 fn grow_register<M: Memory, L: Ledger>(
     ground: &mut Ground<M>,
     scan: &mut ScanSet,
@@ -84,6 +88,9 @@ fn grow_register<M: Memory, L: Ledger>(
     ensures spends { result ≡ Reply.Fine → (k : RoleMap) (s : State) → RepresentsAll (view ground.old) scan.old registers.old k s
         → (area charge : ℕ) → wants_in s (Command.Grow target wanted) ≡ Some (record { area = area; charge = charge })
         → Spends scan.old scan.new ground.old.table ground.new.table rate charge 99 1 steps.old steps.new }
+    ensures order { result ≡ Reply.Fine → (k : RoleMap) (s : State) → RepresentsAll (view ground.old) scan.old registers.old k s
+        → (area charge : ℕ) → wants_in s (Command.Grow target wanted) ≡ Some (record { area = area; charge = charge })
+        → LooksAndWidens (view ground.old) (view ground.new) scan.old scan.new registers.old registers.new charge (rate * charge) }
     ensures looks { result ≢ Reply.Fault → (k : RoleMap) (s : State) → RepresentsAll (view ground.old) scan.old registers.old k s
         → wants_in s (Command.Grow target wanted) ≡ None → LookCosts scan.old scan.new ground.old.table ground.new.table steps.old steps.new }
     ensures refused { IsRefused result → LookCosts scan.old scan.new ground.old.table ground.new.table steps.old steps.new }
@@ -100,7 +107,7 @@ fn grow_register<M: Memory, L: Ledger>(
     }
 }
 
-// The same of the block in a settled register, which has fewer fields and will be charged so much.
+// The same for the block in a settled register, which has fewer fields and this charge.
 fn grow_charged<M: Memory, L: Ledger>(
     ground: &mut Ground<M>,
     scan: &mut ScanSet,
@@ -123,6 +130,7 @@ fn grow_charged<M: Memory, L: Ledger>(
     ensures table { OnlyGrows ground.old.table ground.new.table }
     ensures marks { MarksFollow (view ground.old) (view ground.new) }
     ensures spends { result ≡ Reply.Fine → Spends scan.old scan.new ground.old.table ground.new.table rate charge 40 0 steps.old steps.new }
+    ensures order { result ≡ Reply.Fine → ScansAndWidens (view ground.old) (view ground.new) scan.old scan.new registers.old registers.new charge (rate * charge) }
     ensures refused { IsRefused result → (scan.new ≡ scan.old) × (ground.new.table ≡ ground.old.table) × (steps.new ≡ steps.old) }
     ensures scan { ScanGoesOn scan.old scan.new ground.old.table ground.new.table result }
     ensures tells { TellsIf (view ground.old).mem (view ground.new).mem steps.old steps.new (is_fault result) }
@@ -134,8 +142,8 @@ fn grow_charged<M: Memory, L: Ledger>(
     }
 }
 
-// Where a block was looked at it is known that its memory keeps the law of marks, and that the
-// machine stands for what it stood for.
+// After a block was looked at, its memory satisfies the law of marks, and the
+// machine represents the same states.
 fn look_laws<M: Memory>(mem: &M)
     ensures marks { MarksHold (M.seen mem.now) }
     ensures stands { StandsAfterLook }

@@ -19,10 +19,10 @@ use store_word::Steps;
 
 impl<M: Memory> Heap<M> {
     /// Loads a world's objects and roots into a heap that was opened for its space and areas and has
-    /// no objects yet. The objects fit the quotas of their areas. Conses that stand together by
-    /// themselves are laid as cells, any other cons is a pair.
+    /// no objects yet. The objects fit the quotas of their areas. Consecutive conses of charge 3 that
+    /// form a list are laid out as cells, any other cons as a pair.
     ///
-    /// It takes as many words of the memory as steps. It is refused if the allocator has no memory, or if
+    /// The memory counts as many accesses as `steps` does. It is refused if the allocator has no memory, or if
     /// the swap fails, which it can't in a world without objects; the heap may then have some of the
     /// objects.
     pub fn load<L: Ledger>(
@@ -38,7 +38,7 @@ impl<M: Memory> Heap<M> {
         ensures groups { OnOk result (StandsGrouped self.new world.now) }
         ensures world { SameWorld self.old self.new }
 
-        // what is told of the memory
+        // the counts of the memory
         ensures later { self.old.faults ≤ self.new.faults }
         ensures swap { is_fault result ≡ true → self.old.faults < self.new.faults }
         ensures quiet { is_fault result ≡ false → self.new.faults ≡ self.old.faults }

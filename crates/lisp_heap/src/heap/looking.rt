@@ -1,4 +1,4 @@
-//! Looking at a heap. No call here uses a page, and none changes anything.
+//! Looks at a heap. No call here uses a page, and none changes anything.
 ghost use Rattle.std.specs.Prelude.{◌≡◌, ◌*◌, ◌≤◌, length};
 ghost use Rattle.area_space.specs.View.{view};
 ghost use Rattle.area_space.specs.Views.{IsGround};
@@ -27,7 +27,7 @@ impl<M: Memory> Heap<M> {
         &self.ground
     }
 
-    /// What is left to scan. It has a number for each page.
+    /// What remains to be scanned. It has one number for each page.
     pub fn scan(&self) -> &ScanSet
         ensures scan { result.now ≡ self.now.scan }
         ensures pages { length self.now.scan.pages ≡ 16 * self.now.table.regions }
@@ -60,7 +60,7 @@ impl<M: Memory> Heap<M> {
         self.ground.table.kinds()
     }
 
-    /// How many units are left to scan: none where no collection runs.
+    /// How many units remain to be scanned; 0 if no collection runs.
     pub fn units_left(&self) -> u64
         ensures { result ≡ left_in self.now }
     {
@@ -70,7 +70,7 @@ impl<M: Memory> Heap<M> {
         self.scan.units_left(&self.ground, &self.registers)
     }
 
-    /// The unit that is scanned next; None where none is left.
+    /// The unit that is scanned next; None if none remains.
     pub fn next_unit(&self) -> Option<Unit>
         ensures { result ≡ next_of self.now.scan self.now.table }
     {

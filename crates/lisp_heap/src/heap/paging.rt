@@ -10,8 +10,8 @@ use mem_port::{Memory, known};
 use store_word::SwapFault;
 
 impl<M: Memory> Heap<M> {
-    /// `page-out`: evicts this many resident pages, or all where there are fewer, the least recently used first. A fault may come
-    /// after some of them were evicted.
+    /// `page-out`: evicts this many resident pages, or all if there are fewer, the least recently used first. A swap error may
+    /// occur after some of them were evicted.
     pub fn page_out(&mut self, count: u32) -> Reply
         ensures runs { Runs self.old self.new 0 0 (Command.PageOut count) result }
         ensures resident { result ≡ Reply.Fine → self.new.resident ≡ drop (min count (length self.old.resident)) self.old.resident }

@@ -3,6 +3,7 @@ ghost use Rattle.std.specs.Prelude.{◌≡◌, ◌<◌, length};
 ghost use Rattle.lisp_graph.specs.Commands.{IsPlain};
 ghost use Rattle.heap_commands.specs.cdr_lists.Words.{plain};
 ghost use Rattle.lisp_heap.specs.Costs.{Takes};
+ghost use Rattle.lisp_heap.specs.Moves.{MovesAtMost};
 ghost use Rattle.lisp_heap.specs.Stands.{Runs};
 ghost use Rattle.lisp_heap.specs.Words.{content_of};
 
@@ -14,7 +15,7 @@ use std::sync::ledger::Ledger;
 use store_word::{Steps, Word};
 
 impl<M: Memory> Heap<M> {
-    /// `set`: a register gets a value that is no reference.
+    /// `set`: a register gets a value that isn't a reference.
     pub fn set(&mut self, to: u8, value: Value) -> Reply
         requires to { to < length self.old.registers }
         requires plain { IsPlain value }
@@ -28,13 +29,14 @@ impl<M: Memory> Heap<M> {
         Reply::Fine
     }
 
-    /// `move`: a register gets the value of another. It places at most 2,048 words. Where no fault comes,
-    /// it takes at most 46 steps, and 4 for each word placed.
+    /// `move`: a register gets the value of another. It places at most 2,048 words. If no swap error occurs,
+    /// it takes at most 46 memory accesses, and 4 for each word placed.
     pub fn copy_register<L: Ledger>(&mut self, to: u8, from: u8, steps: &mut Steps<L>) -> Reply
         requires to { to < length self.old.registers }
         requires from { from < length self.old.registers }
         ensures runs { Runs self.old self.new steps.old steps.new (Command.Move to from) result }
         ensures takes { Takes self.old self.new steps.old steps.new 2048 46 result }
+        ensures moves { MovesAtMost self.old self.new 1 }
     {
         let answer = heap_commands::copy_register(
             &mut self.ground,
@@ -46,21 +48,22 @@ impl<M: Memory> Heap<M> {
         ended(&self.ground.mem, answer)
     }
 
-    /// `eq`: whether the values of two registers are equal, references where they are to one object.
-    /// It places at most 4,096 words. Where no fault comes, it takes at most 116 steps, and 4 for each
+    /// `eq`: whether the values of two registers are equal; references are if they lead to the same object.
+    /// It places at most 4,096 words. If no swap error occurs, it takes at most 116 memory accesses, and 4 for each
     /// word placed.
     pub fn eq<L: Ledger>(&mut self, left: u8, right: u8, steps: &mut Steps<L>) -> Reply
         requires left { left < length self.old.registers }
         requires right { right < length self.old.registers }
         ensures runs { Runs self.old self.new steps.old steps.new (Command.Eq left right) result }
         ensures takes { Takes self.old self.new steps.old steps.new 4096 116 result }
+        ensures moves { MovesAtMost self.old self.new 2 }
     {
         let answer = heap_commands::eq(&mut self.ground, &mut self.registers, left, right, steps);
         ended(&self.ground.mem, answer)
     }
 }
 
-// The word of a value that is no reference.
+// The word of a value that isn't a reference.
 fn word_of(value: Value) -> Word
     ensures { result ≡ plain (content_of value) }
 {

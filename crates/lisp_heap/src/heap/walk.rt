@@ -10,8 +10,8 @@ use mem_port::{Memory, known};
 use store_word::SwapFault;
 use word_graph::{read_field, read_form, read_word};
 
-/// A walk settles nothing and stores nothing, so the heap stands for what it stood for. A key is the
-/// address where an object stands, and is that object's until the next command.
+/// A walk settles nothing and stores nothing, so the heap represents the same states. A key is the
+/// address of an object, and remains that object's until the next command.
 impl<M: Memory> Walk for Heap<M> {
     ghost graph = { graph_in };
 

@@ -1,4 +1,4 @@
--- Runs that no machine may show, and words that stand for nothing: what a definition that is too weak would let through.
+-- Runs that no machine may show, and images that represent no state: what too weak a definition would allow.
 use Rattle.std.specs.Prelude.{ℕ, false, ◌==◌, if◌then◌else◌, List, [], ◌∷◌, replicate, codes, Some, None}
 use Rattle.lisp_graph.specs.store_word.Words.{Parts, null_word}
 use Rattle.lisp_graph.specs.store_word.declared.word.CdrCode.TheVariants.{Next, Normal, Second}
@@ -24,21 +24,21 @@ pub record Trial : Type 0 where
   pub commands : List Command
   pub answers : List Answer
 
--- no run shows so much
+-- no run shows these answers
 abbrev pub Refuses : Trial → Type 0
 Refuses t = Shows t.start t.commands t.answers → ⊥
 
 -- The end of a collection
 
--- a collection that owes eight units is unfinished when eight are paid
+-- a collection that owes eight units isn't finished when eight are paid
 abbrev pub paid_and_not_over : Trial
 paid_and_not_over = record { start = work 100; commands = C.Flip Full ∷ C.Scavenge 7 ∷ C.Scavenge 1 ∷ []; answers = Replied (R.Flipped 0) ∷ Replied R.More ∷ Replied R.More ∷ [] }
 
--- a `set` ends a collection
+-- a `set` finishes a collection
 abbrev pub ended_by_a_set : Trial
 ended_by_a_set = record { start = work 100; commands = C.Flip Full ∷ five 0 ∷ C.Reclaim ∷ []; answers = Replied (R.Flipped 0) ∷ ok ∷ Replied R.Reclaimed ∷ [] }
 
--- one that is over is unfinished later
+-- a collection that has finished is unfinished later
 abbrev pub over_and_then_not : Trial
 over_and_then_not = record { start = work 100; commands = C.Flip Full ∷ C.Scavenge 3 ∷ C.Scavenge 1 ∷ []; answers = Replied (R.Flipped 0) ∷ Replied R.Done ∷ Replied R.More ∷ [] }
 
@@ -46,35 +46,35 @@ over_and_then_not = record { start = work 100; commands = C.Flip Full ∷ C.Scav
 abbrev pub too_many_pages : Trial
 too_many_pages = record { start = work 100; commands = C.Flip Full ∷ []; answers = Replied (R.Flipped 257) ∷ [] }
 
--- Who stays and who goes
+-- Which objects remain held, and which don't
 
--- one cons, which a register may hold at the flip of so much, and the account after it
+-- a cons is made, `before` is executed, and the account is shown after a whole collection that begins with `flip`
 abbrev pub after_flip : Command → Command → List Command
 after_flip before flip = five 0 ∷ C.Cons 1 0 0 0 ∷ before ∷ flip ∷ C.Scavenge 100 ∷ C.Reclaim ∷ C.Stats ∷ []
 
 abbrev pub shown : List ℕ → ℕ → ℕ → List Answer
 shown name charged quota = ok ∷ ok ∷ ok ∷ Replied (R.Flipped 0) ∷ Replied R.Done ∷ Replied R.Reclaimed ∷ account name charged quota ∷ []
 
--- a condemned name that isn't bound stays
+-- a condemned name that isn't bound remains held
 abbrev pub unbound_that_stays : Trial
 unbound_that_stays = record { start = work 100; commands = after_flip (C.Set 1 V.Nil) (C.Flip Full); answers = shown (codes "work") 2 100 }
 
--- one that a register holds goes
+-- a condemned name that a register refers to is freed
 abbrev pub bound_that_goes : Trial
 bound_that_goes = record { start = work 100; commands = after_flip (C.Move 2 1) (C.Flip Full); answers = shown (codes "work") 0 100 }
 
 abbrev pub perm : World
 perm = world (area (codes "perm") Static 100 ∷ []) 1 2 0
 
--- a static one goes
+-- a static one is freed
 abbrev pub static_that_goes : Trial
 static_that_goes = record { start = perm; commands = after_flip (C.Set 1 V.Nil) (C.Flip Full); answers = shown (codes "perm") 0 100 }
 
--- one of a level that isn't condemned goes
+-- one of a level that isn't condemned is freed
 abbrev pub other_level_that_goes : Trial
 other_level_that_goes = record { start = pools; commands = after_flip (C.Set 1 V.Nil) (C.Flip (Chosen (record { 0 = 2 }))); answers = shown (codes "pool") 0 100 }
 
--- a survivor is flipped at this level, and dropped; a second flip of it
+-- a cons survives a flip of the first level, is dropped, and the second level is flipped
 abbrev pub flipped_twice : ℕ → ℕ → List Command
 flipped_twice first second =
     five 0 ∷ C.Cons 1 0 0 0 ∷ C.Flip (Chosen (record { 0 = first })) ∷ C.Scavenge 100 ∷ C.Reclaim
@@ -85,11 +85,11 @@ shown_twice charged =
     ok ∷ ok ∷ Replied (R.Flipped 0) ∷ Replied R.Done ∷ Replied R.Reclaimed
     ∷ ok ∷ Replied (R.Flipped 0) ∷ Replied R.Done ∷ Replied R.Reclaimed ∷ account (codes "pool") charged 100 ∷ []
 
--- a survivor of the last level stays at it, where a second flip of the level finds it
+-- a survivor of the last level stays at that level, so that a second flip of the level frees it
 abbrev pub last_level_that_stays : Trial
 last_level_that_stays = record { start = pool 2 0; commands = flipped_twice 1 1; answers = shown_twice 0 }
 
--- one of level 1 of two stays at it, or goes where a flip of level 2 doesn't find it
+-- with two levels: a survivor of level 1 stays at level 1, so that a second flip of that frees it; or is at neither, so that a flip of level 2 doesn't free it
 abbrev pub survivor_at_its_level : Trial
 survivor_at_its_level = record { start = pools; commands = flipped_twice 1 1; answers = shown_twice 0 }
 
@@ -98,7 +98,7 @@ survivor_past_the_next = record { start = pools; commands = flipped_twice 1 2; a
 
 -- Silent steps
 
--- three conses, and what a reclaim then answers
+-- three conses, and then a reclaim
 abbrev pub three_conses : List Command
 three_conses = five 0 ∷ C.Cons 1 0 0 0 ∷ C.Cons 2 0 0 0 ∷ C.Cons 3 0 0 0 ∷ C.Reclaim ∷ []
 
@@ -106,11 +106,11 @@ three_conses = five 0 ∷ C.Cons 1 0 0 0 ∷ C.Cons 2 0 0 0 ∷ C.Cons 3 0 0 0 �
 abbrev pub full_and_not_flipped : Trial
 full_and_not_flipped = record { start = pool 0 4; commands = three_conses; answers = ok ∷ ok ∷ ok ∷ ok ∷ Replied R.NotFlipped ∷ [] }
 
--- one that lacks 1 of its capacity is flipped before it
+-- a level whose charge is 1 below its capacity is flipped before it
 abbrev pub flipped_below_capacity : Trial
 flipped_below_capacity = record { start = pool 0 5; commands = three_conses; answers = ok ∷ ok ∷ ok ∷ ok ∷ Replied R.NotDone ∷ [] }
 
--- one that has reached it is flipped before a `set`
+-- a level that has reached its capacity is flipped before a `set`
 abbrev pub flipped_before_a_set : Trial
 flipped_before_a_set = record {
   start = pool 0 4;
@@ -118,11 +118,11 @@ flipped_before_a_set = record {
   answers = ok ∷ ok ∷ ok ∷ ok ∷ Replied R.NotDone ∷ [];
 }
 
--- two levels, of which the first alone has a capacity
+-- two levels, of which only the first has a capacity
 abbrev pub first_collected : World
 first_collected = world (area (codes "pool") Ephemeral 100 ∷ []) 2 0 4
 
--- a silent flip condemns level 2 too: the cons that was promoted to it, and then dropped, goes; the three of level 1 are charged
+-- a silent flip condemns level 2 too: the cons that was promoted to it, and then dropped, is freed; the three of level 1 remain charged
 abbrev pub other_level_flipped : Trial
 other_level_flipped = record {
   start = first_collected;
@@ -134,7 +134,7 @@ other_level_flipped = record {
       ∷ ok ∷ ok ∷ ok ∷ Replied R.Done ∷ Replied R.Reclaimed ∷ account (codes "pool") 6 100 ∷ [];
 }
 
--- a collection that runs and isn't over is begun anew before the third cons, and what was paid is lost
+-- a collection whose scan isn't finished begins again before the third cons, and what was paid is lost
 abbrev pub flipped_while_running : Trial
 flipped_while_running = record {
   start = pool 0 4;
@@ -142,14 +142,14 @@ flipped_while_running = record {
   answers = ok ∷ ok ∷ ok ∷ Replied (R.Flipped 0) ∷ Replied R.More ∷ ok ∷ Replied R.More ∷ [];
 }
 
--- a collection that is over, a command, and the reclaim
+-- a collection whose scan is finished, then a command, then the reclaim
 abbrev pub over_before : Command → List Command
 over_before command = C.Flip Full ∷ C.Scavenge 100 ∷ command ∷ C.Reclaim ∷ []
 
 abbrev pub over_shown : Reply → List Answer
 over_shown last = Replied (R.Flipped 0) ∷ Replied R.Done ∷ ok ∷ Replied last ∷ []
 
--- the collection isn't reclaimed before a cons, in a machine in which a level is collected by itself
+-- the collection isn't reclaimed before a cons, in a world in which some level has a capacity
 abbrev pub over_and_not_reclaimed : Trial
 over_and_not_reclaimed = record { start = pool 2 100; commands = over_before (C.Cons 1 0 0 0); answers = over_shown R.Reclaimed }
 
@@ -157,17 +157,17 @@ over_and_not_reclaimed = record { start = pool 2 100; commands = over_before (C.
 abbrev pub reclaimed_before_a_set : Trial
 reclaimed_before_a_set = record { start = pool 2 100; commands = over_before (five 0); answers = over_shown R.NotFlipped }
 
--- it is reclaimed before a cons, though no level is collected by itself
+-- it is reclaimed before a cons, though no level has a capacity
 abbrev pub reclaimed_without_capacity : Trial
 reclaimed_without_capacity = record { start = pool 2 0; commands = over_before (C.Cons 1 0 0 0); answers = over_shown R.NotFlipped }
 
--- What is owed and what is paid: each of these collections has paid all that it owes, and more is to do
+-- What is owed and what is paid: each of these collections has paid all that it owes, and yet isn't finished
 
--- a base page is owed more than 256 words
+-- more than 256 words are owed for a base page
 abbrev pub wide_page : Trial
 wide_page = record { start = perm; commands = C.Flip Full ∷ C.Scavenge 264 ∷ []; answers = Replied (R.Flipped 1) ∷ Replied R.More ∷ [] }
 
--- a condemned cons of charge 2 is owed more than 2
+-- more than 2 words are owed for a condemned cons of charge 2
 abbrev pub owed_twice : Trial
 owed_twice = record {
   start = work 100;
@@ -191,7 +191,7 @@ wide_rplacd = record {
   answers = ok ∷ ok ∷ Replied (R.Flipped 0) ∷ ok ∷ Replied R.More ∷ [];
 }
 
--- an RPLACD that is refused owes something
+-- a refused RPLACD owes something
 abbrev pub owed_for_a_refused_rplacd : Trial
 owed_for_a_refused_rplacd = record {
   start = work 100;
@@ -199,7 +199,7 @@ owed_for_a_refused_rplacd = record {
   answers = Replied (R.Flipped 0) ∷ Replied R.WrongType ∷ Replied R.More ∷ [];
 }
 
--- a cons that is refused owes something
+-- a refused cons owes something
 abbrev pub owed_for_a_refused_cons : Trial
 owed_for_a_refused_cons = record {
   start = work 1;
@@ -207,16 +207,16 @@ owed_for_a_refused_cons = record {
   answers = Replied (R.Flipped 0) ∷ Replied (R.Exhausted 0 0 2 1) ∷ Replied R.More ∷ [];
 }
 
--- Faults and quotas
+-- Swap errors and quotas
 
--- a command that meets a fault makes something, or a `set` meets one
+-- a command that meets a swap error makes an object, or a `set` meets one
 abbrev pub fault_that_makes : Trial
 fault_that_makes = record { start = work 100; commands = five 0 ∷ C.Cons 1 0 0 0 ∷ C.Stats ∷ []; answers = ok ∷ Replied R.Fault ∷ account (codes "work") 2 100 ∷ [] }
 
 abbrev pub set_that_faults : Trial
 set_that_faults = record { start = work 100; commands = five 0 ∷ []; answers = Replied R.Fault ∷ [] }
 
--- a CAR that meets one ends a collection, though it scans nothing
+-- a CAR that meets a swap error finishes a collection, though it scans nothing
 abbrev pub fault_that_ends : Trial
 fault_that_ends = record {
   start = work 100;
@@ -224,7 +224,7 @@ fault_that_ends = record {
   answers = Replied (R.Flipped 0) ∷ Replied R.Fault ∷ Replied R.Reclaimed ∷ [];
 }
 
--- a cons that meets one owes something
+-- a cons that meets a swap error owes something
 abbrev pub fault_that_owes : Trial
 fault_that_owes = record {
   start = work 100;
@@ -232,7 +232,7 @@ fault_that_owes = record {
   answers = Replied (R.Flipped 0) ∷ Replied R.Fault ∷ Replied R.More ∷ [];
 }
 
--- a command that uses no word meets one
+-- a command that uses no word meets a swap error
 abbrev pub faults_at_once : Command → Trial
 faults_at_once command = record { start = work 100; commands = command ∷ []; answers = Replied R.Fault ∷ [] }
 
@@ -245,7 +245,7 @@ reclaim_that_faults = faults_at_once C.Reclaim
 abbrev pub stats_that_faults : Trial
 stats_that_faults = faults_at_once C.Stats
 
--- more is made than the quota allows, or less
+-- more than the quota is allocated, or less than it is refused
 abbrev pub more_than_quota : Trial
 more_than_quota = record { start = work 3; commands = five 0 ∷ C.Cons 1 0 0 0 ∷ C.Cons 2 0 0 0 ∷ []; answers = ok ∷ ok ∷ ok ∷ [] }
 
@@ -254,7 +254,7 @@ less_than_quota = record { start = work 4; commands = five 0 ∷ C.Cons 1 0 0 0 
 
 -- Words
 
--- a block of one field that grew from none, a pair, and a NULL word behind it that is part of neither
+-- a block of one field that grew from none, a pair, and after it a NULL word that is part of neither
 abbrev pub stale_words : List Parts
 stale_words =
     record { cdr = Next; content = HeaderForward 1 } ∷ record { cdr = Next; content = Header 9 1 } ∷ record { cdr = Next; content = Nil }
@@ -271,11 +271,11 @@ stale_store = record {
 abbrev pub HuskIsShort : Type 0
 HuskIsShort = NoStale (image stale_words nothing nothing None) stale_store (λ n. if n == 0 then 1 else 3) → ⊥
 
--- six words, of which the last is left to scan, in a region of this standing with so many used
+-- six words, of which the last remains to be scanned, in a live or old region that has this number of used words
 abbrev pub left_in : Rattle.lisp_meaning.specs.reading.Image.Standing → ℕ → Image
 left_in standing used = record (image (replicate 6 null_word) nothing (λ a. a == 5) None) { regions = record { standing = standing; area = 0; level = 0; used = used } ∷ [] }
 
--- no word is left above a used end, or in an old region
+-- no word at or above a used end, or in an old region, remains to be scanned
 pub record LeftIsUsed : Type 0 where
   pub above : IsScanned (left_in Live 5) false → ⊥
   pub old : IsScanned (left_in Old 6) false → ⊥

@@ -1,4 +1,4 @@
--- Worked runs: inputs, and what is shown.
+-- Worked runs: inputs, and the replies that are shown.
 use Rattle.std.specs.Prelude.{◌≡◌, ℕ, Bool, true, false, ◌||◌, ◌==◌, if◌then◌else◌, List, [], ◌∷◌, length, replicate, codes, pos, Option, Some, None}
 use Rattle.lisp_graph.specs.store_word.Words.{Parts, null_word}
 use Rattle.lisp_graph.specs.store_word.declared.word.CdrCode.TheVariants.{Next, Normal}
@@ -23,7 +23,7 @@ use Rattle.lisp_meaning.specs.reading.Value.{Means}
 use Rattle.lisp_meaning.specs.reading.Objects.{StandsAt}
 use Rattle.lisp_meaning.specs.reading.Units.{InRegister, InWord, next_unit}
 
--- so much is shown by some run
+-- some run shows these answers
 abbrev pub Shows : World → List Command → List Answer → Type 0
 Shows w commands answers = (new : State) × Run (opening w) commands answers new
 
@@ -59,14 +59,14 @@ account name charged quota = Accounts (record { name = name; charged = charged; 
 
 -- Runs
 
--- an allocation is refused where it exceeds the quota, and not before
+-- an allocation is refused if it exceeds the quota, and only then
 abbrev pub exact_quota : List Command
 exact_quota = five 0 ∷ C.Cons 1 0 0 0 ∷ C.Cons 2 0 1 0 ∷ C.Cons 3 0 0 0 ∷ C.Car 4 1 ∷ []
 
 abbrev pub ExactQuota : Type 0
 ExactQuota = Shows (work 4) exact_quota (ok ∷ ok ∷ ok ∷ Replied (R.Exhausted 0 4 2 4) ∷ number 5 ∷ [])
 
--- RPLACD in an area that is full: no more is charged, and the changed cons is the same object
+-- RPLACD in a full area: the charge is the same, and the changed cons is the same object
 abbrev pub full_area : List Command
 full_area =
     five 0 ∷ C.List 1 0 (0 ∷ 0 ∷ 0 ∷ []) ∷ C.Cdr 2 1 ∷ C.Set 3 V.Nil ∷ C.Rplacd 2 3 ∷ C.Cdr 4 2 ∷ C.Stats
@@ -76,7 +76,7 @@ abbrev pub FullArea : Type 0
 FullArea = Shows (work 9) full_area
     (ok ∷ ok ∷ Replied R.Cons ∷ ok ∷ ok ∷ Replied R.Nil ∷ account (codes "work") 9 9 ∷ Replied R.Cons ∷ Replied R.True ∷ Replied R.Nil ∷ [])
 
--- the first cons of a list is dropped, and a collection takes it away
+-- the first cons of a list is dropped, and a collection frees it
 abbrev pub dropped_front : List Command
 dropped_front =
     five 0 ∷ C.List 1 0 (0 ∷ 0 ∷ 0 ∷ []) ∷ C.Cdr 2 1 ∷ (C.Set 1 V.Nil)
@@ -86,7 +86,7 @@ abbrev pub DroppedFront : Type 0
 DroppedFront = Shows (work 9) dropped_front
     (ok ∷ ok ∷ Replied R.Cons ∷ ok ∷ Replied (R.Flipped 0) ∷ Replied R.Done ∷ Replied R.Reclaimed ∷ account (codes "work") 6 9 ∷ [])
 
--- space that was refused is there after a collection
+-- an allocation that was refused succeeds after a collection
 abbrev pub space_regained : List Command
 space_regained =
     five 0 ∷ C.Cons 1 0 0 0 ∷ C.Cons 1 0 0 0 ∷ (C.Cons 2 0 0 0)
@@ -96,7 +96,7 @@ abbrev pub SpaceRegained : Type 0
 SpaceRegained = Shows (work 4) space_regained
     (ok ∷ ok ∷ ok ∷ Replied (R.Exhausted 0 4 2 4) ∷ Replied (R.Flipped 0) ∷ Replied R.Done ∷ Replied R.Reclaimed ∷ ok ∷ account (codes "work") 4 4 ∷ [])
 
--- the program goes on between a flip and the reclaim
+-- the program continues between a flip and the reclaim
 abbrev pub between_flip_and_reclaim : List Command
 between_flip_and_reclaim =
     five 0 ∷ C.Cons 1 0 0 0 ∷ C.Flip Full ∷ C.Car 2 1 ∷ C.Cons 3 0 1 2 ∷ C.Reclaim ∷ C.Scavenge 100 ∷ C.Reclaim
@@ -106,7 +106,7 @@ abbrev pub BetweenFlipAndReclaim : Type 0
 BetweenFlipAndReclaim = Shows (work 100) between_flip_and_reclaim
     (ok ∷ ok ∷ Replied (R.Flipped 0) ∷ number 5 ∷ ok ∷ Replied R.NotDone ∷ Replied R.Done ∷ Replied R.Reclaimed ∷ Replied R.Cons ∷ Replied R.True ∷ number 5 ∷ [])
 
--- the phases: a collection of eight registers is over when eight are paid
+-- the phases: the scan of a collection with eight registers is finished when eight units are paid
 abbrev pub phases : List Command
 phases = C.Flip Full ∷ C.Flip Full ∷ C.Reclaim ∷ C.Scavenge 7 ∷ C.Scavenge 1 ∷ C.Reclaim ∷ C.Reclaim ∷ C.Scavenge 5 ∷ []
 
@@ -114,7 +114,7 @@ abbrev pub Phases : Type 0
 Phases = Shows (work 100) phases
     (Replied (R.Flipped 0) ∷ Replied R.Busy ∷ Replied R.NotDone ∷ Replied R.More ∷ Replied R.Done ∷ Replied R.Reclaimed ∷ Replied R.NotFlipped ∷ Replied R.NotFlipped ∷ [])
 
--- a survivor of the last level becomes dynamic, where a flip of that level leaves it alone
+-- a survivor of the last level becomes dynamic, so a second flip of that level doesn't free it
 abbrev pub last_level : List Command
 last_level =
     five 0 ∷ C.Cons 1 0 0 0 ∷ C.Flip (Chosen (record { 0 = 1 })) ∷ C.Scavenge 100 ∷ C.Reclaim
@@ -140,7 +140,7 @@ abbrev pub Refusals : Type 0
 Refusals = Shows (work 100) refusals
     (ok ∷ ok ∷ Replied (R.NoField 2) ∷ Replied R.Nil ∷ Replied R.WrongType ∷ Replied R.WrongType ∷ number 2 ∷ ok ∷ Replied (R.Block 9 2) ∷ Replied R.True ∷ [])
 
--- a cons that was moved and then laid anew, so that both forwards lead to it, is one object
+-- a cons that was moved and then relocated, so that both forwards lead to it, is one object
 abbrev pub both_forwards : List Command
 both_forwards =
     C.Set 0 (V.Fix (pos 7)) ∷ C.List 1 0 (0 ∷ 0 ∷ []) ∷ C.Cdr 2 1 ∷ C.Flip Full ∷ C.Rplacd 2 0 ∷ C.Cdr 3 1 ∷ C.Eq 3 2 ∷ C.Cdr 4 3 ∷ []
@@ -169,7 +169,7 @@ abbrev pub SilentSteps : Type 0
 SilentSteps = Shows (pool 4 4) silent_steps
     (ok ∷ ok ∷ ok ∷ ok ∷ ok ∷ Replied R.NotDone ∷ Replied R.Done ∷ account (codes "pool") 6 100 ∷ ok ∷ account (codes "pool") 6 100 ∷ Replied R.NotFlipped ∷ [])
 
--- two levels: what level 1 has goes to level 2, and what the last has becomes dynamic; a flip of level 2 then takes what was promoted there, and a full flip the rest
+-- two levels: survivors of level 1 are promoted to level 2, and those of the last level become dynamic; a flip of level 2 then frees what was promoted there, and a full flip the rest
 abbrev pub two_levels : List Command
 two_levels =
     five 0 ∷ C.Cons 1 0 0 0 ∷ C.Flip (Chosen (record { 0 = 1 })) ∷ C.Scavenge 100 ∷ C.Reclaim
@@ -189,7 +189,7 @@ TwoLevels = Shows pools two_levels
     ∷ Replied (R.Flipped 0) ∷ Replied R.Done ∷ Replied R.Reclaimed ∷ account (codes "pool") 2 100
     ∷ Replied (R.Flipped 0) ∷ Replied R.Done ∷ Replied R.Reclaimed ∷ account (codes "pool") 0 100 ∷ [])
 
--- a command that meets a fault of the swap changes nothing, and may be given again
+-- a command that meets a swap error changes nothing, and may be given again
 abbrev pub faulted : List Command
 faulted = five 0 ∷ C.Cons 1 0 0 0 ∷ C.Stats ∷ C.Cons 1 0 0 0 ∷ C.Car 2 1 ∷ C.Car 2 1 ∷ C.Stats ∷ []
 
@@ -197,7 +197,7 @@ abbrev pub Faulted : Type 0
 Faulted = Shows (work 4) faulted
     (ok ∷ Replied R.Fault ∷ account (codes "work") 0 4 ∷ ok ∷ Replied R.Fault ∷ number 5 ∷ account (codes "work") 2 4 ∷ [])
 
--- a circle of one cons is dumped as it was read
+-- a circle of one cons is dumped unchanged
 abbrev pub circle : World
 circle = record (work 100) {
   objects = record { area = 0; charge = 2; body = B.Cons (V.Fix (pos 1)) (V.Ref 0) } ∷ [];
@@ -212,7 +212,7 @@ CircularList = Shows circle circular_list (Contents circle ∷ Replied R.Cons �
 
 -- Words
 
--- an image of these words, with these words and registers left to scan, and the last word of the latest transport
+-- a memory image of these words, with these words and registers to scan, and the last word of the latest transport
 abbrev pub image : List Parts → (ℕ → Bool) → (ℕ → Bool) → Option ℕ → Image
 image words registers left last = record {
   words = words;
@@ -233,7 +233,7 @@ image words registers left last = record {
 abbrev pub nothing : ℕ → Bool
 nothing n = false
 
--- a cell that was laid anew as a pair, and the pair moved: both forwards, and behind them the pair (7)
+-- a cell that was relocated as a pair, and the pair moved: both forwards, and after them the pair (7)
 abbrev pub forwarded_words : List Parts
 forwarded_words =
     record { cdr = Next; content = HeaderForward 1 } ∷ record { cdr = Next; content = GcForward 3 } ∷ null_word
@@ -246,7 +246,7 @@ forwarded_store = record {
   husks = λ a l. 0;
 }
 
--- the first word leads to the last pair, and a reference to it is the cons that stands there
+-- the first word leads to the last pair, and a reference to it means the cons there
 pub record ForwardsLead : Type 0 where
   pub final : Final (image forwarded_words nothing nothing None) 0 3
   pub value : Means (image forwarded_words nothing nothing None) forwarded_store (λ n. 3) (ListAt 0) (V.Ref 0)

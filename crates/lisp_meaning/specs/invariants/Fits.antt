@@ -11,11 +11,11 @@ use Rattle.lisp_meaning.specs.machine.State.{Store, object, in_use}
 use Rattle.lisp_meaning.specs.reading.Classes.{Class, region_of, class_at, is_old_at, is_live_at}
 use Rattle.lisp_meaning.specs.invariants.Roles.{Kind, AsCons, AsBlock, Role, Blank, Scratch, Waste, HuskWord, PairHead, PairTail, Cell, Head, Field, Moved, Relaid, names_as, value_of, RoleMap, kind_of, car_of, cdr_of, field_of, header_of, Begins}
 
--- a word has the value that the object has there
+-- a word represents the value that the object has in this part
 abbrev pub Holds : (ℕ → Role) → Content → Option Value → Type 0
 Holds role c part = (v : Value) × (part ≡ Some v) × (value_of role c ≡ Some v)
 
--- the cdr of a cell: what comes next in the region is the rest of the list, and a cell there has the next place in it
+-- the cdr of a cell: the next word of the region is the rest of the list, and if that is a cell, it has the next place in the list
 abbrev pub CellCdr : (ℕ → Role) → ℕ → ℕ → Option Value → CdrCode → Type 0
 CellCdr role a i cdr CdrNil = cdr ≡ Some V.Nil
 CellCdr role a i cdr CdrNext =
@@ -24,13 +24,13 @@ CellCdr role a i cdr CdrNext =
 CellCdr role a i cdr CdrNormal = ⊥
 CellCdr role a i cdr CdrSecond = ⊥
 
--- the cdr code of a pair's second word tells its charge
+-- the cdr code of a pair's second word shows its charge
 abbrev pub PairCode : ℕ → CdrCode → Type 0
 PairCode charge code = ((charge ≡ 2) × (code ≡ CdrSecond)) ⊎ ((charge ≡ 3) × (code ≡ CdrNext))
 
--- What a word is, by its role. `s` are the objects, `a` is the word's address.
+-- What a word has to be, by its role. `s` has the objects, `a` is the word's address.
 
--- a NULL word behind the first word of its husk, which leads to a block; so is each word between the two
+-- a NULL word after the first word of its husk, which is a forward to a block; each word between the two is of the same husk
 pub record IsHuskWord (k : RoleMap) (a : ℕ) (w : Parts) (first : ℕ) : Type 0 where
   pub blank : w ≡ null_word
   pub after : first < a
@@ -106,7 +106,7 @@ pub record IsRelaid (regions : ℕ → Class) (k : RoleMap) (s : Store) (a : ℕ
   pub class : class_at regions to ≡ class_at regions a
   pub age : k.age to ≡ suc (k.age a)
 
--- a word is what its role says
+-- a word is as its role requires
 abbrev pub Fits : (ℕ → Class) → RoleMap → Store → ℕ → Parts → Role → Type 0
 Fits regions k s a w Blank = w ≡ null_word
 Fits regions k s a w Scratch = Unit {0}
@@ -120,7 +120,7 @@ Fits regions k s a w (Field n i) = IsField k s a w n i
 Fits regions k s a w (Moved kind n) = IsMoved regions k s a w kind n
 Fits regions k s a w (Relaid kind n) = IsRelaid regions k s a w kind n
 
--- the words of the memory stand for the objects that are held
+-- the words of the memory fit their roles, each held object begins at its address, and no age exceeds 11
 pub record Roled (W : ℕ → Parts) (regions : ℕ → Class) (k : RoleMap) (s : Store) : Type 0 where
   pub fits : (a : ℕ) → Fits regions k s a (W a) (k.role a)
   pub begins : (n : ℕ) → in_use s n → Begins (kind_of (object s n).body) (k.role (k.at n)) n

@@ -1,4 +1,4 @@
--- The invariant that every step keeps. What a machine stands for follows from it.
+-- The invariant that every transition keeps. It implies which state a machine represents.
 use Rattle.std.specs.Prelude.{◌≡◌, ℕ, suc, ◌+◌, ◌<◌, ◌≤◌, true, false, ◌&&◌, List, length, get_or, Some, IsTrue}
 use Rattle.lisp_graph.specs.store_word.Words.{null_word}
 use Rattle.lisp_graph.specs.declared.object.Value.TheVariants as V
@@ -11,18 +11,22 @@ use Rattle.lisp_meaning.specs.reading.Image.{Image, word, region, no_region, is_
 use Rattle.lisp_meaning.specs.reading.Classes.{classes, class_at, of_class, old_of, in_class, in_old_class}
 use Rattle.lisp_meaning.specs.invariants.Roles.{Blank, Scratch, RoleMap, value_of}
 use Rattle.lisp_meaning.specs.invariants.Fits.{Roled}
-use Rattle.lisp_meaning.specs.invariants.ChargesIn.{charges_in, spares_in}
+use Rattle.lisp_meaning.specs.invariants.ChargesIn.{charges_in, spares_in, husk_word_in}
 use Rattle.lisp_meaning.specs.reading.Marks.{Marks}
 use Rattle.lisp_meaning.specs.reading.Stands.{Classes, PhaseOf, Work}
 
--- What is used is what has a role: a word below a used end has one of its own, all others are blank, and nothing is only written.
+-- The used words are those that have a role: a word below a used end isn't blank, all others are, and no word is written without a role.
 pub record Covered (g : Image) (k : RoleMap) : Type 0 where
   pub used : (a : ℕ) → IsTrue (is_used g a) → k.role a ≡ Blank → ⊥
   pub unused : (a : ℕ) → is_used g a ≡ false → k.role a ≡ Blank
   pub free : (a : ℕ) → is_free (region g a).standing ≡ true → k.role a ≡ Blank
   pub done : (a : ℕ) → k.role a ≡ Scratch → ⊥
 
--- what a memory and its table are, by a map, for a store and what a collection aims at: no register, no counter. `top` is the greatest level
+-- in each live class the words of husks, below any bound, are at most the table's husks
+abbrev pub HusksFit : Image → RoleMap → Type 0
+HusksFit g k = (area level count : ℕ) → total (husk_word_in k (classes g) area level) count ≤ g.live_husks area level
+
+-- the invariant of a memory and its table, by a role map, for a store and the aim of a collection: without registers and counters. `top` is the greatest level
 pub record MemoryInvariant (g : Image) (k : RoleMap) (top : ℕ) (areas : List AreaRule) (s : Store) (aim : Condemned) : Type 0 where
   pub roled : Roled (word g) (classes g) k s
   pub covered : Covered g k
@@ -40,6 +44,7 @@ pub record MemoryInvariant (g : Image) (k : RoleMap) (top : ℕ) (areas : List A
   pub quota : (a : ℕ) → a < length areas → account top s aim a ≤ (rule_of areas a).quota
   -- room
   pub room_live : (area level : ℕ) → used_words g (of_class area level) + spares_in s k (classes g) (in_class area level) ≤ g.live_charge area level + g.live_husks area level
+  pub room_husks : HusksFit g k
   pub room_old : (area : ℕ) → used_words g (old_of area) ≤ charges s (λ n. aim.condemned n && per_area s area n) + aim.gone area
   pub chains : (i : ℕ) → i < length g.regions → is_free (get_or g.regions i no_region).standing ≡ false → g.is_last i ≡ false → 2048 < (get_or g.regions i no_region).used
   pub marks : Marks g

@@ -1,9 +1,9 @@
--- An object laid at a new place, and what its old words become.
+-- An object that is laid out at a new place, and the roles of its old words.
 use Rattle.std.specs.Prelude.{ℕ, zero, suc, ◌+◌, ◌-◌, Bool, ◌&&◌, if◌then◌else◌, ◌==◌, nat_le, nat_lt}
 use Rattle.lisp_meaning.specs.machine.Maps.{put_at}
 use Rattle.lisp_meaning.specs.invariants.Roles.{Kind, AsCons, AsBlock, Role, Scratch, Waste, HuskWord, PairHead, PairTail, Cell, Head, Field, Moved, Relaid, RoleMap}
 
--- how an object is laid: a cell at this place of its list, a pair, a block of so many fields
+-- how an object is laid out: a cell at this place of its list, a pair, or a block with this number of fields
 pub data Shape : Type 0 where
   ACell : ℕ → Shape
   APair : Shape
@@ -15,7 +15,7 @@ size (ACell i) = 1
 size APair = 2
 size (ABlock count) = suc count
 
--- what a reference takes it for
+-- the kind of a reference to it
 abbrev pub kind_in : Shape → Kind
 kind_in (ACell i) = AsCons
 kind_in APair = AsCons
@@ -29,11 +29,11 @@ role_in APair n (suc j) = PairTail n
 role_in (ABlock count) n zero = Head n
 role_in (ABlock count) n (suc j) = Field n j
 
--- from `low` on, so many
+-- `count` addresses from `low` on
 abbrev pub between : ℕ → ℕ → ℕ → Bool
 between low count a = nat_le low a && nat_lt a (low + count)
 
--- n is laid at b; of its old words, from a on, the first gets one role and the rest another
+-- n is laid out at b; of its `gone` old words, from a on, the first gets one role and the rest another
 abbrev pub laid : RoleMap → ℕ → ℕ → ℕ → ℕ → Shape → Role → Role → ℕ → RoleMap
 laid k n a gone b shape first rest age = record {
   role = λ c. if between b (size shape) c then role_in shape n (c - b) else (if between a gone c then (if c == a then first else rest) else k.role c);
@@ -41,11 +41,11 @@ laid k n a gone b shape first rest age = record {
   at = put_at k.at n b;
 }
 
--- words are written where nothing stands, and nothing is said of them yet
+-- `count` words from b on, which were blank, are written and have no role yet
 abbrev pub scratched : RoleMap → ℕ → ℕ → RoleMap
 scratched k b count = record k { role = λ a. if between b count a then Scratch else k.role a }
 
--- a list of so many new names, from one on, laid as cells in so many words from b on
+-- `count` new names, from `from` on, are laid out as the cells of one list from b on
 abbrev pub run_laid : RoleMap → ℕ → ℕ → ℕ → RoleMap
 run_laid k from b count = record {
   role = λ c. if between b count c then Cell (from + (c - b)) (c - b) else k.role c;
@@ -59,14 +59,14 @@ run_laid k from b count = record {
 abbrev pub newly_laid : RoleMap → ℕ → ℕ → Shape → RoleMap
 newly_laid k n b shape = laid (scratched k b (size shape)) n 0 0 b shape Waste Waste 0
 
--- an object that stood at a, in another shape: its first word becomes a GC-FORWARD
+-- an object at a moves to b, in another shape: its first word becomes a GC-FORWARD
 abbrev pub moved_to : RoleMap → ℕ → ℕ → Shape → ℕ → Shape → RoleMap
 moved_to k n a old b new = laid (scratched k b (size new)) n a (size old) b new (Moved (kind_in old) n) Waste (k.age a)
 
--- its first word becomes a HEADER-FORWARD, the others its husk
+-- an object at a is relocated to b: its first word becomes a HEADER-FORWARD, the others its husk
 abbrev pub relaid_to : RoleMap → ℕ → ℕ → Shape → ℕ → Shape → RoleMap
 relaid_to k n a old b new = laid (scratched k b (size new)) n a (size old) b new (Relaid (kind_in old) n) (HuskWord a) (suc (k.age a))
 
--- so many new conses, as cells
+-- `count` new conses, as cells
 abbrev pub cells_laid : RoleMap → ℕ → ℕ → ℕ → RoleMap
 cells_laid k from b count = run_laid (scratched k b count) from b count

@@ -1,9 +1,9 @@
--- What the table and the memory say of words that were placed and written: numbers alone.
+-- What placing and writing words changes in the table and the memory, in numbers alone.
 use Rattle.std.specs.Prelude.{◌≡◌, ℕ, ◌+◌, ◌<◌, ◌≤◌, true, false, length, get_or}
 use Rattle.lisp_meaning.specs.reading.Image.{Image, word, region, is_free, is_used, used_words, Live, no_region}
 use Rattle.lisp_meaning.specs.reading.Classes.{classes, class_at, region_of, of_class, old_of}
 
--- words were placed at the end of the chain of an area and a level, and written; all else is as it was
+-- words were placed at the end of the chain of an area and a level, and written; all else is unchanged
 pub record Placed (g g' : Image) (b count area level : ℕ) : Type 0 where
   pub words : (a : ℕ) → ((b ≤ a) × (a < b + count) → ⊥) → word g' a ≡ word g a
   pub unused : (a : ℕ) → b ≤ a → a < b + count → is_used g a ≡ false
@@ -19,7 +19,7 @@ pub record Placed (g g' : Image) (b count area level : ℕ) : Type 0 where
   pub used_old : (x : ℕ) → used_words g' (old_of x) ≡ used_words g (old_of x)
   pub chains : (i : ℕ) → i < length g'.regions → is_free (get_or g'.regions i no_region).standing ≡ false → g'.is_last i ≡ false → 2048 < (get_or g'.regions i no_region).used
 
--- and charged to their class, as a new object's
+-- and they are charged to their class, as those of a new object
 pub record Charged (g g' : Image) (area level charge : ℕ) : Type 0 where
   pub live_class : g'.live_charge area level ≡ g.live_charge area level + charge
   pub live_else : (x y : ℕ) → ((x ≡ area) × (y ≡ level) → ⊥) → g'.live_charge x y ≡ g.live_charge x y
@@ -27,7 +27,7 @@ pub record Charged (g g' : Image) (area level charge : ℕ) : Type 0 where
   pub live_husks : (x y : ℕ) → g'.live_husks x y ≡ g.live_husks x y
   pub old_husks : (x y : ℕ) → g'.old_husks x y ≡ g.old_husks x y
 
--- and charged to their class, and no longer to an old one of the area: an object's that moved
+-- and they are charged to their class, and no longer to an old class of the area, as those of an object that moved
 pub record Rehomed (g g' : Image) (area from level charge : ℕ) : Type 0 where
   pub live_class : g'.live_charge area level ≡ g.live_charge area level + charge
   pub live_else : (x y : ℕ) → ((x ≡ area) × (y ≡ level) → ⊥) → g'.live_charge x y ≡ g.live_charge x y
@@ -36,7 +36,7 @@ pub record Rehomed (g g' : Image) (area from level charge : ℕ) : Type 0 where
   pub live_husks : (x y : ℕ) → g'.live_husks x y ≡ g.live_husks x y
   pub old_husks : (x y : ℕ) → g'.old_husks x y ≡ g.old_husks x y
 
--- and an object's charge and husk in their class are others: those of one that was laid anew
+-- and the charge and husk of an object in their class change, as for an object that was relocated
 pub record Recharged (g g' : Image) (area level before after husk : ℕ) : Type 0 where
   pub live_class : g'.live_charge area level + before ≡ g.live_charge area level + after
   pub live_else : (x y : ℕ) → ((x ≡ area) × (y ≡ level) → ⊥) → g'.live_charge x y ≡ g.live_charge x y

@@ -1,4 +1,4 @@
--- What each word of the memory is for: the inductive form of what a memory stands for, with no chain of forwards in it.
+-- What each word of the memory is for (a ghost typing of the heap): the inductive form of the reading, without chains of forwards.
 use Rattle.std.specs.Prelude.{◌≡◌, ◌⊎◌, ℕ, Option, Some, None, length, slice_get}
 use Rattle.lisp_graph.specs.store_word.declared.word.Content.{Content}
 use Rattle.lisp_graph.specs.store_word.declared.word.Content.TheVariants.{Nil as NilWord, Fixnum, List as ListAt, Struct as StructAt}
@@ -7,13 +7,13 @@ use Rattle.lisp_graph.specs.declared.object.Value.TheVariants as V
 use Rattle.lisp_graph.specs.declared.object.Body.{Body}
 use Rattle.lisp_graph.specs.declared.object.Body.TheVariants.{Cons, Block}
 
--- what a reference takes an object for
+-- the kind of a reference: to a cons or to a block
 pub data Kind : Type 0 where
   AsCons AsBlock : Kind
 
 -- what a word is for
 pub data Role : Type 0 where
-  -- above a used end; written and not yet used; left over in an old region
+  -- above a used end; written and not yet used; a remnant in an old region
   Blank Scratch Waste : Role
   -- a NULL word of the husk that begins at this address
   HuskWord : (first : ℕ) → Role
@@ -26,7 +26,7 @@ pub data Role : Type 0 where
   -- a GC-FORWARD, a HEADER-FORWARD
   Moved Relaid : (kind : Kind) (name : ℕ) → Role
 
--- the name that a reference to such a word has
+-- the name that a reference of this kind to such a word has
 abbrev pub names_as : Kind → Role → Option ℕ
 names_as AsCons (PairHead n) = Some n
 names_as AsCons (Cell n i) = Some n
@@ -54,7 +54,7 @@ abbrev pub as_ref : Option ℕ → Option Value
 as_ref None = None
 as_ref (Some n) = Some (V.Ref n)
 
--- the value of a word: that of a reference is one look-up
+-- the value of a word; to find that of a reference takes one look-up
 abbrev pub value_of : (ℕ → Role) → Content → Option Value
 value_of role NilWord = Some V.Nil
 value_of role (Fixnum i) = Some (V.Fix i)
@@ -62,7 +62,7 @@ value_of role (ListAt a) = as_ref (names_as AsCons (role a))
 value_of role (StructAt a) = as_ref (names_as AsBlock (role a))
 value_of role _ = None
 
--- for each address what its word is for, and how often the object had been laid anew when it came to stand there; for each name its address
+-- for each address what its word is for, and how often the object had been relocated when it was placed there; for each name its address
 pub record RoleMap : Type 0 where
   pub role : ℕ → Role
   pub age : ℕ → ℕ
@@ -94,11 +94,11 @@ abbrev pub header_of : Body → Option (ℕ × ℕ)
 header_of (Cons a d) = None
 header_of (Block code fields) = Some (code, length fields)
 
--- an object begins at such a word
+-- an object of this kind begins at such a word
 abbrev pub Begins : Kind → Role → ℕ → Type 0
 Begins AsCons r n = (r ≡ PairHead n) ⊎ ((i : ℕ) × (r ≡ Cell n i))
 Begins AsBlock r n = r ≡ Head n
 
--- each reference means what it meant
+-- each reference still has its meaning
 abbrev pub Refines : (ℕ → Role) → (ℕ → Role) → Type 0
 Refines old new = (kind : Kind) (a n : ℕ) → names_as kind (old a) ≡ Some n → names_as kind (new a) ≡ Some n

@@ -48,7 +48,7 @@ pub record WritesCells (g g1 : Image) (k : RoleMap) (b area level : ℕ) (values
   pub next : (i : ℕ) → suc i < length values → (word g1 (b + i)).cdr ≡ CdrNext
   pub last : (i : ℕ) → suc i ≡ length values → (word g1 (b + i)).cdr ≡ CdrNil
 
--- What they are, where they fit the quota of their area
+-- The objects that they are, if they fit the quota of their area
 
 -- a cons
 abbrev pub PairMade : Type 0

@@ -15,7 +15,7 @@ use Rattle.lisp_meaning.specs.invariants.Invariant.{MachineInvariant}
 abbrev pub InvariantIsSound : Type 0
 InvariantIsSound = (g : Image) (k : RoleMap) (s : State) → MachineInvariant g k s → 0 < s.space.registers → IsSound s
 
--- where no collection runs, and all that may have a condemned address is left to scan, the machine stands for the flipped state
+-- if no collection ran, and all that may have a condemned address remains to be scanned, the machine represents the flipped state
 abbrev pub Flipped : Type 0
 Flipped =
     (g g' : Image) (k : RoleMap) (s : State) (what : Condemn) (pages : ℕ)
@@ -23,7 +23,7 @@ Flipped =
     → g'.registers ≡ g.registers → g'.collection ≡ Some what → IsScanned g' false → units_left g' ≤ s.space.registers + 256 * pages
     → MachineInvariant g' k (flipped s what pages)
 
--- where a collection is over and the old regions are free, the machine stands for a state in which it has settled
+-- if a collection's scan is finished and the old regions were freed, the machine represents a state in which the collection has ended
 abbrev pub Reclaimed : Type 0
 Reclaimed =
     (g g' : Image) (k : RoleMap) (s : State) (c : Collection)

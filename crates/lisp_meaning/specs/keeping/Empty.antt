@@ -7,7 +7,7 @@ use Rattle.lisp_graph.specs.declared.world.World.{World}
 use Rattle.lisp_meaning.specs.reading.Image.{Image, word, no_region}
 use Rattle.lisp_meaning.specs.invariants.Roles.{RoleMap, Blank}
 
--- every word is NULL and every region free, nothing is charged, so many registers are nil, and no collection runs
+-- every word is NULL and every region free, nothing is charged, this many registers are nil, and no collection runs
 pub record IsEmpty (g : Image) (registers : ℕ) : Type 0 where
   pub words : (a : ℕ) → word g a ≡ null_word
   pub regions : (i : ℕ) → get_or g.regions i no_region ≡ no_region

@@ -1,4 +1,4 @@
--- Changes of objects that stand keep the invariant.
+-- Changes of objects at their places keep the invariant.
 use Rattle.std.specs.Prelude.{◌≡◌, ℕ, suc, ◌+◌, ◌<◌, ◌≤◌, List, length, slice_set, Some, None}
 use Rattle.lisp_graph.specs.store_word.Words.{Parts, null_word}
 use Rattle.lisp_graph.specs.store_word.declared.word.CdrCode.TheVariants.{Next as CdrNext, Normal as CdrNormal}
@@ -24,7 +24,7 @@ use Rattle.lisp_meaning.specs.invariants.Placed.{Placed, Recharged}
 use Rattle.lisp_meaning.specs.invariants.Invariant.{MemoryInvariant}
 use Rattle.lisp_meaning.specs.keeping.After.{After, AfterWord}
 
--- a reference to a means n, and the object stands there
+-- a reference to a means n, and the object is at a
 pub record StandsThere (g : Image) (k : RoleMap) (kind : Kind) (a n : ℕ) : Type 0 where
   pub named : names_as kind (k.role a) ≡ Some n
   pub here : forward_of (word g a).content ≡ None
@@ -66,9 +66,9 @@ Resettled =
     → MemoryInvariant g k top areas s aim → value_of k.role (word g a).content ≡ Some value → StoresAt g ws k a value
     → AfterWord g (with_words g ws) k top areas s s aim
 
--- Objects that are laid anew
+-- Objects that are relocated
 
--- What stands live at a gets so many words from b on in its class, where its charge and its husk are others; its first word becomes a HEADER-FORWARD, and so many after it NULL. `g1` has the new words, `ws` the others too
+-- An object that is live at a gets `count` words from b on in its class, in which its charge and its husk change; its first word becomes a HEADER-FORWARD, and the `blank` words after it NULL. `g1` has the new words, `ws` the others too
 pub record Relays (g g1 : Image) (ws : List Parts) (a b count area level before after husk blank : ℕ) : Type 0 where
   pub live : class_at (classes g) a ≡ record { area = area; level = level; standing = Live }
   pub placed : Placed g g1 b count area level
@@ -95,7 +95,7 @@ pub record WritesGrown (g g1 : Image) (a b code size wide : ℕ) : Type 0 where
   pub copied : (j : ℕ) → j < size → (word g1 (suc b + j)).content ≡ (word g (suc a + j)).content
   pub nils : (j : ℕ) → size ≤ j → j < wide → (word g1 (suc b + j)).content ≡ NilWord
 
--- a block becomes a wider one, and its old words a husk
+-- a block becomes a wider one, and its old words become a husk
 abbrev pub BlockGrown : Type 0
 BlockGrown =
     (g g1 : Image) (ws : List Parts) (k : RoleMap) (top : ℕ) (areas : List AreaRule) (s : Store) (aim : Condemned) (a b n code wanted area level : ℕ) (fields : List Value)
@@ -105,7 +105,7 @@ BlockGrown =
     → WritesGrown g g1 a b code (length fields) (grown_length (length fields) wanted)
     → After g (with_words g1 ws) k top areas s (with_grown s n (grown_block area code fields (grown_length (length fields) wanted)) area level (suc (length fields))) aim 0 AsBlock b 1 (λ i. n)
 
--- an object that stands live stands at its level of now: its own, or if it is condemned its survivor's
+-- an object in a live region is at its present level: its own or, if it is condemned, its survivor's
 abbrev pub LiveLevel : Type 0
 LiveLevel =
     (g : Image) (k : RoleMap) (s : State) (n : ℕ)

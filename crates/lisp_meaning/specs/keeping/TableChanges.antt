@@ -46,7 +46,7 @@ freed regions = λ i. if is_old (regions i).standing then free_class else region
 abbrev pub cleared : (ℕ → Class) → (ℕ → Parts) → (ℕ → Parts)
 cleared regions W = λ a. if is_old_at regions a then null_word else W a
 
--- old regions are free and empty, all else is as it was
+-- old regions are free and empty, all else is unchanged
 pub record TableFreed (g g' : Image) : Type 0 where
   pub words : (a : ℕ) → word g' a ≡ cleared (classes g) (word g) a
   pub classes_free : (i : ℕ) → classes g' i ≡ freed (classes g) i

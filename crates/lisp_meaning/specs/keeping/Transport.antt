@@ -22,12 +22,12 @@ pub record Survives (k : RoleMap) (registers : List Value) (s : Store) (aim : Co
   pub kept : IsTrue (is_kept s aim n)
   pub reaches : Reaches registers s aim
 
--- so many cells stand from a on, each coded next, and none has moved
+-- `count` cells follow each other from a on, each coded next, and none has moved
 pub record CellsStand (g : Image) (a count : ℕ) : Type 0 where
   pub here : (i : ℕ) → i < count → forward_of (word g (a + i)).content ≡ None
   pub next : (i : ℕ) → i < count → (word g (a + i)).cdr ≡ CdrNext
 
--- What stands old at a gets so many words from b on, live, in its survivor's class, which is charged in place of the old one; its first words become GC-FORWARDs to them. `g1` has the new words, `ws` the forwards too
+-- An object that is old at a gets `count` live words from b on in its survivor's class, which is charged in place of the old one; its first words become GC-FORWARDs to them. `g1` has the new words, `ws` the forwards too
 pub record Rehouses (g g1 : Image) (ws : List Parts) (top : ℕ) (aim : Condemned) (a b count forwards area level charge : ℕ) : Type 0 where
   pub old : class_at (classes g) a ≡ record { area = area; level = level; standing = Old }
   pub placed : Placed g g1 b count area (survivor top aim.what level)
@@ -36,11 +36,11 @@ pub record Rehouses (g g1 : Image) (ws : List Parts) (top : ℕ) (aim : Condemne
   pub others : (c : ℕ) → ((a ≤ c) × (c < a + forwards) → ⊥) → word (with_words g1 ws) c ≡ word g1 c
   pub marks : Marks (with_words g1 ws)
 
--- so many words are copied
+-- `count` words are copied
 abbrev pub Copies : Image → Image → ℕ → ℕ → ℕ → Type 0
 Copies g g1 a b count = (i : ℕ) → i < count → word g1 (b + i) ≡ word g (a + i)
 
--- cells that stand one after another are at most 1,024
+-- at most 1,024 cells follow each other
 abbrev pub RunIsShort : Type 0
 RunIsShort =
     (g : Image) (k : RoleMap) (top : ℕ) (areas : List AreaRule) (s : Store) (aim : Condemned) (a n count : ℕ)
@@ -54,7 +54,7 @@ BlockMoved =
     → Rehouses g g1 ws top aim a b (suc size) 1 area level (suc size) → Copies g g1 a b (suc size)
     → After g (with_words g1 ws) k top areas s s aim (suc size) AsBlock b 1 (λ i. n)
 
--- a pair, and the cells of which it is the last cdr, if any
+-- a pair, and the cells before it that it ends, if any
 abbrev pub RunToPairMoved : Type 0
 RunToPairMoved =
     (g g1 : Image) (ws : List Parts) (k : RoleMap) (top : ℕ) (areas : List AreaRule) (registers : List Value) (s : Store) (aim : Condemned) (a b n count area level : ℕ)
@@ -72,7 +72,7 @@ RunToNilMoved =
     → Rehouses g g1 ws top aim a b (count + 1) (suc count) area level (3 * count + 3) → Copies g g1 a b (suc count)
     → After g (with_words g1 ws) k top areas s s aim (3 * count + 3) AsCons b (suc count) (λ i. name_at k (a + i))
 
--- cells of which the last, whose rest stands elsewhere, becomes a pair: its cdr is a reference to that rest
+-- cells, of which the last becomes a pair, since the rest of its list is elsewhere: its cdr is a reference to that rest
 abbrev pub CutRunMoved : Type 0
 CutRunMoved =
     (g g1 : Image) (ws : List Parts) (k : RoleMap) (top : ℕ) (areas : List AreaRule) (registers : List Value) (s : Store) (aim : Condemned) (a b n count target area level : ℕ)

@@ -1,4 +1,4 @@
--- Changes of what a memory stands for.
+-- Changes of the store that a memory represents.
 use Rattle.std.specs.Prelude.{ℕ, ◌+◌, ◌&&◌, if◌then◌else◌, nat_lt, nat_le, List, ◌++◌, length, slice_set, Option, Some}
 use Rattle.lisp_graph.specs.declared.object.Body.{Body}
 use Rattle.lisp_graph.specs.declared.object.Object.{Object}
@@ -9,7 +9,7 @@ use Rattle.lisp_meaning.specs.machine.State.{Store, object}
 abbrev pub holding : (ℕ → Option ℕ) → ℕ → ℕ → ℕ → (ℕ → Option ℕ)
 holding held from to level = λ n. if nat_le from n && nat_lt n to then Some level else held n
 
--- so many more words of husks in an area at a level
+-- the husks of an area at a level have this many words more
 abbrev pub with_husk : (ℕ → ℕ → ℕ) → ℕ → ℕ → ℕ → (ℕ → ℕ → ℕ)
 with_husk husks area level words = put_at husks area (put_at (husks area) level (husks area level + words))
 

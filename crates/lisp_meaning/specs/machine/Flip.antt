@@ -1,4 +1,4 @@
--- A collection begins with a flip, and ends when it settles.
+-- A collection begins with a flip, and ends with a reclaim.
 use Rattle.std.specs.Prelude.{◌≡◌, ℕ, suc, ◌+◌, ◌*◌, Bool, true, false, not, ◌&&◌, ◌||◌, ◌⊎◌, if◌then◌else◌, List, Option, Some, None, IsTrue}
 use Rattle.lisp_graph.specs.declared.world.AreaRule.{AreaRule}
 use Rattle.lisp_graph.specs.declared.command.Condemn.{Condemn}
@@ -20,11 +20,11 @@ is_condemned_level what (Some level) = condemns what level
 abbrev pub condemned_by : List AreaRule → Store → Condemn → ℕ → Bool
 condemned_by areas s what n = not (is_static (rule_of areas (object s n).area).kind) && is_condemned_level what (s.held n)
 
--- where a collection begins: the names in the registers, and the held names that aren't condemned
+-- the roots of a collection: the names in the registers, and the held names that aren't condemned
 abbrev pub roots_of : State → Condemn → ℕ → Bool
 roots_of s what n = refers_in n s.registers || (is_held s.store n && not (condemned_by s.areas s.store what n))
 
--- bound by such a flip: what the roots lead to
+-- bound by such a flip: what is reachable from the roots
 abbrev pub bound_by : State → Condemn → ℕ → Bool
 bound_by s what = closure s.store.objects (roots_of s what)
 
@@ -32,7 +32,7 @@ bound_by s what = closure s.store.objects (roots_of s what)
 abbrev pub gone_by : List AreaRule → Store → ℕ → Condemn → ℕ → ℕ
 gone_by areas s top what a = if is_static (rule_of areas a).kind then 0 else total (λ l. if_true (condemns what l) (s.husks a l)) (suc top)
 
--- the words of an area's husks at a level that such a flip leaves
+-- the words of an area's husks at a level that such a flip doesn't condemn
 abbrev pub husks_left : List AreaRule → Store → Condemn → ℕ → ℕ → ℕ
 husks_left areas s what a l = if is_static (rule_of areas a).kind then s.husks a l else if_true (not (condemns what l)) (s.husks a l)
 
@@ -45,7 +45,7 @@ aim_by s what pages = record {
   gone = gone_by s.areas s.store s.space.levels what;
 }
 
--- after a flip with this number of base pages to scan: what is owed are the registers, 256 words a page and the charges condemned
+-- after a flip with this number of base pages to scan: the work owed is one for each register, 256 for each page, and the charges condemned
 abbrev pub flipped : State → Condemn → ℕ → State
 flipped s what pages = record s {
   phase = Running (record {
@@ -57,7 +57,7 @@ flipped s what pages = record s {
   store = record s.store { husks = husks_left s.areas s.store what };
 }
 
--- A collection with this aim settles: some condemned names go, the others stay as survivors, and what is held is closed.
+-- A collection with this aim ends: some condemned names are freed, the others remain as survivors, and what is held is closed.
 pub record Settles (old : State) (aim : Condemned) (new : State) : Type 0 where
   pub phase : new.phase ≡ Idle
   pub space : new.space ≡ old.space
@@ -65,11 +65,11 @@ pub record Settles (old : State) (aim : Condemned) (new : State) : Type 0 where
   pub registers : new.registers ≡ old.registers
   pub objects : new.store.objects ≡ old.store.objects
   pub husks : new.store.husks ≡ old.store.husks
-  -- no name comes to be held
+  -- no name becomes held
   pub nothing_new : (n : ℕ) → old.store.held n ≡ None → new.store.held n ≡ None
-  -- a name that isn't condemned stays at its level
+  -- a name that isn't condemned remains at its level
   pub spared : (n : ℕ) → aim.condemned n ≡ false → new.store.held n ≡ old.store.held n
-  -- a condemned name goes, or is bound and stays at its survivor's level
+  -- a condemned name is freed, or is bound and remains at its survivor's level
   pub doomed : (n level : ℕ) → aim.condemned n ≡ true → old.store.held n ≡ Some level
       → (new.store.held n ≡ None) ⊎ ((new.store.held n ≡ Some (survivor old.space.levels aim.what level)) × IsTrue (aim.bound n))
   pub closed : Closed (graph_of new) (is_held new.store)

@@ -1,4 +1,4 @@
--- A graph that is never moved or collected, beside a run.
+-- A graph that is never moved or collected, and the runs that follow it.
 use Rattle.std.specs.Prelude.{◌≡◌, ◌⊎◌, List, [], ◌∷◌, Option, Some, None}
 use Rattle.lisp_graph.specs.declared.command.Command.{Command}
 use Rattle.lisp_graph.specs.declared.reply.Reply.TheVariants as R
@@ -16,11 +16,11 @@ abbrev pub FollowsBy : Graph → Option Effect → Answer → Graph → Type 0
 FollowsBy graph None a new = new ≡ graph
 FollowsBy graph (Some e) a new = ((a ≡ Replied e.reply) × (new ≡ e.graph)) ⊎ (IsRefusal a × (new ≡ graph))
 
--- A command of the program answers as its effect on the graph says, and has that effect, or is refused and has none. No other command has one.
+-- The reply and the change are those of the command's effect on the graph; or the command is refused and changes nothing. A command without an effect on the graph changes nothing.
 abbrev pub Follows : Graph → Command → Answer → Graph → Type 0
 Follows graph c a new = FollowsBy graph (effect graph c) a new
 
--- the same of each command in turn
+-- the same of all commands, one after another
 abbrev pub FollowsAll : Graph → List Command → List Answer → Graph → Type 0
 FollowsAll graph [] [] new = new ≡ graph
 FollowsAll graph (c ∷ cs) (a ∷ answers) new = (after : Graph) × Follows graph c a after × FollowsAll after cs answers new

@@ -1,4 +1,4 @@
--- Runs: lists of commands, one step each, and the silent steps before them.
+-- Runs: lists of commands, one transition each, and the silent steps before them.
 use Rattle.std.specs.Prelude.{◌≡◌, ℕ, suc, ◌-◌, ◌*◌, ◌^◌, ◌≤◌, Bool, true, false, ◌&&◌, nat_lt, nat_le, List, [], ◌∷◌, slice_index, MatchBool}
 use Rattle.std.specs.List.{list_any}
 use Rattle.lisp_graph.specs.store_word.declared.levels.Levels.{Levels}
@@ -14,11 +14,11 @@ use Rattle.lisp_meaning.specs.machine.Step.{Answer, Step}
 
 -- Silent steps
 
--- the charge at which a level is collected by itself; 0 is never
+-- the charge at which a level is flipped without a command; 0 is never
 abbrev pub capacity_of : State → ℕ → ℕ
 capacity_of s level = slice_index s.space.capacity (level - 1)
 
--- some level is collected by itself
+-- some level has a capacity, so the machine collects without a command
 abbrev pub collects_itself : State → Bool
 collects_itself s = list_any (nat_lt 0) s.space.capacity
 
@@ -26,11 +26,11 @@ collects_itself s = list_any (nat_lt 0) s.space.capacity
 abbrev pub is_full : State → ℕ → Bool
 is_full s level = nat_lt 0 (capacity_of s level) && nat_le (capacity_of s level) (level_total s level)
 
--- the set of the levels that have
+-- the set of the levels that have reached their capacity
 abbrev pub full_levels : State → Levels
 full_levels s = record { 0 = total (λ i. if_true (is_full s (suc i)) (2 ^ i)) s.space.levels }
 
--- the commands that silent steps come before
+-- the commands before which silent steps are taken
 abbrev pub allocates : Command → Bool
 allocates (C.Cons to area car cdr) = true
 allocates (C.List to area items) = true
@@ -38,12 +38,12 @@ allocates (C.Make to area code length) = true
 allocates (C.Grow target length) = true
 allocates _ = false
 
--- first a reclaim, where a collection is over
+-- first a reclaim, if a collection's scan is finished
 abbrev pub SilentReclaim : State → Phase → State → Type 0
 SilentReclaim s Idle new = new ≡ s
 SilentReclaim s (Running c) new = MatchBool c.over (Settles s c.aim new) (new ≡ s)
 
--- then a flip, where none runs and some level is full
+-- then a flip, if no collection runs and some level is full
 abbrev pub SilentFlip : State → State → Type 0
 SilentFlip s new =
     MatchBool (is_idle s.phase && some_below (λ i. is_full s (suc i)) s.space.levels)
@@ -59,11 +59,11 @@ Silent s c new =
 
 -- Runs
 
--- the silent steps before a command, and its step
+-- the silent steps before a command, and its transition
 abbrev pub Does : State → Command → Answer → State → Type 0
 Does s c a new = (mid : State) × Silent s c mid × Step mid c a new
 
--- a run of a list of commands, with what it shows for each and the last state
+-- a run of a list of commands, with the answer to each and the last state
 abbrev pub Run : State → List Command → List Answer → State → Type 0
 Run s [] [] new = new ≡ s
 Run s (c ∷ cs) (a ∷ answers) new = (after : State) × Does s c a after × Run after cs answers new

@@ -8,7 +8,7 @@ use Rattle.lisp_meaning.specs.machine.State.{Condemned, Phase, Idle, Running, St
 use Rattle.lisp_meaning.specs.machine.Reach.{Closed}
 use Rattle.lisp_meaning.specs.machine.Flip.{graph_of}
 
--- the names that a collection keeps for certain: the bound ones, and the held ones that aren't condemned
+-- the names that a collection certainly keeps: the bound ones, and the held ones that aren't condemned
 abbrev pub is_kept : Store → Condemned → ℕ → Bool
 is_kept s aim n = aim.bound n || (is_held s n && not (aim.condemned n))
 
@@ -22,7 +22,7 @@ abbrev pub Reach : State → Phase → Type 0
 Reach s Idle = Unit {0}
 Reach s (Running c) = Reaches s.registers s.store c.aim
 
--- a command brings no name of its own: `set` takes nil or a number, and `list` at least one register
+-- a command introduces no name: `set` takes nil or a number, and `list` at least one register
 abbrev pub IsAllowed : Command → Type 0
 IsAllowed (C.Set to value) = (n : ℕ) → is_ref n value ≡ false
 IsAllowed (C.List to area items) = 0 < length items
@@ -30,12 +30,12 @@ IsAllowed _ = Unit {0}
 
 -- no reference of a register or of a held object dangles
 pub record IsClosed (s : State) : Type 0 where
-  -- a held name is that of an object
+  -- each held name is that of an object
   pub names : (n : ℕ) → in_use s.store n → n < length s.store.objects
   pub closed : Closed (graph_of s) (is_held s.store)
   pub reach : Reach s s.phase
 
--- while a collection runs and isn't over, something is owed
+-- while a collection runs whose scan isn't finished, something is owed
 abbrev pub IsOwing : Phase → Type 0
 IsOwing Idle = Unit {0}
 IsOwing (Running c) = c.over ≡ false → c.paid < c.owed

@@ -1,4 +1,4 @@
--- The state of a run: what a program and a collector know of, with no word and no address in it.
+-- The state of a run: what a program and a collector know, without words and addresses.
 use Rattle.std.specs.Prelude.{ℕ, suc, ◌-◌, Bool, true, false, ◌&&◌, ◌==◌, nat_lt, if◌then◌else◌, List, get_or, Option, is_some, IsTrue}
 use Rattle.std.specs.Int.{bit_at}
 use Rattle.lisp_graph.specs.store_word.declared.space.Space.{Space}
@@ -14,7 +14,7 @@ use Rattle.lisp_graph.specs.Graph.{object_at}
 
 -- Areas
 
--- the rule in place of an area past the last
+-- the rule that is read past the last area
 abbrev pub no_rule : AreaRule
 no_rule = record { name = Rattle.std.specs.Prelude.[]; kind = Static; quota = 0 }
 
@@ -26,7 +26,7 @@ is_static Static = true
 is_static Dynamic = false
 is_static Ephemeral = false
 
--- the level of an object that a command makes in such an area
+-- the level of a new object in such an area
 abbrev pub new_level : AreaKind → ℕ
 new_level Ephemeral = 1
 new_level Static = 0
@@ -43,14 +43,14 @@ abbrev pub condemns : Condemn → ℕ → Bool
 condemns Full level = true
 condemns (Chosen levels) level = has_level levels level
 
--- where a survivor of this level goes; `top` is the greatest level
+-- the level of a survivor of this level; `top` is the greatest level
 abbrev pub survivor : ℕ → Condemn → ℕ → ℕ
 survivor top Full level = 0
 survivor top (Chosen levels) level = if nat_lt level top then suc level else 0
 
 -- Phases
 
--- what a flip fixes: what was condemned, the names condemned, the names bound, the base pages to scan, and by area the words of husks condemned
+-- the aim of a collection, which its flip fixes: what was condemned, the names condemned, the names bound, the base pages to scan, and by area the words of husks condemned
 pub record Condemned : Type 0 where
   pub what : Condemn
   pub condemned : ℕ → Bool
@@ -58,11 +58,11 @@ pub record Condemned : Type 0 where
   pub pages : ℕ
   pub gone : ℕ → ℕ
 
--- nothing is condemned, bound or gone while no collection runs
+-- the aim while no collection runs: nothing is condemned, bound or gone
 abbrev pub no_aim : Condemned
 no_aim = record { what = Full; condemned = λ n. false; bound = λ n. false; pages = 0; gone = λ a. 0 }
 
--- a collection that runs: its aim, the work owed, the work paid, and whether it is over
+-- a collection that runs: its aim, the work owed, the work paid, and whether its scan has finished (`over`)
 pub record Collection : Type 0 where
   pub aim : Condemned
   pub owed : ℕ
@@ -87,13 +87,13 @@ is_idle (Running c) = false
 
 -- States
 
--- what a memory stands for: the objects by their names, the level of each name that is held, and the words of husks by area and level
+-- the store that a memory represents: the objects by their names, the level of each name that is held, and the words of husks by area and level
 pub record Store : Type 0 where
   pub objects : List Object
   pub held : ℕ → Option ℕ
   pub husks : ℕ → ℕ → ℕ
 
--- the sizes and the areas never change
+-- the whole state; the sizes and the areas never change
 pub record State : Type 0 where
   pub space : Space
   pub areas : List AreaRule

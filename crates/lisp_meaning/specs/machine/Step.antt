@@ -1,4 +1,4 @@
--- The step of one command.
+-- The transition of one command.
 use Rattle.std.specs.Prelude.{◌≡◌, ℕ, suc, ◌+◌, ◌*◌, ◌≤◌, Bool, true, false, not, ◌&&◌, ◌||◌, ◌⊎◌, if◌then◌else◌, nat_lt, nat_le, List, [], ◌∷◌, length, Option, Some, None, is_some, unwrap_or, IsTrue, MatchBool}
 use Rattle.lisp_graph.specs.declared.command.Command.{Command}
 use Rattle.lisp_graph.specs.declared.command.Command.TheVariants as C
@@ -43,29 +43,29 @@ abbrev pub counted_phase : ℕ → ℕ → Phase → Phase
 counted_phase owed paid Idle = Idle
 counted_phase owed paid (Running c) = Running (record c { owed = c.owed + owed; paid = c.paid + paid })
 
--- while a collection runs, so much more is owed and so much more is paid
+-- while a collection runs, the work owed and the work paid grow by these numbers
 abbrev pub counted : ℕ → ℕ → State → State
 counted owed paid s = record s { phase = counted_phase owed paid s.phase }
 
--- what a command owes that allocates nothing: 2 words for an `rplacd`, which may have to lay a cell anew as a pair
+-- the work that a command without an allocation adds to what is owed: 2 words for an `rplacd`, which may have to relocate a cell as a pair
 abbrev pub owed_by : Command → Reply → ℕ
 owed_by (C.Rplacd target from) R.Fine = 2
 owed_by _ _ = 0
 
 -- Allocation
 
--- the state with other registers and objects
+-- the state with the registers and objects of a graph
 abbrev pub with_graph : State → Graph → State
 with_graph s graph = record s { registers = graph.registers; store = record s.store { objects = graph.objects } }
 
--- the level of a name; of a condemned one its survivor's
+-- the present level of a name; for a condemned one its survivor's
 abbrev pub level_now : State → ℕ → ℕ
 level_now s n =
     let aim = aim_of s.phase in
     let level = unwrap_or (s.store.held n) 0 in
     if aim.condemned n then survivor s.space.levels aim.what level else level
 
--- a block that grows leaves its old words, a header and the fields, as a husk of its area and level; the other commands leave none
+-- a block that grows leaves its old words, a header and the fields, as a husk in its area and at its level; the other commands leave none
 abbrev pub husks_after : State → Command → (ℕ → ℕ → ℕ)
 husks_after s (C.Grow target count) =
     when_block s.store.objects (value_at s.registers target)
@@ -84,14 +84,14 @@ allocated s c area graph = record s {
   };
 }
 
--- the charge wanted exceeds what the area's quota leaves
+-- the account plus the charge wanted exceeds the area's quota
 abbrev pub exceeds : State → Wanted → Bool
 exceeds s w = nat_lt (rule_of s.areas w.area).quota (account_now s w.area + w.charge)
 
 abbrev pub exhausted : State → Wanted → Reply
 exhausted s w = R.Exhausted w.area (account_now s w.area) w.charge (rule_of s.areas w.area).quota
 
--- the reply and the state of a command of the program, by what it wants: an allocation is refused where it exceeds the quota
+-- the reply and the state after a command of the program, by what it wants: an allocation is refused if it exceeds the quota
 abbrev pub answer_wanting : State → Command → Effect → Option Wanted → Reply × State
 answer_wanting s c e None = (e.reply, counted (owed_by c e.reply) 0 (with_graph s e.graph))
 answer_wanting s c e (Some w) =
@@ -111,7 +111,7 @@ with_over_phase over (Running c) = Running (record c { over = over })
 abbrev pub with_over : Bool → State → State
 with_over over s = record s { phase = with_over_phase over s.phase }
 
--- a collection runs, and all that it owes is paid
+-- a collection runs, and has paid all that it owes
 abbrev pub is_paid : Phase → Bool
 is_paid Idle = false
 is_paid (Running c) = nat_le c.owed c.paid
@@ -132,13 +132,13 @@ is_scavenge _ = false
 abbrev pub scans : State → Command → Reply → Bool
 scans s c r = is_scavenge c || (is_some (wanted_by (effect (graph_of s) c)) && not (is_exhausted r))
 
--- When a collection is over after a step: where it was, or where the machine says so of a step that may end it; and certainly where all that is owed is paid.
+-- Whether the scan of a collection has finished (`over`) after a transition: a finished scan stays finished; only a transition that may finish it does; and it has finished if all that is owed is paid.
 pub record IsOverAfter (s : State) (may : Bool) (after : State) (over : Bool) : Type 0 where
   pub stays : is_over s.phase ≡ true → over ≡ true
   pub only_by : is_over s.phase ≡ false → over ≡ true → may ≡ true
   pub at_last : is_paid after.phase ≡ true → over ≡ true
 
--- a step that leaves open only whether the collection is over, which a command that scans may end
+-- a transition that leaves one choice: whether the collection's scan has finished, which only a command that scans may decide
 abbrev pub Ends : State → Command → Reply → State → Answer → State → Type 0
 Ends s c r after a new = (over : Bool) × IsOverAfter s (scans s c r) after over × (a ≡ Replied r) × (new ≡ with_over over after)
 
@@ -162,7 +162,7 @@ abbrev pub Reclaims : State → Phase → Answer → State → Type 0
 Reclaims s Idle a new = (a ≡ Replied R.NotFlipped) × (new ≡ s)
 Reclaims s (Running c) a new = MatchBool c.over ((a ≡ Replied R.Reclaimed) × Settles s c.aim new) ((a ≡ Replied R.NotDone) × (new ≡ s))
 
--- the other commands
+-- the commands that have no effect on the graph
 abbrev pub Serves : State → Command → Answer → State → Type 0
 Serves s (C.Flip what) a new = Flips s s.phase what a new
 Serves s (C.Scavenge count) a new = Scavenges s s.phase count a new
@@ -172,7 +172,7 @@ Serves s C.Stats a new = (a ≡ Accounts (area_lines s 0 s.areas)) × (new ≡ s
 Serves s C.Dump a new = (a ≡ Contents (world_of s)) × (new ≡ s)
 Serves s _ a new = ⊥
 
--- the commands that may meet a fault of the swap
+-- the commands that may meet a swap error
 abbrev pub may_fault : Command → Bool
 may_fault (C.Set to value) = false
 may_fault (C.Flip what) = false
@@ -180,7 +180,7 @@ may_fault C.Reclaim = false
 may_fault C.Stats = false
 may_fault _ = true
 
--- a command that meets one changes nothing, though it may have scanned
+-- a command that meets a swap error replies `fault` and changes nothing, except that it may have scanned
 abbrev pub Faults : State → Command → Answer → State → Type 0
 Faults s c a new = IsTrue (may_fault c) × Ends s c R.Fault s a new
 
@@ -188,6 +188,6 @@ abbrev pub StepsBy : State → Command → Option Effect → Answer → State �
 StepsBy s c (Some e) a new = Answers s c e a new
 StepsBy s c None a new = Serves s c a new
 
--- the step of a command, with what it shows and the state after it
+-- the transition of a command, with its answer and the state after it
 abbrev pub Step : State → Command → Answer → State → Type 0
 Step s c a new = StepsBy s c (effect (graph_of s) c) a new ⊎ Faults s c a new

@@ -2,7 +2,7 @@
 use Rattle.std.specs.Prelude.{ℕ, ◌/◌, Bool, ◌&&◌, nat_eq, get_or}
 use Rattle.lisp_meaning.specs.reading.Image.{Standing, is_live, is_old, Region, no_region, Image}
 
--- a region that is free has area and level 0
+-- the class of a region; a free one has area and level 0
 pub record Class : Type 0 where
   pub area : ℕ
   pub level : ℕ

@@ -1,5 +1,5 @@
 -- Objects in memory.
-use Rattle.std.specs.Prelude.{◌≡◌, ℕ, suc, ◌+◌, ◌<◌, ◌≤◌, false, List, length, get_or, IsTrue}
+use Rattle.std.specs.Prelude.{◌≡◌, ℕ, suc, ◌+◌, ◌<◌, ◌≤◌, Bool, false, ◌&&◌, nat_le, nat_lt, List, length, get_or, IsTrue}
 use Rattle.lisp_graph.specs.store_word.Words.{Parts}
 use Rattle.lisp_graph.specs.store_word.declared.word.CdrCode.{CdrCode}
 use Rattle.lisp_graph.specs.store_word.declared.word.CdrCode.TheVariants.{Next as CdrNext, Nil as CdrNil, Normal as CdrNormal, Second as CdrSecond}
@@ -14,7 +14,7 @@ use Rattle.lisp_meaning.specs.reading.Image.{Image, word, region, is_free, is_us
 use Rattle.lisp_meaning.specs.reading.Forwards.{Final}
 use Rattle.lisp_meaning.specs.reading.Value.{Means}
 
--- an object stands at an address: a pair of charge 2 or 3, the last cell of a list, a cell with the rest of the list behind it, or a block
+-- an object is stored at an address: as a pair of charge 2 or 3, the last cell of a list, a cell followed by the rest of its list, or a block
 pub data StandsAt (g : Image) (s : Store) (at : ℕ → ℕ) : ℕ → Object → Type 0 where
   pair_2 : (a : ℕ) {o : Object} {car cdr : Value} → o.body ≡ Cons car cdr → o.charge ≡ 2
       → (word g a).cdr ≡ CdrNormal → Means g s at (word g a).content car
@@ -45,7 +45,11 @@ words_at w = words_of w.content w.cdr
 abbrev pub Within : Image → ℕ → ℕ → Type 0
 Within g a b = (a ≤ b) × (b < a + words_at (word g a))
 
--- each held name's object stands at its address, which is final and below a used end, and no word is a part of two
+-- the same, as a test
+abbrev pub is_within : Image → ℕ → ℕ → Bool
+is_within g a b = nat_le a b && nat_lt b (a + words_at (word g a))
+
+-- each held name's object is stored at its address, which is final and below a used end, and no word is part of two objects
 pub record Objects (g : Image) (s : Store) (at : ℕ → ℕ) : Type 0 where
   pub names : (n : ℕ) → in_use s n → n < length s.objects
   pub final : (n : ℕ) → in_use s n → Final g (at n) (at n)

@@ -1,9 +1,9 @@
--- The units of a collection: the registers and the words that are left to scan.
+-- The units of a collection: the registers and the words that remain to be scanned.
 use Rattle.std.specs.Prelude.{◌≡◌, ℕ, zero, suc, ◌+◌, ◌/◌, ◌<◌, Bool, false, ◌&&◌, ◌==◌, if◌then◌else◌, length, Option, Some, None}
 use Rattle.lisp_graph.specs.Totals.{total, if_true}
 use Rattle.lisp_meaning.specs.reading.Image.{Image}
 
--- how many are left
+-- how many units remain
 abbrev pub units_left : Image → ℕ
 units_left g = total (λ r. if_true (g.register_left r) 1) (length g.registers) + total (λ a. if_true (g.word_left a) 1) (length g.words)
 
@@ -33,7 +33,7 @@ first_of None (Some register) far = Some (InRegister register)
 first_of None None (Some far) = Some (InWord far)
 first_of None None None = None
 
--- the unit that is scanned next: the lowest word left on the page where the latest transport ended, else the lowest register left, else the lowest word left
+-- the next unit: of those that remain, the lowest word on the page on which the latest transport ended, otherwise the lowest register, otherwise the lowest word
 abbrev pub next_unit : Image → Option ScanUnit
 next_unit g = first_of
     (lowest (λ a. g.word_left a && on_page_of g.last_moved a) (length g.words))

@@ -13,7 +13,7 @@ use Rattle.lisp_meaning.specs.reading.Forwards.{Final}
 abbrev pub Distinct : Store → (ℕ → ℕ) → Type 0
 Distinct s at = (m n : ℕ) → in_use s m → in_use s n → at m ≡ at n → m ≡ n
 
--- the value of a word: a number, nil, or the held name at the final address of a reference, which is a cons or a block as the tag says. Other words have none
+-- the value of a word: a number, nil, or the held name at the final address of a reference, which is a cons or a block according to the tag. All else has no value
 pub data Means (g : Image) (s : Store) (at : ℕ → ℕ) : Content → Value → Type 0 where
   fixnum : (i : ℤ) → Means g s at (Fixnum i) (V.Fix i)
   nil : Means g s at NilWord V.Nil

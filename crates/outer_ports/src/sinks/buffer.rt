@@ -1,6 +1,6 @@
-//! Bytes that are gathered before a sink.
+//! A buffer of bytes in front of a sink.
 ghost use Rattle.std.specs.Prelude.{◌≡◌, ◌+◌, ◌-◌, ◌<◌, ◌≤◌, [], ◌++◌, length, take, IfOk, OnOk, OnErr};
-ghost use Rattle.outer_ports.specs.Ports.{HasCause, Wrote};
+ghost use Rattle.outer_ports.specs.Ports.{FailedLast, HasCause, Wrote};
 ghost use Rattle.outer_ports.specs.Buffers.{Buffered, Gathered, Gathers};
 
 use crate::room::{copy_at, drop_front};
@@ -10,8 +10,8 @@ use std::alloc::Global;
 use std::marker::Model;
 use store_word::NoMemory;
 
-/// A buffer of fixed size before a sink. Texts are gathered in it, and given to the sink together when
-/// the next one has no room, and at a flush.
+/// A buffer of fixed size in front of a sink. It gathers texts, and gives them to the sink together when
+/// the next text doesn't fit, and at a flush.
 #[derive(Drop)]
 pub struct SinkBuffer {
     room: Vec<u8>,
@@ -30,7 +30,7 @@ impl Model for SinkBuffer {
 }
 
 impl SinkBuffer {
-    /// A buffer for this many bytes, none of which are pending.
+    /// A buffer with room for this many bytes. No bytes are pending.
     pub fn new(alloc: Global, room: usize) -> Result<SinkBuffer, NoMemory>
         ensures { IfOk result (λ buffer. buffer ≡ record { pending = []; room = room }) }
     {
@@ -45,16 +45,16 @@ impl SinkBuffer {
         &self.room[..self.len]
     }
 
-    /// Forgets what is pending.
+    /// Drops what is pending.
     pub fn clear(&mut self)
         ensures { self.new ≡ record self.old { pending = [] } }
     {
         self.len = 0;
     }
 
-    /// Gathers these bytes behind what is pending. The sink isn't called where they have room, and
-    /// else is given what is pending first. Where it fails, a prefix that isn't all of them was
-    /// gathered, and none of that is lost.
+    /// Gathers these bytes after what is pending. If they fit in the buffer, the sink isn't called;
+    /// otherwise the sink is first given what is pending. If the sink fails, a prefix of the bytes, and not
+    /// all of them, was gathered, and none of that prefix is lost.
     #[inline(always)]
     pub fn gather<K: Sink>(&mut self, sink: &mut K, bytes: &[u8]) -> Result<(), SinkFault>
         ensures gathers { Gathers (K.stands sink.old) (K.stands sink.new)
@@ -62,6 +62,7 @@ impl SinkBuffer {
         ensures quiet { length self.old.pending + length bytes.now ≤ self.old.room → sink.new ≡ sink.old }
         ensures room { self.new.room ≡ self.old.room }
         ensures cause { HasCause (K.faults sink.old) (K.faults sink.new) result }
+        ensures last { OnErr result (FailedLast (K.faults sink.old) (K.faults sink.new) (K.failed sink.new)) }
     {
         if bytes.len() <= self.room.len() - self.len {
             self.put(bytes);
@@ -70,7 +71,7 @@ impl SinkBuffer {
         self.gather_anew(sink, bytes)
     }
 
-    // Gathers bytes that have no room behind what is pending.
+    // Gathers bytes that don't fit after what is pending.
     #[inline(never)]
     fn gather_anew<K: Sink>(&mut self, sink: &mut K, bytes: &[u8]) -> Result<(), SinkFault>
         requires { self.old.room - length self.old.pending < length bytes.now }
@@ -78,6 +79,7 @@ impl SinkBuffer {
             self.old.pending self.new.pending bytes.now result }
         ensures room { self.new.room ≡ self.old.room }
         ensures cause { HasCause (K.faults sink.old) (K.faults sink.new) result }
+        ensures last { OnErr result (FailedLast (K.faults sink.old) (K.faults sink.new) (K.failed sink.new)) }
     {
         self.flush(sink)?;
         if bytes.len() <= self.room.len() {
@@ -87,7 +89,7 @@ impl SinkBuffer {
         give_all(sink, bytes)
     }
 
-    /// Gives the sink what is pending. Where it fails, what it didn't take stays pending.
+    /// Gives the sink what is pending. If the sink fails, what it didn't take remains pending.
     pub fn flush<K: Sink>(&mut self, sink: &mut K) -> Result<(), SinkFault>
         ensures wrote { Wrote (K.stands sink.old) (K.stands sink.new) self.old.pending result }
         ensures gathered { Gathered (K.stands sink.old) (K.stands sink.new) self.new.pending self.old.pending }
@@ -95,6 +97,7 @@ impl SinkBuffer {
         ensures err { OnErr result (0 < length self.new.pending) }
         ensures room { self.new.room ≡ self.old.room }
         ensures cause { HasCause (K.faults sink.old) (K.faults sink.new) result }
+        ensures last { OnErr result (FailedLast (K.faults sink.old) (K.faults sink.new) (K.failed sink.new)) }
     {
         let (given, outcome) = give_front(sink, &self.room[..self.len]);
         drop_front(&mut self.room, given, self.len);
@@ -102,7 +105,7 @@ impl SinkBuffer {
         outcome
     }
 
-    // Puts these bytes behind what is pending.
+    // Puts these bytes after what is pending.
     #[inline(always)]
     fn put(&mut self, bytes: &[u8])
         requires { length self.old.pending + length bytes.now ≤ self.old.room }

@@ -1,7 +1,7 @@
 //! A sink in memory.
 ghost use Rattle.std.specs.Prelude.{◌≡◌, ◌-◌, ◌≤◌, ◌<◌, ◌↔◌, ◌⊎◌, [], min, length, take, IfOk, OnErr, IsErr, is_err};
 ghost use Rattle.outer_ports.specs.Plans.{FailsNext, Kept, after_call, Holds, kept_of};
-ghost use Rattle.outer_ports.specs.Ports.{Gained, HasCause};
+ghost use Rattle.outer_ports.specs.Ports.{Gained, HasCause, next_count};
 
 use crate::plan::FaultPlan;
 use crate::room::copy_at;
@@ -10,8 +10,8 @@ use std::alloc::Global;
 use std::marker::Model;
 use store_word::NoMemory;
 
-/// Bytes in memory, in a room of fixed size, of which a call takes a piece of a greatest length, and
-/// whose calls fail as planned.
+/// Bytes in memory, in a buffer of fixed size. A call takes at most a fixed number of bytes, and
+/// calls fail as planned.
 #[derive(Drop)]
 pub struct SinkBytes {
     room: Vec<u8>,
@@ -32,8 +32,8 @@ impl Model for SinkBytes {
 }
 
 impl SinkBytes {
-    /// A sink with room for this many bytes, which takes at most `piece` of them a call. Its calls with
-    /// a number in `fails` fail, counted from 1, and so does each call at a full room.
+    /// A sink with room for this many bytes, which takes at most `piece` bytes in a call. The calls with
+    /// a number in `fails` fail, counted from 1, and so does each call when the room is full.
     pub fn new(
         alloc: Global,
         room: usize,
@@ -52,7 +52,7 @@ impl SinkBytes {
         })
     }
 
-    /// The bytes that it holds.
+    /// The bytes that it contains.
     pub fn bytes(&self) -> &[u8]
         ensures { result.now ≡ self.now.bytes }
     {
@@ -65,6 +65,8 @@ impl Sink for SinkBytes {
 
     ghost faults = { λ s. s.plan.faults };
 
+    ghost failed = { λ s. s.plan.failed };
+
     fn give(&mut self, piece: &[u8]) -> Result<usize, SinkFault>
         requires { 0 < length piece.now }
         ensures some { IfOk result (λ n. 0 < n) }
@@ -72,8 +74,10 @@ impl Sink for SinkBytes {
         ensures gained { IfOk result (λ n. Gained (Holds self.old) (Holds self.new) (take n piece.now)) }
         ensures err { OnErr result (Gained (Holds self.old) (Holds self.new) []) }
         ensures cause { HasCause self.old.plan.faults self.new.plan.faults result }
+        ensures failed { self.new.plan.failed ≡ is_err result }
+        ensures once { OnErr result (self.new.plan.faults ≡ next_count self.old.plan.faults) }
 
-        // How long the piece is, and which calls fail.
+        // The length of the piece, and which calls fail.
         ensures size { IfOk result (λ n. n ≡ min self.old.piece
             (min (length piece.now) (self.old.room - length self.old.bytes))) }
         ensures fails { IsErr result ↔ (FailsNext self.old.plan ⊎ (length self.old.bytes ≡ self.old.room)) }

@@ -1,5 +1,5 @@
-//! A sink that keeps no bytes, and counts lines.
-ghost use Rattle.std.specs.Prelude.{◌≡◌, []};
+//! A sink that counts lines, and stores no text.
+ghost use Rattle.std.specs.Prelude.{◌≡◌, [], false};
 ghost use Rattle.outer_ports.specs.Lines.{counted_of};
 ghost use Rattle.outer_ports.specs.Counting.{with_byte};
 
@@ -7,8 +7,8 @@ use crate::sinks::sink::{Sink, SinkFault};
 use crate::sinks::tally::Tally;
 use std::marker::Model;
 
-/// A sink that keeps the counts of the whole lines that it was given, and the first bytes of the line
-/// that has begun. It never fails.
+/// A sink that keeps the counts of the whole lines that it was given, and the first eleven bytes of
+/// the line that has begun. It never fails.
 #[derive(Drop)]
 pub struct SinkTally {
     tally: Tally,
@@ -28,7 +28,7 @@ impl Model for SinkTally {
 }
 
 impl SinkTally {
-    /// Nothing is counted yet.
+    /// A sink that has counted nothing yet.
     pub fn new() -> SinkTally
         ensures { result ≡ counted_of [] }
     {
@@ -46,7 +46,7 @@ impl SinkTally {
         self.tally
     }
 
-    // Counts a line at its line feed, and keeps a byte of a line where it is one of the first eleven.
+    // Counts a line at its line feed; keeps any other byte if it is one of the first eleven of its line.
     fn add(&mut self, byte: u8)
         ensures { self.new ≡ with_byte self.old byte }
     {
@@ -64,6 +64,8 @@ impl Sink for SinkTally {
     ghost stands = { λ s bytes. s ≡ counted_of bytes };
 
     ghost faults = { λ _. 0 };
+
+    ghost failed = { λ _. false };
 
     fn give(&mut self, piece: &[u8]) -> Result<usize, SinkFault> {
         for byte in piece {

@@ -4,7 +4,7 @@ ghost use Rattle.std.specs.List.{position_or_len};
 ghost use Rattle.outer_ports.specs.Lines.{first_word};
 ghost use Rattle.outer_ports.specs.Counting.{may_be_counted, next_count_if, with_other, with_word};
 
-/// How many lines there were (`replies`), and how many with each of four first words. A count stays
+/// The number of lines (`replies`), and the number of those with each of four first words. A count saturates
 /// at 2^64 - 1.
 #[derive(Clone, Copy, PartialEq, Eq, Debug)]
 pub struct Tally {
@@ -32,7 +32,7 @@ impl Tally {
         }
     }
 
-    /// Counts a line, which needn't have more than its first eleven bytes.
+    /// Counts a line. The first eleven bytes of the line suffice.
     pub(crate) fn add(&mut self, line: &[u8])
         ensures { self.new ≡ with_line self.old line.now }
     {
@@ -44,7 +44,7 @@ impl Tally {
     }
 }
 
-// The counts with a line more that has this first word.
+// The counts after one more line, which has this first word.
 fn with_word(tally: Tally, word: &[u8]) -> Tally
     ensures { result ≡ with_word tally word.now }
 {
@@ -57,7 +57,7 @@ fn with_word(tally: Tally, word: &[u8]) -> Tally
     }
 }
 
-// The counts with a line more that begins with none of the four words.
+// The counts after one more line, which begins with none of the four words.
 fn with_other(tally: Tally) -> Tally
     ensures { result ≡ with_other tally }
 {
@@ -67,7 +67,7 @@ fn with_other(tally: Tally) -> Tally
     }
 }
 
-// Whether a line begins as one of the four words does.
+// Whether a line begins with the first byte of one of the four words.
 fn may_be_counted(line: &[u8]) -> bool
     ensures { result ≡ may_be_counted line.now }
 {
@@ -77,14 +77,14 @@ fn may_be_counted(line: &[u8]) -> bool
     line[0] == b'e' || line[0] == b'w' || line[0] == b'r' || line[0] == b'f'
 }
 
-// What stands before the first space.
+// What precedes the first space.
 fn first_word(line: &[u8]) -> &[u8]
     ensures { result.now ≡ first_word line.now }
 {
     &line[..word_length(line)]
 }
 
-// Where the first space is, or the length where there is none.
+// The position of the first space, or the length if there is none.
 fn word_length(line: &[u8]) -> usize
     ensures { result ≡ position_or_len (λ byte. byte == 32) line.now }
 {
@@ -92,7 +92,7 @@ fn word_length(line: &[u8]) -> usize
     space.unwrap_or(line.len())
 }
 
-// A count one higher where the test holds.
+// The next count if the test holds, otherwise the same count.
 fn next_count_if(holds: bool, count: u64) -> u64
     ensures { result ≡ next_count_if holds count }
 {

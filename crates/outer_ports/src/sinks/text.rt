@@ -1,16 +1,17 @@
-//! Whole texts to a sink.
+//! Writing whole texts to a sink.
 ghost use Rattle.std.specs.Prelude.{◌≡◌, ◌<◌, ◌≤◌, length, take, flat_map, OnOk, OnErr};
-ghost use Rattle.outer_ports.specs.Ports.{Gained, HasCause, Wrote};
+ghost use Rattle.outer_ports.specs.Ports.{FailedLast, Gained, HasCause, Wrote};
 
 use crate::sinks::sink::{Sink, SinkFault};
 
-/// Gives these bytes until all are given or the sink fails, and answers how many it took.
+/// Gives these bytes until all are given or the sink fails, and returns how many the sink took.
 pub(crate) fn give_front<K: Sink>(sink: &mut K, bytes: &[u8]) -> (usize, Result<(), SinkFault>)
     ensures fits { result.0 ≤ length bytes.now }
     ensures gained { Gained (K.stands sink.old) (K.stands sink.new) (take result.0 bytes.now) }
     ensures ok { OnOk result.1 (result.0 ≡ length bytes.now) }
     ensures err { OnErr result.1 (result.0 < length bytes.now) }
     ensures cause { HasCause (K.faults sink.old) (K.faults sink.new) result.1 }
+    ensures last { OnErr result.1 (FailedLast (K.faults sink.old) (K.faults sink.new) (K.failed sink.new)) }
 {
     let mut at = 0;
     while at < bytes.len() {
@@ -22,21 +23,23 @@ pub(crate) fn give_front<K: Sink>(sink: &mut K, bytes: &[u8]) -> (usize, Result<
     (at, Ok(()))
 }
 
-/// Gives all of these bytes. Where the sink fails it has gained a prefix that isn't all of them.
+/// Gives all of these bytes. If the sink fails, it has gained a prefix of them, and not all.
 pub fn give_all<K: Sink>(sink: &mut K, bytes: &[u8]) -> Result<(), SinkFault>
     ensures wrote { Wrote (K.stands sink.old) (K.stands sink.new) bytes.now result }
     ensures cause { HasCause (K.faults sink.old) (K.faults sink.new) result }
+    ensures last { OnErr result (FailedLast (K.faults sink.old) (K.faults sink.new) (K.failed sink.new)) }
 {
     let (_, outcome) = give_front(sink, bytes);
     outcome
 }
 
-/// Gives all of these parts, one after the other, so that a line needn't be put together first. Where
-/// the sink fails it has gained a prefix that isn't all of them.
+/// Gives all of these parts, one after another, so that a line needn't be put together first. If
+/// the sink fails, it has gained a prefix of their bytes, and not all.
 pub fn give_parts<K: Sink>(sink: &mut K, parts: &[&[u8]]) -> Result<(), SinkFault>
     ensures wrote { Wrote (K.stands sink.old) (K.stands sink.new)
         (flat_map (λ part. part.now) parts.now) result }
     ensures cause { HasCause (K.faults sink.old) (K.faults sink.new) result }
+    ensures last { OnErr result (FailedLast (K.faults sink.old) (K.faults sink.new) (K.failed sink.new)) }
 {
     for part in parts {
         give_all(sink, part)?;

@@ -1,4 +1,4 @@
-//! Where bytes come from.
+//! The trait of a source of bytes.
 ghost use Rattle.std.specs.Prelude.{◌≡◌, ◌<◌, ◌≤◌, ℕ, List, Option, length, take, IfOk, OnErr};
 ghost use Rattle.outer_ports.specs.Ports.{Gave, HasCause, IsAtEnd};
 
@@ -6,17 +6,17 @@ ghost use Rattle.outer_ports.specs.Ports.{Gave, HasCause, IsAtEnd};
 #[derive(Debug, Drop, Clone, Copy, PartialEq, Eq)]
 pub struct SourceFault;
 
-/// Bytes that are taken one piece after another, in their order.
+/// Bytes that are taken in their order, one piece after another.
 pub trait Source {
-    /// The bytes that are left, where the source tells them.
+    /// The bytes that remain, if the source reports them.
     ghost left: { Self → Option (List ℕ) };
 
-    /// How often it failed. A count of 2^64 - 1 stays there, and is said to have risen.
+    /// How many calls failed. The count saturates at 2^64 - 1, and counts as risen from then on.
     ghost faults: { Self → ℕ };
 
-    /// Moves a first piece of the bytes that are left into the slice, which must not be empty, and
-    /// answers the piece's length in bytes. Where the source tells what is left, it is 0 exactly at
-    /// the end of the input. A fault takes no byte, and comes only where the count of faults rose.
+    /// Moves a first piece of the remaining bytes into the slice, which must not be empty, and
+    /// returns the piece's length in bytes. If the source reports what remains, a length of 0 means the
+    /// end of the input. A call that fails takes no byte, and fails only if the count of failed calls rose.
     fn take(&mut self, into: &mut [u8]) -> Result<usize, SourceFault>
         requires { 0 < length into.old }
         ensures fits { IfOk result (λ n. n ≤ length into.new) }

@@ -7,7 +7,7 @@ use crate::plan::FaultPlan;
 use crate::sources::source::{Source, SourceFault};
 use std::marker::Model;
 
-/// Bytes in memory, of which a call gives a piece of a greatest length, and whose calls fail as planned.
+/// Bytes in memory. A call gives at most a fixed number of bytes, and calls fail as planned.
 #[derive(Drop)]
 pub struct SourceBytes {
     bytes: Vec<u8>,
@@ -28,8 +28,8 @@ impl Model for SourceBytes {
 }
 
 impl SourceBytes {
-    /// A source of these bytes, at most `piece` of them a call, whose calls with a number in `fails`
-    /// fail, counted from 1.
+    /// A source of these bytes, which gives at most `piece` bytes in a call. The calls with a number in
+    /// `fails` fail, counted from 1.
     pub fn new(bytes: Vec<u8>, piece: usize, fails: Vec<u64>) -> SourceBytes
         requires { 0 < piece }
         ensures { result ≡ record { left = bytes.items; piece = piece; plan = plan_of fails.items } }
@@ -56,7 +56,7 @@ impl Source for SourceBytes {
         ensures err { OnErr result (Some self.new.left ≡ Some self.old.left) }
         ensures cause { HasCause self.old.plan.faults self.new.plan.faults result }
 
-        // How long the piece is, and which calls fail.
+        // The length of the piece, and which calls fail.
         ensures size { IfOk result (λ n. n ≡ min self.old.piece
             (min (length into.old) (length self.old.left))) }
         ensures fails { IsErr result ↔ FailsNext self.old.plan }

@@ -1,4 +1,4 @@
-//! Pages that take memory only once they are written.
+//! Pages that take memory only when they are first written.
 ghost use Rattle.std.specs.Prelude.{◌≡◌, ◌+◌, ◌*◌, ◌<◌, ◌≤◌, ℕ, List, [], length, slice_get, replicate, Some, IfOk};
 ghost use Rattle.store_word.specs.Words.{null_word};
 ghost use Rattle.outer_ports.specs.Pages.{Fills};
@@ -7,8 +7,8 @@ use std::alloc::Global;
 use std::marker::Model;
 use store_word::{NoMemory, Word};
 
-/// Pages of 256 words each, NULL words at first. A page gets its slot at its first write, and the slots stand in the order
-/// of these writes. There is room for a slot of each page from the beginning, but it isn't touched before.
+/// Pages of 256 words each, NULL words at first. A page gets its slot when it is first written, and slots are in the order
+/// of these first writes. `of_pages` reserves a slot for each page, but doesn't touch it before that write.
 #[derive(Drop)]
 pub(crate) struct PageSlots {
     slots: Vec<Option<u32>>,
@@ -28,7 +28,7 @@ impl Model for PageSlots {
 }
 
 impl PageSlots {
-    /// No pages. It takes no memory.
+    /// No pages. It allocates no memory.
     pub(crate) fn none(alloc: Global) -> PageSlots
         ensures { result ≡ [] }
     {
@@ -38,7 +38,7 @@ impl PageSlots {
         }
     }
 
-    /// Pages of NULL words. No later call takes memory.
+    /// This many pages of NULL words. No later call allocates memory.
     pub(crate) fn of_pages(alloc: Global, pages: u32) -> Result<PageSlots, NoMemory>
         ensures { IfOk result (λ all. all ≡ replicate (256 * pages) null_word) }
     {
@@ -58,7 +58,7 @@ impl PageSlots {
         }
     }
 
-    /// The words of a page.
+    /// Copies the words of a page to `into`.
     pub(crate) fn read(&self, page: u32, into: &mut [Word])
         requires inside { 256 * page + 256 ≤ length self.now }
         requires room { length into.old ≡ 256 }
@@ -70,7 +70,7 @@ impl PageSlots {
         }
     }
 
-    /// A page has these words, in its slot or in the next one.
+    /// Writes these words to a page: to its slot, or to the next free slot if it has none.
     pub(crate) fn write(&mut self, page: u32, from: &[Word])
         requires inside { 256 * page + 256 ≤ length self.old }
         requires size { length from.now ≡ 256 }
@@ -87,7 +87,7 @@ impl PageSlots {
     }
 }
 
-// Reads the words of one slot.
+// Copies the words of one slot to `into`.
 fn read_words(words: &[Word], slot: u32, into: &mut [Word])
     requires inside { 256 * slot + 256 ≤ length words.now }
     requires room { length into.old ≡ 256 }
@@ -97,7 +97,7 @@ fn read_words(words: &[Word], slot: u32, into: &mut [Word])
     into.copy_from_slice(&words[at..at + 256]);
 }
 
-// Writes the words of one slot.
+// Writes these words to one slot.
 fn write_words(words: &mut [Word], slot: u32, from: &[Word])
     requires inside { 256 * slot + 256 ≤ length words.old }
     requires size { length from.now ≡ 256 }

@@ -1,4 +1,4 @@
-//! Where swapped pages lie.
+//! The trait of a swap device, which stores pages.
 ghost use Rattle.std.specs.Prelude.{◌≡◌, ◌+◌, ◌*◌, ◌<◌, ◌≤◌, ℕ, List, length, slice_get, replicate, OnOk, OnErr};
 ghost use Rattle.store_word.specs.Faults.{TellsFaults};
 ghost use Rattle.store_word.specs.Words.{Parts, null_word};
@@ -12,22 +12,22 @@ pub trait Swap {
     /// The words of its pages, one page after another.
     ghost stored: { Self → List Parts };
 
-    /// How often it failed.
+    /// How many calls failed.
     ghost faults: { Self → ℕ };
 
-    /// The page calls that were made, those that failed counted.
+    /// The page calls so far, including those that failed.
     ghost calls: { Self → Calls };
 
-    /// Makes it hold this many pages of NULL words. Where memory runs out the device is as it
-    /// was.
+    /// Gives the device this many pages of NULL words. If memory runs out, the device is
+    /// unchanged.
     fn prepare(&mut self, alloc: Global, pages: u32) -> Result<(), NoMemory>
         ensures ok { OnOk result (stored self.new ≡ replicate (256 * pages) null_word) }
         ensures err { OnErr result (self.new ≡ self.old) }
         ensures faults { faults self.new ≡ faults self.old }
         ensures calls { calls self.new ≡ calls self.old };
 
-    /// Reads a page, as it was last written, into a slice of 256 words. The count of faults rises
-    /// exactly if it fails, and the slice may then hold any words.
+    /// Reads a page, as last written, into a slice of 256 words. The count of failed calls rises
+    /// if and only if the call fails; the slice may then hold any words.
     fn read_page(&mut self, page: u32, into: &mut [Word]) -> Result<(), SwapFault>
         requires inside { 256 * page + 256 ≤ length (stored self.old) }
         requires room { length into.old ≡ 256 }
@@ -37,8 +37,8 @@ pub trait Swap {
         ensures cause { TellsFaults (faults self.old) (faults self.new) result }
         ensures calls { calls self.new ≡ with_read (calls self.old) };
 
-    /// Writes a page of 256 words. A fault changes no page. The count of faults rises exactly
-    /// if it fails.
+    /// Writes a page of 256 words. If the call fails, no page has changed. The count of failed calls
+    /// rises if and only if the call fails.
     fn write_page(&mut self, page: u32, from: &[Word]) -> Result<(), SwapFault>
         requires inside { 256 * page + 256 ≤ length (stored self.old) }
         requires size { length from.now ≡ 256 }

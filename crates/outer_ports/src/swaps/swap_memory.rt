@@ -10,7 +10,7 @@ use std::alloc::Global;
 use std::marker::Model;
 use store_word::{NoMemory, SwapFault, Word};
 
-/// Pages in memory, of whose page calls one may fail.
+/// A swap device in memory. At most one of its page calls fails.
 #[derive(Drop)]
 pub struct SwapMemory {
     pages: PageSlots,
@@ -20,7 +20,7 @@ pub struct SwapMemory {
     reads: u64,
 }
 
-/// The page calls of a device, those that failed counted.
+/// The page calls of a device, including those that failed.
 #[derive(Clone, Copy, Debug, PartialEq, Eq)]
 pub struct PageCalls {
     pub writes: u64,
@@ -36,8 +36,8 @@ impl Model for SwapMemory {
 }
 
 impl SwapMemory {
-    /// A device of no pages, whose page call number `fail` fails, counted from 1 over reads and writes,
-    /// and no other. With 0 none fails. It takes no memory.
+    /// A device without pages. Only its page call number `fail` fails, counted from 1 over reads and
+    /// writes; if `fail` is 0, none does. It allocates no memory.
     pub fn new(alloc: Global, fail: u32) -> SwapMemory
         ensures { result ≡ record { stored = []; fail = fail; calls = 0; writes = 0; reads = 0 } }
     {
@@ -50,7 +50,7 @@ impl SwapMemory {
         }
     }
 
-    /// The word at an address, as the device holds it. It is no page call.
+    /// The word at an address, as the device stores it. This isn't a page call.
     pub fn peek(&self, at: u32) -> Word
         requires { at < length self.now.stored }
         ensures { slice_get self.now.stored at ≡ Some result }
@@ -58,7 +58,7 @@ impl SwapMemory {
         self.pages.word(at)
     }
 
-    /// How many pages it was to write, and how many to read.
+    /// The number of page writes and page reads so far, including those that failed.
     pub fn page_calls(&self) -> PageCalls
         ensures { (result.writes ≡ self.now.writes) × (result.reads ≡ self.now.reads) }
     {
@@ -68,7 +68,7 @@ impl SwapMemory {
         }
     }
 
-    // Counts a page call, which may be the one that fails.
+    // Counts a page call, and fails if this is the call that has to fail.
     fn call(&mut self) -> Result<(), SwapFault>
         ensures counted { self.new ≡ after_page_call self.old }
         ensures fails { IsErr result ↔ (self.old.calls + 1 ≡ self.old.fail) }

@@ -1,6 +1,6 @@
-//! Room for what an answer has beside the session's buffer.
-ghost use Rattle.std.specs.Prelude.{◌≡◌, ◌<◌, ◌≤◌, [], length, take, vec_capacity, decimal, IfOk, OnErr};
-ghost use Rattle.outer_ports.specs.Ports.{Gained, HasCause};
+//! Room for the part of an answer that isn't in the session's buffer.
+ghost use Rattle.std.specs.Prelude.{◌≡◌, ◌<◌, ◌≤◌, [], length, take, vec_capacity, decimal, is_err, IfOk, OnErr};
+ghost use Rattle.outer_ports.specs.Ports.{Gained, HasCause, next_count};
 ghost use Rattle.line_input.specs.Statuses.{reason_words, status_of, trouble_line};
 
 use line_input::{RunError, Status, report};
@@ -8,14 +8,15 @@ use outer_ports::{NoMemory, Sink, SinkFault};
 use std::alloc::Global;
 use world_text::Reason;
 
-/// How many bytes always have room: more than an error line has.
+/// The number of bytes that always fit: more than an error line has.
 const ROOM: usize = 256;
 
-/// A sink in memory. Up to 256 bytes always have room, so an error line has; more bytes, which a dump may have, take memory.
+/// A sink in memory. Up to 256 bytes always fit, so an error line does; more bytes, which a dump may have, allocate memory.
 #[derive(Drop)]
 pub(crate) struct AnswerRoom {
     pub bytes: Vec<u8>,
     pub faults: u64,
+    pub failed: bool,
     pub ghost room: { 256 ≤ vec_capacity bytes },
     pub ghost full: { 0 < faults → 256 ≤ length bytes.items },
 }
@@ -25,7 +26,7 @@ fn numbers_are_short(number: u64)
     ensures { length (decimal number) ≤ 20 }
 {}
 
-/// The words of a reason are at most 40 bytes.
+/// The words of a reason have at most 40 bytes.
 fn reasons_are_short(reason: Reason)
     ensures { length (reason_words reason) ≤ 40 }
 {
@@ -70,19 +71,24 @@ impl AnswerRoom {
         ensures faults { IfOk result (λ room. room.faults ≡ 0) }
     {
         let bytes = Vec::with_capacity(alloc, ROOM)?;
-        Ok(AnswerRoom { bytes, faults: 0 })
+        Ok(AnswerRoom {
+            bytes,
+            faults: 0,
+            failed: false,
+        })
     }
 
-    /// Forgets its bytes and its faults.
+    /// Drops its bytes, and resets its count of failed calls.
     pub fn clear(&mut self)
         ensures bytes { self.new.bytes.items ≡ [] }
         ensures faults { self.new.faults ≡ 0 }
     {
         self.bytes.clear();
         self.faults = 0;
+        self.failed = false;
     }
 
-    /// Writes the error line of a trouble into the empty room, and answers its status.
+    /// Writes the error line of a trouble into the empty room, and returns its status.
     pub fn tell(&mut self, trouble: RunError) -> Status
         requires bytes { self.old.bytes.items ≡ [] }
         requires faults { self.old.faults ≡ 0 }
@@ -99,6 +105,8 @@ impl Sink for AnswerRoom {
 
     ghost faults = { λ s. s.faults };
 
+    ghost failed = { λ s. s.failed };
+
     fn give(&mut self, piece: &[u8]) -> Result<usize, SinkFault>
         requires { 0 < length piece.now }
         ensures some { IfOk result (λ n. 0 < n) }
@@ -106,15 +114,21 @@ impl Sink for AnswerRoom {
         ensures gained { IfOk result (λ n. Gained (λ had. self.old.bytes.items ≡ had) (λ had. self.new.bytes.items ≡ had) (take n piece.now)) }
         ensures err { OnErr result (Gained (λ had. self.old.bytes.items ≡ had) (λ had. self.new.bytes.items ≡ had) []) }
         ensures cause { HasCause self.old.faults self.new.faults result }
+        ensures failed { self.new.failed ≡ is_err result }
+        ensures once { OnErr result (self.new.faults ≡ next_count self.old.faults) }
     {
         let mut count = piece.len();
         if self.bytes.len() < ROOM {
             count = count.min(ROOM - self.bytes.len());
         }
         match self.bytes.extend_from_slice(&piece[..count]) {
-            Ok(()) => Ok(count),
+            Ok(()) => {
+                self.failed = false;
+                Ok(count)
+            }
             Err(_) => {
                 self.faults = self.faults.saturating_add(1);
+                self.failed = true;
                 Err(SinkFault)
             }
         }

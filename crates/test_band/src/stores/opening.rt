@@ -11,18 +11,18 @@ use std::alloc::Global;
 use std::process::Abort;
 use std::test::Fail;
 
-// What opening a disk answers.
+// The result of opening a disk.
 fn opened<D: BandDisk>(alloc: Global, disk: &mut D) -> Result<u32, OpenFault> {
     open(&mut BandStore::new(alloc), disk)
 }
 
-// Whether opening a disk with these bytes answers so.
+// Whether opening a disk with these bytes has this result.
 fn opens_as(alloc: Global, bytes: &[u8], want: Result<u32, OpenFault>) -> Result<bool, Fail> {
     let mut disk = disk(alloc, bytes, 64, 0, 0)?;
     Ok(opened(alloc, &mut disk) == want)
 }
 
-// The bytes of a disk, and what opening it answers.
+// The bytes of a disk, and the result of opening it.
 const OPENINGS: [(&[u8], Result<u32, OpenFault>); 17] = [
     (b"", Err(OpenFault::NotAStore)),
     (b"LISPBND1", Err(OpenFault::NotAStore)),
@@ -50,7 +50,7 @@ const OPENINGS: [(&[u8], Result<u32, OpenFault>); 17] = [
         b"LISPBND1\x01\x11abcdefghijkl-7890\0\0\0\0\0",
         Err(OpenFault::Damaged { at: 8 }),
     ),
-    // two records, and damage behind one
+    // two records, and damage after one
     (b"LISPBND1\x01\x01a\0\0\0\x01x\x01\x02b2\0\0\0\0\xff", Ok(2)),
     (b"LISPBND1\x01\x01a\0\0\0\x01x\x01\x01a\0\0\0\0\0", Ok(1)),
     (
@@ -73,7 +73,7 @@ fn opens_and_refuses(rt: HostRuntime) -> Result<(), Fail> {
 
 const WHOLE: &[u8; 19] = b"LISPBND1\x01\x01a\0\0\0\x03xyz\0";
 
-// What opening the first bytes of a disk with one record answers.
+// The result of opening a disk that has the first bytes of one with one record.
 fn answer_to_front(len: usize) -> Result<u32, OpenFault> {
     match len {
         0..=8 => Err(OpenFault::NotAStore),
@@ -138,7 +138,7 @@ fn agrees<D: BandDisk>(
     Ok(())
 }
 
-// The same of a disk in memory.
+// The same for a disk in memory.
 fn agrees_in_memory(rt: &impl Abort, alloc: Global, bytes: &[u8]) -> Result<(), Fail> {
     let mut disk = disk(alloc, bytes, 64, 0, 0)?;
     agrees(rt, alloc, &mut disk, bytes)

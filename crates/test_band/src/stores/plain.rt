@@ -4,7 +4,7 @@ ghost use Rattle.std.specs.Prelude.{◌<◌, length};
 use band_store::OpenFault;
 use std::test::Fail;
 
-// Where the name and the text of a record stand.
+// The places of the name and the text of a record.
 #[derive(Clone, Copy, Debug, Drop)]
 pub struct Piece {
     name: usize,
@@ -13,7 +13,7 @@ pub struct Piece {
     size: usize,
 }
 
-// So many bytes from a place on, or none where the bytes end before.
+// This many bytes from a place on, or none if the bytes end before.
 fn part(bytes: &[u8], at: usize, len: usize) -> &[u8] {
     if at <= bytes.len() && len <= bytes.len() - at {
         &bytes[at..at + len]
@@ -35,7 +35,7 @@ fn is_plain_name(name: &[u8]) -> bool {
         && name.iter().all(|b| b.is_ascii_lowercase() || b.is_ascii_digit() || *b == b'-')
 }
 
-// The record behind the open gate at this place, where one with a gate behind it stands there.
+// The record after the open gate at this place, if a record with a gate after it is there.
 fn piece_at(bytes: &[u8], gate: usize) -> Option<Piece>
     requires { gate < length bytes.now }
 {
@@ -63,7 +63,7 @@ fn piece_at(bytes: &[u8], gate: usize) -> Option<Piece>
     })
 }
 
-// A plain reading of a disk's bytes: adds its records to the list, and tells why the bytes are refused, if they are.
+// A plain reading of a disk's bytes: adds its records to the list, and returns why the bytes are refused, if they are.
 pub fn read(bytes: &[u8], pieces: &mut Vec<Piece>) -> Result<Option<OpenFault>, Fail> {
     if bytes.len() < 9 || !bytes.starts_with(b"LISPBND1") {
         return Ok(Some(OpenFault::NotAStore));

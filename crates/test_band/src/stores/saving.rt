@@ -1,4 +1,4 @@
-//! What a store saves and loads, and what a stop leaves.
+//! What a store saves and loads, and what it has after a crash.
 ghost use Rattle.std.specs.Prelude.{◌≡◌, List, true};
 ghost use Rattle.band_store.specs.Format.{Save};
 ghost use Rattle.band_store.specs.Store.{IsReady};
@@ -46,7 +46,7 @@ fn save_text<D: BandDisk>(
     Ok(save(store, disk, &name, &text))
 }
 
-// Why no text is loaded under the name `a`, where none is.
+// Why no text is loaded under the name `a`, if none is.
 fn refusal<D: BandDisk>(store: &mut BandStore, disk: &mut D) -> Result<Option<LoadFault>, Fail>
     requires { store.old.opened ≡ true → (saves : List Save) × IsReady store.old (D.bytes disk.old) (D.images disk.old) saves }
     ensures { store.new.opened ≡ true → (saves : List Save) × IsReady store.new (D.bytes disk.new) (D.images disk.new) saves }
@@ -58,7 +58,7 @@ fn refusal<D: BandDisk>(store: &mut BandStore, disk: &mut D) -> Result<Option<Lo
     }
 }
 
-// Asks a store before it is opened and when it is empty.
+// Calls a store before it is opened, and while it is empty.
 fn asks_in_vain<D: BandDisk>(
     rt: &impl Abort,
     alloc: Global,
@@ -141,7 +141,7 @@ fn writes_a_record_between_gates(rt: HostRuntime) -> Result<(), Fail> {
     Ok(())
 }
 
-// How many bytes a text has, the room of the disk, and the answer: a text has 1,048,576 bytes at most, and a disk is full from the
+// How many bytes a text has, the room of the disk, and the result: a text has at most 1,048,576 bytes, and a disk is full from the
 // byte on that it has no room for.
 const BOUNDS: [(usize, u32, Result<(), SaveFault>); 6] = [
     (75, 90, Err(SaveFault::Full { end: 91 })),
@@ -156,7 +156,7 @@ const BOUNDS: [(usize, u32, Result<(), SaveFault>); 6] = [
     (1_048_576, 1_048_592, Ok(())),
 ];
 
-// What a save of so many bytes on an empty disk of this room answers.
+// The result of a save of this many bytes on an empty disk of this room.
 fn saved_in_room(alloc: Global, len: usize, room: u32) -> Result<Result<(), SaveFault>, Fail> {
     let text = Text::from_slice(alloc, &vec![in alloc; b'x'; len]?)?;
     let mut disk = disk(alloc, EMPTY, room, 0, 0)?;
@@ -171,7 +171,7 @@ fn knows_its_bounds(rt: HostRuntime) -> Result<(), Fail> {
     Ok(())
 }
 
-// Saves a text so often, until a save fails, and tells how many were acknowledged.
+// Saves a text again and again, until a save fails, and returns how many were acknowledged.
 fn saves<D: BandDisk>(
     store: &mut BandStore,
     disk: &mut D,
@@ -190,7 +190,7 @@ fn saves<D: BandDisk>(
     most
 }
 
-// How long the text is that is loaded under this name, 0 where none is.
+// The length of the text that is loaded under this name; 0 if none is.
 fn found<D: BandDisk>(store: &mut BandStore, disk: &mut D, name: &Name) -> u64
     requires { store.old.opened ≡ true → (saves : List Save) × IsReady store.old (D.bytes disk.old) (D.images disk.old) saves }
     ensures { store.new.opened ≡ true → (saves : List Save) × IsReady store.new (D.bytes disk.new) (D.images disk.new) saves }
@@ -201,7 +201,7 @@ fn found<D: BandDisk>(store: &mut BandStore, disk: &mut D, name: &Name) -> u64
     }
 }
 
-// Saves a text under the name `a`, and tells how many saves were acknowledged.
+// Saves a text under the name `a`, and returns how many saves were acknowledged.
 fn acknowledged<D: BandDisk>(
     alloc: Global,
     store: &mut BandStore,
@@ -214,7 +214,7 @@ fn acknowledged<D: BandDisk>(
     Ok(u32::from(save_text(alloc, store, disk, b"a", text)?.is_ok()))
 }
 
-// Opens the disk, and tells how long the text is that is found under the name `a`.
+// Opens the disk, and returns the length of the text that is found under the name `a`.
 fn left<D: BandDisk>(store: &mut BandStore, disk: &mut D) -> Result<u64, Fail>
     ensures { store.new.opened ≡ true → (saves : List Save) × IsReady store.new (D.bytes disk.new) (D.images disk.new) saves }
 {
@@ -227,8 +227,8 @@ fn left<D: BandDisk>(store: &mut BandStore, disk: &mut D) -> Result<u64, Fail>
     Ok(size)
 }
 
-// Saves two texts of one name, 1 and 2 bytes long, opens the disk again, and tells how many saves were acknowledged and how long
-// the text is that was found. A third save goes then.
+// Saves two texts of one name, 1 and 2 bytes long, opens the disk again, and returns how many saves were acknowledged and how long
+// the text is that was found. A third save succeeds then.
 fn stopped<D: BandDisk>(alloc: Global, disk: &mut D) -> Result<(u32, u64), Fail> {
     let mut store = BandStore::new(alloc);
     open(&mut store, disk)?;
@@ -242,13 +242,13 @@ fn stopped<D: BandDisk>(alloc: Global, disk: &mut D) -> Result<(u32, u64), Fail>
     Ok((first.saturating_add(second), size))
 }
 
-// The same of a disk in memory.
+// The same for a disk in memory.
 fn stopped_in_memory(alloc: Global, stop: u32, tear: u8) -> Result<(u32, u64), Fail> {
     let mut disk = disk(alloc, EMPTY, 128, stop, tear)?;
     stopped(alloc, &mut disk)
 }
 
-// What is to be found: the acknowledged saves, and the one under way where the gate was opened, and kept though it wasn't synced.
+// What has to be found: the acknowledged saves, and the current one if its gate was opened, and kept though it wasn't synced.
 fn saves_left(stop: u32, tear: u8) -> (u32, u64) {
     let acknowledged: u32 = if stop <= 4 { 0 } else { 1 };
     let kept = u64::from(tear == 1 && (stop == 4 || stop == 8));
@@ -266,7 +266,7 @@ fn loses_no_acknowledged_save(rt: HostRuntime) -> Result<(), Fail> {
     Ok(())
 }
 
-// A log of 32 entries has place for five saves, of six entries each.
+// A log of 32 entries has room for five saves, of six entries each.
 fn fills<D: BandDisk>(rt: &impl Abort, alloc: Global, disk: &mut D) -> Result<(), Fail> {
     let a = name(b"a")?;
     let text = Text::from_slice(alloc, b"x")?;

@@ -11,7 +11,7 @@ ghost use Rattle.lisp_graph.specs.Commands.{InLimits, InRegisters, IsPlain};
 
 use lisp_graph::{Command, Items, Reply, Value};
 
-/// The number of the digit or the letter at a place of a word. Small letters go on from 10, and some capitals are great.
+/// The number of the digit or the letter at a place of a word. Small letters are the numbers from 10 on, and some capitals are great ones.
 fn number(word: &[u8], index: usize) -> u16
     ensures { result ≤ 2047 }
 {
@@ -67,7 +67,7 @@ fn items(word: &[u8]) -> Items
     items
 }
 
-/// A command that makes or widens an object.
+/// A command that makes or grows an object.
 fn maker(word: &[u8]) -> Option<Command>
     ensures program { IfSome result (λ command. (graph : Graph) → IsSome (effect graph command)) }
     ensures registers { IfSome result (λ command. InRegisters 8 command) }

@@ -10,7 +10,7 @@ enum Change {
     Remove(u32),
 }
 
-// Changes a set of 16,384 pages, and answers its lowest page.
+// Changes a set of 16,384 pages, and returns its lowest page.
 fn lowest_after(set: &mut PageSet, change: Change) -> Option<u32>
     requires { set.old.count ≡ 16384 }
     ensures { set.new.count ≡ 16384 }

@@ -8,7 +8,7 @@ use lisp_graph::{AreaKind, AreaRule, Name};
 use std::alloc::Global;
 use std::test::Fail;
 
-// One area of 40,980 words in 45 regions, which is just what the room rule wants.
+// One area of 40,980 words in 45 regions, which is just what the room rule requires.
 fn new_trial(alloc: Global) -> Result<Trial, Fail>
     ensures { IfOk result (λ t. IsTrial (plain_store t.ground.mem) t.ground.table t.live_words t.old_words t.moving) }
 {

@@ -1,4 +1,4 @@
-//! One area, its live and its old words, and the charge of old objects that is left to move.
+//! One area, its live and its old words, and the charge of old objects that remain to be moved.
 ghost use Rattle.std.specs.Prelude.{◌≡◌, ◌+◌, ◌*◌, ◌/◌, ◌<◌, ◌≤◌, ℕ, IfOk, IfSome, IsTrue};
 ghost use Rattle.lisp_graph.specs.declared.world.AreaKind.{AreaKind as OneKind};
 ghost use Rattle.mem_port.specs.Plain.{plain_store};
@@ -12,8 +12,8 @@ use mem_port::{Memory, PlainMemory};
 use std::alloc::Global;
 use store_word::{NoMemory, Space};
 
-/// A ground with one dynamic area and one level above 0, its words that are live and old, and the charge of old objects that is
-/// left to move, all in words.
+/// A ground with one dynamic area and one level above 0, its words that are live and old, and the charge of old objects that
+/// remain to be moved, all in words.
 #[derive(Drop)]
 pub struct Trial {
     pub ground: Ground<PlainMemory>,
@@ -23,7 +23,7 @@ pub struct Trial {
 }
 
 impl Trial {
-    /// An empty ground of so many regions with this area, which is dynamic and for which there is room: a region for each 1,024
+    /// An empty ground of this many regions with this area, which is dynamic and for which there is room: a region for each 1,024
     /// words of its quota, rounded up, and four more.
     pub fn new(alloc: Global, regions: u32, rule: AreaRule) -> Result<Trial, NoMemory>
         requires few { regions ≤ 1024 }
@@ -52,7 +52,7 @@ impl Trial {
         })
     }
 
-    // The place of an object of 1 to 2,048 words, where the used words of the area and these are together at most twice its quota.
+    // The place of an object of 1 to 2,048 words, if with these the used words of the area are at most twice its quota.
     fn place(&mut self, words: u32) -> Option<Placed>
         requires { IsTrial (plain_store self.old.ground.mem) self.old.ground.table self.old.live_words self.old.old_words self.old.moving }
         ensures trial { IsTrial (plain_store self.new.ground.mem) self.new.ground.table self.new.live_words self.new.old_words self.new.moving }
@@ -72,7 +72,7 @@ impl Trial {
         Some(self.ground.place(0, 0, words))
     }
 
-    /// Places and commits a new object of 1 to 2,048 words, where the quota allows it.
+    /// Places and commits a new object of 1 to 2,048 words, if the quota allows it.
     pub fn put(&mut self, words: u32) -> Option<u32>
         requires { IsTrial (plain_store self.old.ground.mem) self.old.ground.table self.old.live_words self.old.old_words self.old.moving }
         ensures { IsTrial (plain_store self.new.ground.mem) self.new.ground.table self.new.live_words self.new.old_words self.new.moving }
@@ -109,7 +109,7 @@ impl Trial {
         Some(placed.at)
     }
 
-    /// Flips in full, where no region is old.
+    /// Flips in full, if no region is old.
     pub fn flip(&mut self) -> bool
         requires { IsTrial (plain_store self.old.ground.mem) self.old.ground.table self.old.live_words self.old.old_words self.old.moving }
         ensures { IsTrial (plain_store self.new.ground.mem) self.new.ground.table self.new.live_words self.new.old_words self.new.moving }

@@ -14,7 +14,7 @@ use mem_port::{Memory, known};
 use std::sync::ledger::Ledger;
 use store_word::{CdrCode, Steps, SwapFault, Word};
 
-/// A place for an object in area 0 at level 0, committed. The charge fits the quota; that of a pair
+/// A place for an object in area 0 at level 0, committed. The charge is within the quota; that of a pair
 /// which a cell has paid for is 0.
 pub(crate) fn reserve<M: Memory>(
     ground: &mut Ground<M>,
@@ -60,7 +60,7 @@ pub(crate) fn write_pair<M: Memory, L: Ledger>(
     Ok(())
 }
 
-/// Writes cells that number themselves, the last coded nil.
+/// Writes cells whose cars are their numbers; the last is coded nil.
 pub(crate) fn write_cells<M: Memory, L: Ledger>(
     mem: &mut M,
     at: u32,

@@ -1,4 +1,4 @@
-//! Objects that are laid anew: their new words, and what they leave.
+//! Objects that are relocated: their new words, and what they leave.
 ghost use Rattle.std.specs.Prelude.{◌≡◌, ◌⊎◌, ◌+◌, ◌*◌, ◌/◌, ◌<◌, ◌≤◌, IsTrue, IfOk, OnOk, None, length, Contains};
 ghost use Rattle.mem_port.specs.Store.{StoresNothing};
 ghost use Rattle.area_space.specs.Table.{slot_of, live, chain};
@@ -11,7 +11,7 @@ use mem_port::{Memory, known};
 use std::sync::ledger::Ledger;
 use store_word::{CdrCode, Content, Steps, SwapFault, Word};
 
-/// Whether a word in which a cons begins is a cell's, where it is no forward.
+/// Whether the first word of a cons is a cell's; the word must not be a forward.
 pub(crate) fn is_cell(word: Word) -> bool
     ensures here { IsTrue result → forward_of word.content ≡ None }
     ensures cell { IsTrue result → word.cdr ≡ CdrCode.Normal → ⊥ }
@@ -33,7 +33,7 @@ pub(crate) fn is_first_class(table: &RegionTable, at: u32) -> bool
     }
 }
 
-/// Writes a block of a code with the fields of another, and nil behind them: twice as many and one.
+/// Writes a block of a code with the fields of another, followed by nil: twice as many fields and one.
 pub(crate) fn write_wider<M: Memory, L: Ledger>(
     mem: &mut M,
     at: u32,
@@ -60,7 +60,7 @@ pub(crate) fn write_wider<M: Memory, L: Ledger>(
     Ok(())
 }
 
-// A field of a block, or nil behind the last.
+// A field of a block, or nil after the last.
 fn field<M: Memory, L: Ledger>(
     mem: &mut M,
     at: u32,
@@ -81,7 +81,7 @@ fn field<M: Memory, L: Ledger>(
     }
 }
 
-/// Writes a HEADER-FORWARD in place of an object's first word, and NULL in so many words behind it.
+/// Writes a HEADER-FORWARD in place of an object's first word, and NULL in this many words after it.
 pub(crate) fn leave_husk<M: Memory, L: Ledger>(
     mem: &mut M,
     at: u32,

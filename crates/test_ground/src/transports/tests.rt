@@ -26,8 +26,8 @@ const SPACE: Space = Space {
     capacity: [0; 6],
 };
 
-// What is made, and then transported. The middle register is settled first, but where the front one
-// is to be.
+// What is made, and then transported. The middle register is settled first, except in cases that say
+// `front_first`.
 #[derive(Clone, Copy)]
 enum Case {
     Pair,
@@ -35,13 +35,13 @@ enum Case {
         count: u16,
         index: u16,
     },
-    // A list, of which one cell was laid anew as a pair.
+    // A list, of which one cell was relocated as a pair.
     Cut {
         count: u16,
         index: u16,
         front_first: bool,
     },
-    // A block, alone in its region or behind a cell.
+    // A block, alone in its region or after a cell.
     Block {
         fields: u16,
         behind_cell: bool,
@@ -97,11 +97,11 @@ const CASES: [Case; 13] = [
     Case::Grown,
 ];
 
-// Where a block of no fields stands that grows eleven times at the start of a region: each block has
-// twice the words of the one before it, and stands behind it.
+// The places of a block without fields that grows eleven times at the start of a region: each block has
+// twice the words of the one before it, and directly follows it.
 const PLACES: [u16; 12] = [0, 1, 3, 7, 15, 31, 63, 127, 255, 511, 1023, 2047];
 
-// The page calls of a case are fewer.
+// A case has fewer page calls.
 const MANY_CALLS: u32 = 400;
 
 // One dynamic area.
@@ -118,7 +118,7 @@ fn areas(alloc: Global) -> Result<Areas, Fail>
     Ok(areas)
 }
 
-// Makes what a case says.
+// Makes the objects of a case.
 fn make<M: Memory + Drop, L: Ledger>(
     trial: &mut Trial<M>,
     case: Case,
@@ -148,7 +148,7 @@ fn make<M: Memory + Drop, L: Ledger>(
     }
 }
 
-// A list, if a list has so many cells.
+// A list, if a list may have this many cells.
 fn make_list<M: Memory + Drop, L: Ledger>(
     trial: &mut Trial<M>,
     count: u16,
@@ -164,7 +164,7 @@ fn make_list<M: Memory + Drop, L: Ledger>(
     trial.list(count, index, steps)
 }
 
-// A block, if a block has so many fields.
+// A block, if a block may have this many fields.
 fn make_block<M: Memory + Drop, L: Ledger>(
     trial: &mut Trial<M>,
     fields: u16,
@@ -195,7 +195,7 @@ fn make_grown<M: Memory + Drop, L: Ledger>(
     Ok(made)
 }
 
-// The word at an address, which is read again where a fault comes.
+// Compares the word at an address, which is read again if a swap error occurs.
 fn expect<M: Memory + Drop, L: Ledger>(
     rt: &impl Abort,
     trial: &mut Trial<M>,
@@ -222,7 +222,7 @@ fn expect<M: Memory + Drop, L: Ledger>(
     Ok(())
 }
 
-// A register, settled again where a fault comes.
+// Settles a register, again if a swap error occurs.
 fn settle<M: Memory + Drop, L: Ledger>(
     trial: &mut Trial<M>,
     register: Register,
@@ -239,7 +239,7 @@ fn settle<M: Memory + Drop, L: Ledger>(
     Ok(())
 }
 
-// Both registers, in the order of the case.
+// Settles both registers, in the order of the case.
 fn settle_both<M: Memory + Drop, L: Ledger>(
     trial: &mut Trial<M>,
     case: Case,
@@ -331,7 +331,7 @@ fn pages(at: u32, fields: u16) -> u32
     (at + fields as u32) / 256 + 1 - at / 256
 }
 
-// A block behind eleven forwards, of which the first is at an address.
+// Tests a block after eleven forwards, of which the first is at this address.
 fn check_grown<M: Memory + Drop, L: Ledger>(
     rt: &impl Abort,
     trial: &mut Trial<M>,
@@ -377,7 +377,7 @@ fn code_of(cells: Cells, i: u16) -> CdrCode
     }
 }
 
-// Each of these cells.
+// Tests each of these cells.
 fn check_cells<M: Memory + Drop, L: Ledger>(
     rt: &impl Abort,
     trial: &mut Trial<M>,
@@ -401,8 +401,8 @@ fn check_cells<M: Memory + Drop, L: Ledger>(
     Ok(())
 }
 
-// A list of numbers in two parts: how many cells it had and how many of them are its first part, where it stood, and where the two
-// parts stand.
+// A list of numbers in two parts: how many cells it had and how many of them are its first part, its old address, and the new addresses
+// of the two parts.
 #[derive(Clone, Copy)]
 struct Parted {
     count: u16,
@@ -456,8 +456,8 @@ fn check_list<M: Memory + Drop, L: Ledger>(
     expect(rt, trial, behind, Word::list_at(list.middle), steps, met)
 }
 
-// Cells before a HEADER-FORWARD to a pair, and that pair. The cdr of the last cell is where the pair
-// stood when the cells moved.
+// Cells before a HEADER-FORWARD to a pair, and that pair. The cdr of the last cell is the address of the pair
+// when the cells moved.
 fn check_cut<M: Memory + Drop, L: Ledger>(
     rt: &impl Abort,
     trial: &mut Trial<M>,
@@ -492,7 +492,7 @@ fn check_cut<M: Memory + Drop, L: Ledger>(
     expect(rt, trial, behind, cdr, steps, met)
 }
 
-// The list that is a pair: where it stood, or where it stands.
+// The list that is a pair: at its old address, or at its new one.
 fn cdr_before(old: u32, new: u32, front_first: bool) -> Word
     requires old { old < 131072 }
     requires new { new < 65536 }
@@ -504,7 +504,7 @@ fn cdr_before(old: u32, new: u32, front_first: bool) -> Word
     }
 }
 
-// A case from its making to its transports. It answers whether a page call failed.
+// Does a case from its making to its transports. Returns whether a page call failed.
 fn run<M: Memory + Drop, L: Ledger>(
     rt: &impl Abort,
     alloc: Global,
@@ -541,7 +541,7 @@ fn run<M: Memory + Drop, L: Ledger>(
     Ok(met)
 }
 
-// What stands where in a case.
+// Compares the words after a case.
 fn check<M: Memory + Drop, L: Ledger>(
     rt: &impl Abort,
     trial: &mut Trial<M>,
@@ -607,7 +607,7 @@ fn over_a_flat_memory(rt: HostRuntime) -> Result<(), Fail> {
     Ok(())
 }
 
-// A case over a paged memory, of which one page call fails, or none. It answers whether one failed.
+// Does a case over a paged memory, of which one page call fails, or none. Returns whether one failed.
 fn run_paged(rt: &impl Abort, alloc: Global, case: Case, fail: u32) -> Result<bool, Fail> {
     let swap = SwapMemory::new(alloc, fail);
     let Ok(mem) = PagedMemory::open(alloc, &SPACE, swap) else {
@@ -616,7 +616,7 @@ fn run_paged(rt: &impl Abort, alloc: Global, case: Case, fail: u32) -> Result<bo
     run::<PagedMemory<SwapMemory>, Brand>(rt, alloc, mem, case, Blank::new(1))
 }
 
-// A case with each of its page calls failing in turn.
+// Does a case with each of its page calls failing in turn.
 fn fail_each(rt: &impl Abort, alloc: Global, case: Case) -> Result<(), Fail> {
     for fail in 1..MANY_CALLS {
         if !run_paged(rt, alloc, case, fail)? {

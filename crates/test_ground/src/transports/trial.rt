@@ -51,7 +51,7 @@ impl<M: Memory + Drop> Trial<M> {
         })
     }
 
-    /// The front register becomes a new pair of a number and itself, where the quota allows it.
+    /// The front register becomes a new pair of a number and itself, if the quota allows it.
     pub fn cons<L: Ledger>(&mut self, number: i32, steps: &mut Steps<L>) -> Result<bool, SwapFault>
         requires { IsOpen (view self.old.ground) self.old.front self.old.middle }
         ensures { OnOk result (IsOpen (view self.new.ground) self.new.front self.new.middle) }
@@ -74,7 +74,7 @@ impl<M: Memory + Drop> Trial<M> {
     }
 
     /// The front register becomes a new compact list of the numbers from 0 on, and the middle one its
-    /// rest from a number on, where the quota allows it.
+    /// rest from a number on, if the quota allows it.
     pub fn list<L: Ledger>(
         &mut self,
         count: u16,
@@ -97,7 +97,7 @@ impl<M: Memory + Drop> Trial<M> {
         Ok(true)
     }
 
-    /// The front register becomes a new block of so many fields, where the quota allows it.
+    /// The front register becomes a new block of this many fields, if the quota allows it.
     pub fn block<L: Ledger>(&mut self, fields: u16, steps: &mut Steps<L>) -> Result<bool, SwapFault>
         requires few { fields ≤ 2047 }
         requires open { IsOpen (view self.old.ground) self.old.front self.old.middle }
@@ -113,8 +113,8 @@ impl<M: Memory + Drop> Trial<M> {
         Ok(true)
     }
 
-    /// The cdr of the cell in the middle register becomes nil, where it is a cell of area 0 at level 0
-    /// and the quota leaves two words: it is laid anew as a pair, and a HEADER-FORWARD stays.
+    /// The cdr of the cell in the middle register becomes nil, if it is a cell of area 0 at level 0
+    /// and the quota allows two more words: it is relocated as a pair, and leaves a HEADER-FORWARD.
     pub fn cut<L: Ledger>(&mut self, steps: &mut Steps<L>) -> Result<bool, SwapFault>
         requires { IsOpen (view self.old.ground) self.old.front self.old.middle }
         ensures { OnOk result (IsOpen (view self.new.ground) self.new.front self.new.middle) }
@@ -136,9 +136,9 @@ impl<M: Memory + Drop> Trial<M> {
         Ok(true)
     }
 
-    /// The block in the front register gets twice its fields and one, where it is one of area 0 at
-    /// level 0 with at most 1,023 and the quota allows it: it is laid anew, and a HEADER-FORWARD and
-    /// a husk stay.
+    /// The block in the front register gets twice its fields and one, if it is one of area 0 at
+    /// level 0 with at most 1,023 and the quota allows it: it is relocated, and leaves a HEADER-FORWARD and
+    /// a husk.
     pub fn grow<L: Ledger>(&mut self, steps: &mut Steps<L>) -> Result<bool, SwapFault>
         requires { IsOpen (view self.old.ground) self.old.front self.old.middle }
         ensures { OnOk result (IsOpen (view self.new.ground) self.new.front self.new.middle) }
@@ -167,7 +167,7 @@ impl<M: Memory + Drop> Trial<M> {
         Ok(true)
     }
 
-    /// Evicts so many resident pages.
+    /// Evicts this many resident pages.
     pub fn page_out(&mut self, count: u32) -> Result<u32, SwapFault>
         requires { IsOpen (view self.old.ground) self.old.front self.old.middle }
         ensures { IsOpen (view self.new.ground) self.new.front self.new.middle }
@@ -220,7 +220,7 @@ impl<M: Memory + Drop> Trial<M> {
         Ok(())
     }
 
-    /// The word at an address, where it is in the memory.
+    /// The word at an address, if it is in the memory.
     pub fn read<L: Ledger>(
         &mut self,
         at: u32,

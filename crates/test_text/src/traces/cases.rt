@@ -1,4 +1,4 @@
-//! Lines of a trace with what becomes of them, which an independent program has judged.
+//! Lines of a trace with their outcomes, which an independent program has judged.
 
 /// The world of the trace: 8 registers, 3 levels, and the areas `work` and `pool`.
 pub const WORLD: &str =
@@ -86,7 +86,7 @@ root 0 nil = UnknownCommand
 trace = UnknownCommand
 end-world = UnknownCommand";
 
-/// A line, and for each of its bytes a letter: what becomes of the line that ends there. `.` accepted, u unknown command, b bad line,
+/// A line, and for each of its bytes a letter: the outcome of the line that ends there. `.` accepted, u unknown command, b bad line,
 /// c wrong count, r no register, a no area, n bad number, v bad value, l bad levels.
 pub const FRONTS: &str = "\
 cons 7 work 0 1

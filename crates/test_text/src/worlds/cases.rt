@@ -1,7 +1,7 @@
-//! Worlds with what becomes of them, one a line: its lines, then `accepted`, or the number of the line that is refused and why. `1`,
-//! `2` and `16` stand for the lines before the objects in formats 1 and 2, and for 16 areas of format 2.
+//! Worlds with their outcomes, one a line: its lines, then `accepted`, or the number of the line that is refused and why. `1`,
+//! `2` and `16` represent the lines before the objects in formats 1 and 2, and those for 16 areas of format 2.
 
-/// The lines that a short form stands for.
+/// The lines that an abbreviation represents.
 pub const FIRST: &str = "lispm-world 1\nspace 16 32 8 1 2\narea work dynamic 100";
 
 pub const SECOND: &str = "lispm-world 2\nspace 16 32 8 1 2\narea work dynamic 100\ncapacity 0";
@@ -9,7 +9,7 @@ pub const SECOND: &str = "lispm-world 2\nspace 16 32 8 1 2\narea work dynamic 10
 pub const SIXTEEN: &str =
     "lispm-world 2\nspace 64 32 8 1 2\narea a0 dynamic 0\narea a1 dynamic 0\narea a2 dynamic 0\narea a3 dynamic 0\narea a4 dynamic 0\narea a5 dynamic 0\narea a6 dynamic 0\narea a7 dynamic 0\narea a8 dynamic 0\narea a9 dynamic 0\narea a10 dynamic 0\narea a11 dynamic 0\narea a12 dynamic 0\narea a13 dynamic 0\narea a14 dynamic 0\narea a15 dynamic 0";
 
-/// The worlds of inputs, accepted or refused as an independent program does.
+/// The worlds of inputs, accepted or refused as by an independent program.
 pub const INPUTS: &str = "\
 lispm-world 3 = 1 Bad(NotAWorld)
 lispm-world 1  = 1 Bad(NotAWorld)
@@ -106,7 +106,7 @@ pub const FILES: &str = "\
 lispm-world 2;space 16 32 8 1 2;area a static 9;trace = 4 Bad(CapacityExpected)
 lispm-world 2;space 16 32 8 1 2;area work dynamic 1;capacity 0;block work 0;cons work nil nil = 6 Exhausted { area: 0, charged: 1, wanted: 2, quota: 1 }";
 
-/// A world with a line of each kind but `cons`, and for each byte of a line a letter: what becomes of the line that ends there. `.` accepted,
+/// A world with a line of each kind except `cons`, and for each byte of a line a letter: the outcome of the line that ends there. `.` accepted,
 /// w not a world, b bad line, s space expected, a area expected, p capacity expected, u unexpected line, c wrong count, v bad value.
 pub const FRONTS: &str = "\
 lispm-world 2
@@ -126,7 +126,7 @@ uuucbcbv.
 trace
 uuuu.";
 
-/// Lines behind those of a short form, and the lines of their dump behind its `capacity` line.
+/// Lines after those of an abbreviation, and the lines of their dump after its `capacity` line.
 pub const DUMPS: &str = "\
 1;cons work 1 #0;root 0 #0 = cons work 1 #0;root 0 #0
 2;run work 1 2 3;root 0 #1;root 1 #2 = run work 2 3;root 0 #0;root 1 #1

@@ -55,7 +55,7 @@ none_is : (b : Bool) (place : ℕ) → (if b then Some place else None) ≡ None
 none_is true place is = absurd (cc (is))
 none_is false place is = refl
 
--- a list is passed at a place of it, or not at all
+-- a position in a list is at most its length
 place_at : (areas : List AreaRule) (word : List ℕ) → position_or_len (named_as word) areas ≤ length areas
 place_at [] word = omega arith
 place_at (rule ∷ rules) word = place_more (named_as word rule) (position_or_len (named_as word) rules) (length rules) (place_at rules word)

@@ -1,4 +1,4 @@
--- The lines behind the objects, and what they say.
+-- The lines after the objects, and what they mean.
 use Rattle.std.proofs.Common.{◌≡◌, ℕ, ◌+◌, ◌<◌, ◌≤◌, ◌⊎◌, List, [], ◌∷◌, length, Bool, true, false, Option, Some, None, Ok, inl, inr, refl, ap, ◌∙◌, arith, decimal}
 use Rattle.std.specs.Prelude.{◌==◌, if◌then◌else◌, slice_set}
 use Rattle.lisp_graph.specs.declared.object.Value.{Value}
@@ -25,7 +25,7 @@ pub unless_ok : (found : Option ℕ) (said : Said) (y : WorldStep × WorldReader
 unless_ok None said y is = (refl, is)
 unless_ok (Some number) said y is = absurd (cc (is))
 
--- what a root line says
+-- what a root line means
 pub record SaysRoot (place : WorldReader) (words : List (List ℕ)) (y : WorldStep × WorldReader) : Type 0 where
   pub register : ℕ
   pub value : Value
@@ -59,7 +59,7 @@ root_all place register value few new =
     bad_back (a_register registers) (λ n. n < registers) decimal register (value_text value ∷ []) _ (registers_spell registers (omega arith)) new.within
     ∙ rw new.fresh (bad_back a_value IsWritten value_text value [] _ values_spell new.written ∙ rw (value_keeps (length place.world.objects) value new.refers) refl)
 
--- The objects are looked through once.
+-- The objects are tested once.
 
 pub missing_ok : (place : WorldReader) (part : Part) → (if are_roots part then None else missing place.world.objects) ≡ None → (part ≡ Roots) ⊎ AllRefer place.world.objects
 missing_ok place Opening is = inr (missing_none place.world.objects is)

@@ -4,7 +4,7 @@ use Rattle.std.proofs.lemmas.List.{append-nil}
 use Rattle.world_text.specs.declared.reading.reason.Reason.{Reason}
 use Rattle.world_text.specs.reading.Next.{◌>>=◌, each, next}
 
--- what was read before, and behind it what is read of the rest
+-- what was read before, followed by what is read from the rest
 abbrev pub with_read : {A : Type 0} → List A → Result (List A) Reason → Result (List A) Reason
 with_read had (Ok others) = Ok (had ++ others)
 with_read had (Err reason) = Err reason
@@ -14,7 +14,7 @@ one_more : {A : Type 0} (had : List A) (one : A) (others : Result (List A) Reaso
 one_more had one (Ok others) = ap Ok (sym (append_assoc had (one ∷ []) others))
 one_more had one (Err reason) = refl
 
--- the first word, and those behind it
+-- the first word, and those after it
 abbrev before : {A : Type 0} → List (List ℕ) → Result A Reason → Result (A × List (List ℕ)) Reason
 before {A} words first = ◌>>=◌ {B = A × List (List ℕ)} first (λ x. Ok (x, words))
 
@@ -47,7 +47,7 @@ unfolding each next
 each_fails read had [] reason some is = absurd (omega arith)
 each_fails read had (word ∷ words) reason some is = fails_at had words (read word) (each read words) reason is
 
--- no word is left
+-- no word remains
 pub each_ends : {A : Type 0} (read : List ℕ → Result A Reason) (had : List A) (words : List (List ℕ)) → length words ≤ 0 → with_read had (each read words) ≡ Ok had
 unfolding each
 each_ends read had [] none = ap Ok (append-nil had)

@@ -23,7 +23,7 @@ use Rattle.world_text.proofs.reading_laws.ReadLaws.{all_words, bad_back, each_ba
 use Rattle.world_text.proofs.reading_laws.Rows.{line_formed}
 use Rattle.world_text.proofs.reading_laws.ValueLaws.{values_spell}
 
--- Words with a space before each behind a first one
+-- Words after a first one, with a space before each
 
 -- the name of an area is read
 area_back : (place : WorldReader) (area : ℕ) (name : List ℕ) (rest : List (List ℕ)) (goal : ℕ × List (List ℕ) → Said) → area_of place.world.areas name ≡ Some area
@@ -32,7 +32,7 @@ area_back place area name rest goal is =
     step_goes (bad (next (an_area place.world.areas) (name ∷ rest))) goal (area, rest)
     (ap {A = Result (ℕ × List (List ℕ)) Reason} bad (next_reads (an_area place.world.areas) name rest area (ap (found NoArea) is)))
 
--- a line of words behind the areas and the capacities
+-- a line of words after the areas and the capacities
 objects_say : (place : WorldReader) (head : List ℕ) (words : List (List ℕ)) → place.part ≡ Objects → list_all is_word (head ∷ words) ≡ true
     → line_at place (line_of (head ∷ words)) ≡ object_lines place head (length words + 1) words
 unfolding line_in
@@ -113,7 +113,7 @@ some_values : (text : List ℕ) (values : List Value) → text ≡ spaced (map v
 some_values text [] is some = absurd (omega (arith, ap length is))
 some_values text (value ∷ values) is some = omega arith
 
--- a run line comes in format 2
+-- a run line is in format 2
 second_run : (second : Bool) (one other said : Said) → second ≡ true → one ≡ said → (if second && true then one else other) ≡ said
 second_run true one other said is goes = goes
 second_run false one other said is goes = absurd (cc (is))

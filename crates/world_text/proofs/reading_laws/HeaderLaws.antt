@@ -1,4 +1,4 @@
--- The lines before the objects, and what they say.
+-- The lines before the objects, and what they mean.
 use Rattle.std.proofs.Common.{◌≡◌, ℕ, ◌+◌, ◌-◌, ◌≤◌, List, [], ◌∷◌, ◌++◌, length, true, false, Result, Ok, refl, ap, sym, ◌∙◌, arith, subst, decimal}
 use Rattle.std.specs.Prelude.{◌==◌, nat_le, nat_lt, map, replicate, ⊤}
 use Rattle.std.specs.List.{All}
@@ -60,7 +60,7 @@ space_all space sizes =
     ∙ take_back (a_number 0 16) (within 0 16) decimal space.rate _ _ (numbers 0 16 (omega arith)) (omega arith, sizes.rate)
     ∙ ap (λ capacity. Ok (record space { capacity = capacity })) (sym sizes.capacity)
 
--- what a space line says
+-- what a space line means
 pub record SaysSpace (place : WorldReader) (words : List (List ℕ)) (y : WorldStep × WorldReader) : Type 0 where
   pub space : Space
   pub is : words ≡ size_words space
@@ -109,7 +109,7 @@ rule_all areas rule new =
     ∙ take_back a_kind (λ kind. ⊤) kind_text rule.kind _ _ kinds_spell tt
     ∙ take_back (a_number 0 1048576) (within 0 1048576) decimal rule.quota _ _ (numbers 0 1048576 (omega arith)) (omega arith, new.quota)
 
--- what an area line says
+-- what an area line means
 pub record SaysArea (place : WorldReader) (words : List (List ℕ)) (y : WorldStep × WorldReader) : Type 0 where
   pub rule : AreaRule
   pub is : words ≡ rule_words rule
@@ -145,7 +145,7 @@ area_line_all place rule new =
     let read = rule_all place.world.areas rule (record { name = record { formed = new.name; fresh = new.fresh }; quota = new.quota }) in
     rw e (step_goes (bad (rule_in place.world.areas (rule_words rule))) _ rule (ap {A = Result AreaRule Reason} bad read) ∙ rw f refl)
 
--- what a capacity line says
+-- what a capacity line means
 pub record SaysCapacity (place : WorldReader) (words : List (List ℕ)) (y : WorldStep × WorldReader) : Type 0 where
   pub numbers : List ℕ
   pub is : words ≡ map decimal numbers

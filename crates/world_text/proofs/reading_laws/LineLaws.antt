@@ -1,4 +1,4 @@
--- The lines that are accepted are the spellings of what may come.
+-- The lines that are accepted are the spellings of what is allowed.
 use Rattle.std.proofs.Common.{◌≡◌, ℕ, suc, ◌+◌, ◌<◌, ◌≤◌, ◌⊎◌, List, [], ◌∷◌, length, drop, Bool, true, false, Ok, inl, inr, refl, ap, sym, ◌∙◌, arith, subst, decimal, codes}
 use Rattle.std.specs.Prelude.{◌==◌, ◌&&◌, not, if◌then◌else◌, bytes_eq, map}
 use Rattle.std.specs.List.{All, list_all}
@@ -29,7 +29,7 @@ use Rattle.world_text.proofs.reading_laws.ClosingLaws.{missing_ok, none_at, root
 use Rattle.world_text.proofs.reading_laws.Rows.{both, formed_row, line_formed}
 use Rattle.world_text.proofs.reading_laws.ReadLaws.{all_words, eq_number, guard_ok}
 
--- what a line with these words says
+-- what a line with these words means
 pub record LineOf (place : WorldReader) (head : List ℕ) (words : List (List ℕ)) (y : WorldStep × WorldReader) : Type 0 where
   pub line : WorldLine
   pub allowed : IsAllowed place line
@@ -81,7 +81,7 @@ last_only place head count words y known part counted is =
       ]
     ]
 
--- a place where an object line may come takes a root line
+-- a place in which an object line is allowed also allows a root line
 object_root : (second : Bool) (part : Part) → takes_object second part ≡ true → takes_root second part ≡ true
 object_root second Opening is = absurd (cc (is))
 object_root second Sizing is = absurd (cc (is))
@@ -236,7 +236,7 @@ not_true : (b : Bool) → not b ≡ true → b ≡ false
 not_true true is = absurd (cc (is))
 not_true false is = refl
 
--- a line that comes behind the area lines
+-- a line after the area lines
 in_objects : (part : Part) (place : WorldReader) (head : List ℕ) (count : ℕ) (words : List (List ℕ)) (y : WorldStep × WorldReader) → takes_object place.second part ≡ true
     → bytes_eq head (codes "area") ≡ false → object_lines place head count words ≡ Ok y → line_in part place head count words ≡ Ok y
 unfolding line_in area_lines
@@ -260,7 +260,7 @@ in_roots Objects place head count words y part other is last = is
 in_roots Roots place head count words y part other is last = last
 in_roots Closed place head count words y part other is last = absurd (cc (part))
 
--- the words of what may come are words
+-- the words of an allowed line are words
 
 name_good : (place : WorldReader) (area : ℕ) → Known place → area < length place.world.areas → is_word (name_of place.world.areas area) ≡ true
 name_good place area known within = (areas_spell place.world.areas known.named).words area within

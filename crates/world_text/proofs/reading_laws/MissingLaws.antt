@@ -1,4 +1,4 @@
--- No number is missing exactly where each reference is to one of the objects.
+-- No number is missing if and only if each reference is to one of the objects.
 use Rattle.std.proofs.Common.{◌≡◌, ℕ, ◌<◌, List, [], ◌∷◌, length, Bool, true, false, Option, Some, None, refl, arith}
 use Rattle.std.specs.Prelude.{fold, nat_lt, if◌then◌else◌}
 use Rattle.std.specs.List.{All}

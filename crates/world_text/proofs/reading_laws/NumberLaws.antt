@@ -14,14 +14,14 @@ use Rattle.world_text.specs.reading.Next.{a_number, found}
 use Rattle.world_text.proofs.reading_laws.Spells.{Spells}
 use Rattle.world_text.proofs.reading_laws.Rows.{both}
 
--- what digits stand for, behind a number
+-- the number that digits represent after the digits of another number
 abbrev pub value_after : ℕ → List ℕ → ℕ
 value_after before digits = fold (λ value digit. 10 * value + (digit - 48)) before digits
 
 pub own : IsNumeralModel (λ digits. are_digits digits ≡ true) (value_after 0)
 own = numerals_by_fold (λ digits. are_digits digits ≡ true) (search rules) value_after (search rules)
 
--- where no zero stands before other digits, a number is digits
+-- if no zero precedes other digits, a word is a number if and only if it is digits
 pub number_digits : (word : List ℕ) → 0 < length word → (get_or word 0 0 ≡ 48 → length word ≡ 1) → is_number word ≡ are_digits word
 number_digits word some first = tests_at (length word == 0) (nat_lt 1 (length word)) (get_or word 0 0 == 48) refl refl refl
   where
@@ -32,7 +32,7 @@ number_digits word some first = tests_at (length word == 0) (nat_lt 1 (length wo
     tests_at false true false a b c = refl
     tests_at false false nought a b c = refl
 
--- what a number is, in facts
+-- digits with no zero before others are a number
 number_formed : (word : List ℕ) → 0 < length word → (get_or word 0 0 ≡ 48 → length word ≡ 1) → are_digits word ≡ true → is_number word ≡ true
 number_formed word some first digits = number_digits word some first ∙ digits
 
@@ -67,7 +67,7 @@ first_zero : (n : ℕ) → n < 2 ^ 64 → get_or (decimal n) 0 0 ≡ 48 → n �
 first_zero zero fits first = refl
 first_zero (suc n) fits first = absurd (omega (arith, first, first_decimal (suc n) (omega arith) fits))
 
--- a number's spelling reads as it
+-- a number's spelling is read as the number
 pub number_reads : (low high n : ℕ) → low ≤ n → n ≤ high → high < 2 ^ 64 → number_in low high (decimal n) ≡ Some n
 number_reads low high n from to small =
     let fits : n < 2 ^ 64 = omega arith in
@@ -82,7 +82,7 @@ some_when : (b : Bool) (read : Option ℕ) (n : ℕ) → (if b then read else No
 some_when true read n is = (refl, is)
 some_when false read n is = absurd (cc (is))
 
--- what reads as a number is its spelling
+-- what is read as a number is its spelling
 pub number_only : (low high n : ℕ) (word : List ℕ) → high < 2 ^ 64 → number_in low high word ≡ Some n → (word ≡ decimal n) × (low ≤ n) × (n ≤ high)
 number_only low high n word small is =
     let number = some_when (is_number word) (if nat_lt (number_value word) low || nat_lt high (number_value word) then None else Some (number_value word)) n is in
@@ -112,7 +112,7 @@ decimal_digits n fits = all_digits (decimal n) (digits_decimal own n fits)
 pub decimal_word : (n : ℕ) → n < 2 ^ 64 → is_word (decimal n) ≡ true
 decimal_word n fits = digits_word (decimal n) (decimal_nonempty n fits) (digits_decimal own n fits)
 
--- what is found is not refused
+-- what was found isn't refused
 pub found_is : {A : Type 0} (reason : Reason) (option : Option A) (x : A) → found reason option ≡ Ok x → option ≡ Some x
 found_is reason None x is = absurd (cc (is))
 found_is reason (Some y) x is = cc

@@ -1,4 +1,4 @@
--- The object lines, and what they say.
+-- The object lines, and what they mean.
 use Rattle.std.proofs.Common.{◌≡◌, ℕ, ◌+◌, ◌*◌, ◌<◌, ◌≤◌, List, [], ◌∷◌, ◌++◌, length, false, Ok, refl, ap, ◌∙◌, arith, decimal}
 use Rattle.std.proofs.lemmas.List.{length-map}
 use Rattle.std.specs.Prelude.{◌==◌, nat_lt, map, slice_set}
@@ -22,7 +22,7 @@ use Rattle.world_text.proofs.reading_laws.ValueLaws.{areas_spell, values_spell}
 use Rattle.world_text.proofs.reading_laws.NumberLaws.{numbers}
 use Rattle.world_text.proofs.reading_laws.ReadLaws.{also, bad_back, each_back, each_bad, eq_number, guard_not, guard_ok, step_parts, take_bad}
 
--- objects are added exactly where the quota leaves their charge
+-- objects are added if and only if the quota allows their charge
 abbrev charged_to : WorldReader → ℕ → List Object → ℕ → WorldStep × WorldReader
 charged_to place area objects charge = (Next, record place { part = Objects; charged = slice_set place.charged area charge; world = record place.world { objects = place.world.objects ++ objects } })
 
@@ -48,7 +48,7 @@ pub no_words : (words : List (List ℕ)) → length words ≤ 0 → words ≡ []
 no_words [] none = refl
 no_words (word ∷ words) none = absurd (omega arith)
 
--- what a cons line says
+-- what a cons line means
 pub record SaysCons (place : WorldReader) (words : List (List ℕ)) (y : WorldStep × WorldReader) : Type 0 where
   pub area : ℕ
   pub car : Value
@@ -89,7 +89,7 @@ cons_all place area car cdr named first second quota =
     ∙ bad_back a_value IsWritten value_text cdr [] _ values_spell second
     ∙ added_goes place area 2 (pair_of area car cdr ∷ []) quota.leaves
 
--- what a block line says
+-- what a block line means
 pub record SaysBlock (place : WorldReader) (words : List (List ℕ)) (y : WorldStep × WorldReader) : Type 0 where
   pub area : ℕ
   pub code : ℕ
@@ -135,7 +135,7 @@ block_all place area code fields count named counted small few written quota =
     ∙ each_back a_value IsWritten value_text fields _ values_spell written
     ∙ added_goes place area (length fields + 1) (block_with area code fields ∷ []) quota.leaves)
 
--- what a run line says
+-- what a run line means
 pub record SaysRun (place : WorldReader) (words : List (List ℕ)) (y : WorldStep × WorldReader) : Type 0 where
   pub area : ℕ
   pub cars : List Value

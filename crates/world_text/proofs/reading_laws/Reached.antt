@@ -1,4 +1,4 @@
--- Accepted lines keep what is known of a place.
+-- What is known of a place remains true after an accepted line.
 use Rattle.std.proofs.Common.{◌≡◌, IfOk, ℕ, zero, suc, ◌+◌, ◌-◌, ◌*◌, ◌<◌, ◌≤◌, List, [], ◌∷◌, ◌++◌, length, Bool, true, false, Result, Ok, Err, inl, inr, refl, ap, sym, ◌∙◌, arith, subst, length-append, length-set}
 use Rattle.std.specs.Prelude.{◌==◌, if◌then◌else◌, replicate, slice_index, slice_set}
 use Rattle.std.specs.List.{All}
@@ -186,7 +186,7 @@ object_part second Objects takes = (refl, refl)
 object_part second Roots takes = absurd (cc (takes))
 object_part second Closed takes = absurd (cc (takes))
 
--- objects of an area that are charged so much together
+-- objects of an area that have this charge together
 pub record AreNew (areas area wanted : ℕ) (objects : List Object) : Type 0 where
   pub placed : All (IsPlaced areas) objects
   pub here : charged_in area objects ≡ wanted
@@ -396,7 +396,7 @@ judged_reached old new text (Ok step) reached judged =
     subst P says.brings (line_keeps old says.line reached says.allowed)
 judged_reached old new text (Err fault) reached judged = subst IsReached (sym judged.0) reached
 
--- each line brings about what its place says
+-- each line causes what follows from the place after it
 step_of : (place : WorldReader) (line : WorldLine) → IsAllowed place line → (outcome place line).0 ≡ step_to (outcome place line).1
 step_of place (FormatLine second) may = refl
 step_of place (SpaceLine space) may = refl
@@ -427,7 +427,7 @@ closed_part Closed closed = (refl, refl, refl)
 all_objects : (areas count : ℕ) (objects : List Object) → All (IsPlaced areas) objects → All (λ object. PartsReferBelow count object.body) objects → All (IsObject count) objects
 all_objects areas count objects placed refer = λ k d within. record { refers = refer k d within; wide = (placed k d within).wide }
 
--- the world in the end
+-- the world after the line that closes it
 pub accepted_world : (place : WorldReader) → IsReached place → is_closed place.part ≡ true → IsAccepted place.world
 accepted_world place reached closed =
     let part = closed_part place.part closed in

@@ -11,7 +11,7 @@ use Rattle.world_text.specs.reading.Words.{is_word}
 use Rattle.world_text.specs.reading.Next.{◌>>=◌, each, next}
 use Rattle.world_text.proofs.reading_laws.Spells.{Spells}
 
--- what a step gave
+-- what a step returned
 pub step_parts : {A B E : Type 0} (read : Result A E) (f : A → Result B E) (y : B) → (read >>= f) ≡ Ok y → (x : A) × (read ≡ Ok x) × (f x ≡ Ok y)
 step_parts (Ok x) f y is = (x, refl, is)
 step_parts (Err e) f y is = absurd (cc (is))
@@ -28,7 +28,7 @@ no_word : (word : List ℕ) → [] ≡ word → is_word word ≡ true → ⊥
 no_word [] is good = cc (good)
 no_word (byte ∷ bytes) is good = cc (is)
 
--- what is read of the first word
+-- what is read from the first word
 pub next_only : {A : Type 0} (read : List ℕ → Result A Reason) (Fits : A → Type 0) (spell : A → List ℕ) (words : List (List ℕ)) (x : A) (rest : List (List ℕ))
     → Spells read Fits spell → next read words ≡ Ok (x, rest) → (words ≡ spell x ∷ rest) × Fits x
 unfolding next
@@ -95,7 +95,7 @@ guard_not false next e x is = (refl, is)
 pub eq_number : (m n : ℕ) → (m == n) ≡ true → m ≡ n
 eq_number m n is = grind (arith, nat_tests)
 
--- words behind a first one
+-- words after a first one
 pub also : {words : List (List ℕ)} {word : List ℕ} {rest more : List (List ℕ)} → words ≡ word ∷ rest → rest ≡ more → words ≡ word ∷ more
 also {words} {word} {rest} {more} is behind = let P : List (List ℕ) → Type 0 = λ ws. words ≡ word ∷ ws in subst P behind is
 

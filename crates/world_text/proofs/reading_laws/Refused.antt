@@ -1,4 +1,4 @@
--- A line that is refused for what its objects are charged names an area of the world.
+-- The refusal of a line for the charge of its objects names an area of the world.
 use Rattle.std.proofs.Common.{◌≡◌, ℕ, ◌+◌, ◌<◌, List, [], ◌∷◌, length, Bool, true, false, Option, Some, None, Result, Ok, Err, refl, ap, sym, subst}
 use Rattle.std.specs.Prelude.{if◌then◌else◌, IfErr, ◌==◌, ◌&&◌, bytes_eq, codes, nat_le, nat_lt, drop}
 use Rattle.std.proofs.lemmas.List.Quantifiers.{position-Some}
@@ -40,12 +40,12 @@ area_next areas words x is =
     subst (λ n. n < length areas) e (area_fits areas (first_word words) p.0 p.1)
 
 module _ (areas : List AreaRule) (fault : WorldFault) where
-  -- whichever way it goes
+  -- in both cases of a test
   either : {A : Type 0} (b : Bool) (x y : Result A WorldFault) → (if b then x else y) ≡ Err fault → (x ≡ Err fault → NamesArea areas fault) → (y ≡ Err fault → NamesArea areas fault) → NamesArea areas fault
   either true x y is h k = h is
   either false x y is h k = k is
 
-  -- a reason is of no area
+  -- a reason names no area
   why : {A : Type 0} (reason : Reason) → ◌≡◌ {A = Result A WorldFault} (Err (Bad reason)) (Err fault) → NamesArea areas fault
   why {A} reason is = let e : Bad reason ≡ fault = cc (is) in subst (NamesArea areas) e tt
 
@@ -185,7 +185,7 @@ module _ (place : WorldReader) (fault : WorldFault) where
       (λ f. either place.world.areas fault (bytes_eq text (codes "lispm-world 2")) _ _ f (fine place.world.areas fault _) (why place.world.areas fault NotAWorld)))
       (λ e. either place.world.areas fault (is_well_formed text) _ _ e (in_fits place.part (first_word (words_of text)) (length (words_of text)) (drop 1 (words_of text))) (why place.world.areas fault BadLine))
 
--- a refusal is what the line says
+-- a refusal is what the line means
 pub judged_area : (old new : WorldReader) (text : List ℕ) (result : Result WorldStep WorldFault) → Judged old new result (line_at old text) → IfErr result (NamesArea new.world.areas)
 judged_area old new text (Ok step) judged = tt
 judged_area old new text (Err (Bad why)) judged = tt

@@ -1,4 +1,4 @@
--- Words in a row: cutting a line gives back the words that were put together, and the other way round.
+-- Words in a row: to cut a line gives back the words that were put together, and to join the words of a line gives back the line.
 use Rattle.std.proofs.Common.{◌≡◌, ℕ, ◌<◌, List, [], ◌∷◌, ◌++◌, length, Bool, true, false, refl, ap, sym, ◌∙◌, arith, subst}
 use Rattle.std.specs.Prelude.{◌&&◌}
 use Rattle.std.specs.List.{list_all, onto_first}
@@ -31,7 +31,7 @@ words_nil = refl
 
 -- Words that are put together
 
--- a word with a space and other words behind it
+-- a word followed by a space and more text
 word_cut : (word text : List ℕ) → list_all is_graphic word ≡ true → words_of (word ++ 32 ∷ text) ≡ word ∷ words_of text
 word_cut [] text graphic = words_blank 32 text refl
 word_cut (byte ∷ bytes) text graphic =
@@ -87,7 +87,7 @@ line_formed word words good =
 
 -- A line that is cut
 
--- a text that is these words in a row, where they are words and it ends in one
+-- a text is these words in a row, provided that they are words and the text ends in one
 abbrev IsRow : List ℕ → List (List ℕ) → Type 0
 IsRow text words = list_all is_word words ≡ true → ends_in_word text ≡ true → text ≡ line_of words
 

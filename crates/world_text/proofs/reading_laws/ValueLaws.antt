@@ -113,7 +113,7 @@ decimal_some n fits = let some = decimal_nonempty n fits in grind (arith, nat_te
 first_other : (n byte : ℕ) → n < 2 ^ 64 → (byte < 48) ⊎ (57 < byte) → (slice_index (decimal n) 0 == byte) ≡ false
 first_other n byte fits other = let d = decimal_first n fits in elim other [ inl low ↦ grind (arith, nat_tests, d.0) | inr high ↦ grind (arith, nat_tests, d.1) ]
 
--- what is read of a word that isn't empty, by its first byte
+-- what is read from a word that isn't empty, by its first byte
 marked : {A : Type 0} (none mark : Bool) (with without : Option A) → none ≡ false → mark ≡ true → (if none then None else if mark then with else without) ≡ with
 marked none mark with without some is = rw (some, is) refl
 

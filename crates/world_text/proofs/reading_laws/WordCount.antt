@@ -5,7 +5,7 @@ use Rattle.std.specs.List.{list_all, onto_first}
 use Rattle.std.proofs.lemmas.Bool.Decides.{nat_tests}
 use Rattle.world_text.specs.reading.Words.{ends_in_word, is_graphic, is_space, is_well_formed, is_word, words_of}
 
--- how many words there are in the end, where this many have begun, and one of them goes on or none
+-- how many words there are in the end, if this many have begun; `in_word` says whether the last of them goes on
 abbrev pub counted : Bool → ℕ → List ℕ → Option ℕ
 counted in_word count [] = if in_word then Some count else None
 counted in_word count (byte ∷ bytes) =
@@ -13,7 +13,7 @@ counted in_word count (byte ∷ bytes) =
     else if is_graphic byte then counted true (if in_word then count else count + 1) bytes
     else None
 
--- so many words more than these, where all are words and the text ends in one
+-- the count of these words and this many more, if all are words and the text ends in one
 abbrev pub tally : ℕ → List (List ℕ) → Bool → Option ℕ
 tally count words ends = if list_all is_word words && ends then Some (count + length words) else None
 
@@ -49,7 +49,7 @@ tally_bad count next (word ∷ words) ends bad = rw bad refl
 tally_bad_behind : (count byte next : ℕ) (words : List (List ℕ)) (ends : Bool) → is_graphic byte ≡ true → is_graphic next ≡ false → tally count (onto_first byte (onto_first next words)) ends ≡ None
 tally_bad_behind count byte next words ends graphic bad = tally_onto count byte next words ends graphic ∙ tally_bad count next words ends bad
 
--- Counting from the front and cutting from the back come to the same.
+-- Counting from the front and cutting from the back have the same result.
 pub record Counts (text : List ℕ) : Type 0 where
   pub outside : (count : ℕ) → counted false count text ≡ with_words count text
   pub inside : (count byte : ℕ) → is_graphic byte ≡ true → counted true (count + 1) text ≡ with_words count (byte ∷ text)
@@ -99,7 +99,7 @@ counts : (text : List ℕ) → Counts text
 counts [] = counts_end
 counts (byte ∷ bytes) = counts_more byte bytes (counts bytes) (is_space byte) (is_graphic byte) refl refl
 
--- what counting from the front comes to
+-- the result of counting from the front
 pub counted_is : (text : List ℕ) → counted false 0 text ≡ (if is_well_formed text then Some (length (words_of text)) else None)
 unfolding is_well_formed
 counted_is text =

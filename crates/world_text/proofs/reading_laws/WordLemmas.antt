@@ -6,7 +6,7 @@ use Rattle.std.proofs.lemmas.Bool.Decides.{nat_tests}
 use Rattle.std.proofs.lemmas.Grind.{common_steps}
 use Rattle.world_text.specs.reading.Words.{first_word, is_space, words_of}
 
--- The first word, and those behind it
+-- The first word, and those after it
 
 take_more : (n byte : ℕ) (bytes : List ℕ) → take (1 + n) (byte ∷ bytes) ≡ byte ∷ take n bytes
 take_more n byte bytes = let e : 1 + n ≡ suc n = omega arith in rw e refl

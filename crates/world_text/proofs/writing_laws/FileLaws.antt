@@ -11,14 +11,14 @@ use Rattle.lisp_graph.specs.Groups.{group_size, is_nil, sizes_of, to_tail}
 use Rattle.world_text.proofs.writing_laws.GroupLaws.{tail_within}
 use Rattle.world_text.specs.writing.File.{line_of_size, object_lines_of, root_lines_of, text_of}
 
--- objects that stand in a line before are left out
+-- objects that an earlier line contains are skipped
 skipped : (skip number : ℕ) (objects : List Object) → object_lines_of skip number objects ≡ object_lines_of 0 (number + skip) (drop skip objects)
 skipped zero number [] = refl
 skipped (suc skip) number [] = refl
 skipped zero number (object ∷ objects) = ap (λ n. object_lines_of 0 n (object ∷ objects)) (omega arith)
 skipped (suc skip) number (object ∷ objects) = skipped skip (number + 1) objects ∙ ap (λ n. object_lines_of 0 n (drop skip objects)) (omega arith)
 
--- the line of the first of these objects, and those behind it
+-- the line of the first of these objects, and the lines of those after it
 pub first_line : (size number : ℕ) (object : Object) (objects : List Object) → group_size (to_tail object.area number (object ∷ objects)) ≡ size
     → object_lines_of 0 number (object ∷ objects) ≡ line_of_size size object objects ∷ object_lines_of 0 (number + max size 1) (drop (max size 1) (object ∷ objects))
 first_line zero number object objects is = rw is refl
@@ -81,7 +81,7 @@ size_few (Some n) most within = of_test (nat_le n 1024) (within n refl)
 pub size_within : (number : ℕ) (objects : List Object) → size_at number objects ≤ length objects
 size_within number objects = size_few (to_tail (object_at objects 0).area number objects) (length objects) (tail_within (object_at objects 0).area number objects)
 
--- a line more
+-- one more line
 line_goes : (areas : List AreaRule) (size number : ℕ) (objects : List Object) → 0 < length objects → size_at number objects ≡ size
     → text_of areas (object_lines_of 0 number objects)
     ≡ text_of areas (line_of_size size (object_at objects 0) (drop 1 objects) ∷ []) ++ text_of areas (object_lines_of 0 (number + max size 1) (drop (max size 1) objects))

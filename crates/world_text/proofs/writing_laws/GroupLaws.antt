@@ -7,7 +7,7 @@ use Rattle.world_text.specs.declared.writing.groups.Tail.{Tail}
 use Rattle.lisp_graph.specs.Groups.{is_cell, is_nil, to_tail}
 use Rattle.world_text.specs.writing.Tails.{HasTail, counted}
 
--- a tail is at most as far as the end
+-- a tail ends at the last object or before it
 pub tail_within : (area number : ℕ) (objects : List Object) (count : ℕ) → to_tail area number objects ≡ Some count → count ≤ length objects
 tail_within area number [] count is = absurd (cc)
 tail_within area number (object ∷ objects) count is =
@@ -20,6 +20,6 @@ tail_within area number (object ∷ objects) count is =
     of_tests false true (Some n) is later = let e : n + 1 ≡ count = cc in omega (arith, e, later n refl)
     of_tests false false rest is later = absurd (cc)
 
--- the count of a tail is at most as great
+-- the count of a tail is at most the number of objects
 pub counted_within : (area number : ℕ) (objects : List Object) (tail : Option Tail) (count : ℕ) → HasTail number objects tail → counted tail area ≡ Some count → count ≤ length objects
 counted_within area number objects tail count has is = tail_within area number objects count (has area ∙ is)

@@ -1,4 +1,4 @@
--- Numbers of keys, which stay as more keys get one.
+-- Numbers of keys, which don't change when more keys get one.
 use Rattle.std.proofs.Common.{◌≡◌, ℕ, suc, ◌+◌, ◌⊎◌, List, [], ◌∷◌, ◌++◌, length, Bool, true, false, Option, Some, None, inl, inr, refl, ap, sym, ◌∙◌, subst, arith, append_assoc, append-nil}
 use Rattle.std.specs.Prelude.{◌==◌, ◌||◌, cond, not, if◌then◌else◌, nat_lt, position, option_map}
 use Rattle.std.specs.List.{position_or_len}
@@ -25,8 +25,8 @@ lt_suc n size = elim (true_or_false (nat_lt n size)) [
   | inr past ↦ let e : nat_lt (1 + n) (suc size) ≡ false = grind (arith, nat_tests, past) in e ∙ sym past
 ]
 
--- a key is the first one, or stands one place further than in the rest
-number_cons : (first : ℕ) (keys : List ℕ) (key : ℕ) → number_of (first ∷ keys) key ≡ (if key == first then Some 0 else option_map (λ k. 1 + k) (number_of keys key))
+-- a key is the first one, or its number is one more than in the rest
+pub number_cons : (first : ℕ) (keys : List ℕ) (key : ℕ) → number_of (first ∷ keys) key ≡ (if key == first then Some 0 else option_map (λ k. 1 + k) (number_of keys key))
 number_cons first keys key = of_tests (key == first) (position_or_len (λ k. key == k) keys) (length keys)
   where
     found : (b : Bool) (n : ℕ) → (if b then Some (1 + n) else None) ≡ option_map (λ k. 1 + k) (if b then Some n else None)
@@ -51,7 +51,7 @@ number_front (first ∷ keys) later key number is =
     by_test false (Some n) now number is stays = ap (option_map (λ k. 1 + k)) (stays n refl) ∙ is
 
 -- one that has none gets the next
-number_last : (keys later : List ℕ) (key : ℕ) → is_numbered keys key ≡ false → number_of (keys ++ key ∷ later) key ≡ Some (length keys)
+pub number_last : (keys later : List ℕ) (key : ℕ) → is_numbered keys key ≡ false → number_of (keys ++ key ∷ later) key ≡ Some (length keys)
 number_last [] later key fresh =
     let e : (key == key) ≡ true = grind (arith, nat_tests) in
     number_cons key later key ∙ ap (λ b. if b then Some 0 else option_map (λ k. 1 + k) (number_of later key)) e
@@ -98,12 +98,12 @@ pub walk_grows : {graph : KeyedGraph} {keys : List ℕ} {number : ℕ} {all : Li
 walk_grows (done keys number past) = grows_none keys
 walk_grows {graph} (step keys middle all number key at one rest) = grows_twice (all_grow one) (walk_grows rest)
 
--- Numbers that stay
+-- Numbers that don't change
 
 pub number_stays : {keys all : List ℕ} (key number : ℕ) → Grows keys all → number_of keys key ≡ Some number → number_of all key ≡ Some number
 number_stays {keys} {all} key number grows is = ap (λ (l : List ℕ). number_of l key) grows.is ∙ number_front keys grows.later key number is
 
--- a key that got a number has that of its place, the length of the list before
+-- the number of a key that was added is the length of the list before
 pub number_next : (keys : List ℕ) {all : List ℕ} (key : ℕ) → Grows (keys ++ key ∷ []) all → is_numbered keys key ≡ false → number_of all key ≡ Some (length keys)
 number_next keys {all} key grows fresh = number_stays key (length keys) grows (number_last keys [] key fresh)
 

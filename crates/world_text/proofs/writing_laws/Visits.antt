@@ -22,12 +22,7 @@ shown_at graph numbering number key known is =
     let P : ℕ → Type 0 = λ k. Shows graph (seen_as (graph.cons k) k) in
     subst P e (All-get_or P numbering.keys number 0 (slice_get_within numbering.keys number key is) known.all)
 
--- a key that isn't among them goes last
-pub insert_fresh : (keys : List ℕ) (key : ℕ) → is_numbered keys key ≡ false
-    → (if is_numbered keys key then keys else keys ++ key ∷ []) ≡ keys ++ key ∷ []
-insert_fresh keys key fresh = rw fresh refl
-
--- The cons to which a value refers, where it has no number
+-- The cons to which a value refers, if it has no number
 
 pub next_shows : (graph : KeyedGraph) (keys : List ℕ) (value : Seen) (next : ℕ) → next_cons keys value ≡ Some next → Shows graph value → Shows graph (Cons next)
 next_shows graph keys (Fix n) next is shows = absurd (cc)
@@ -49,7 +44,7 @@ next_fresh keys (Cons key) next is = fresh_of keys key next (is_numbered keys ke
     fresh_of keys key next true numbered is = absurd (cc)
     fresh_of keys key next false numbered is = let e : key ≡ next = cc in let P : ℕ → Type 0 = λ k. is_numbered keys k ≡ false in subst P e numbered
 
--- The edges of the loops. The walk shows the same graph at each of its moments.
+-- The first and the last step of each loop. The walk shows the same graph at each moment.
 
 pub chain_ends : (now graph : KeyedGraph) (keys had start : List ℕ) (key first : ℕ) (cdr : Seen)
     → now ≡ graph → had ≡ keys ++ key ∷ [] → cdr ≡ now.field key 1 → next_cons had cdr ≡ None
@@ -71,7 +66,7 @@ chain_goes now graph keys had start key first next cdr same pushed is later so_f
 pub known_same : (now graph : KeyedGraph) (numbering : Numbering) → now ≡ graph → IsKnown now numbering → IsKnown graph numbering
 known_same now graph numbering same known = let P : KeyedGraph → Type 0 = λ g. IsKnown g numbering in subst P same known
 
--- an object more, of the kind that is told
+-- one more object, of the given kind
 pub known_more : (graph : KeyedGraph) (old new : Numbering) (key : ℕ) (cons : Bool) → IsKnown graph old → Shows graph (seen_as cons key)
     → new.keys ≡ old.keys ++ key ∷ [] → new.conses ≡ old.conses ++ cons ∷ [] → IsKnown graph new
 known_more graph old new key cons known shows keys conses =
@@ -83,7 +78,7 @@ known_more graph old new key cons known shows keys conses =
       conses = conses ∙ ap (λ (kinds : List Bool). kinds ++ cons ∷ []) known.conses ∙ ap (λ (kinds : List Bool). map graph.cons old.keys ++ kinds) (sym one) ∙ sym (map-append graph.cons old.keys (key ∷ [])) ∙ ap (map graph.cons) (sym keys);
     }
 
--- What is read of them
+-- What is read
 
 -- one item more of a list is read
 pub item_read : {X Y : Type 0} (f : X → Y) (items : List X) (number : ℕ) (item : X) (old new : List Y)

@@ -23,11 +23,11 @@ use Rattle.world_text.proofs.reading_laws.AreaLaws.{get_front}
 use Rattle.world_text.proofs.writing_laws.Visits.{item_read, item_shows, known_more}
 use Rattle.world_text.proofs.writing_laws.Numbers.{all_grow, grows_none, grows_twice, number_chained, number_next, number_of, number_stays, numbered_some, visit_grows, walk_grows}
 
--- The walk shows the same graph at each of its moments.
+-- The walk shows the same graph at each moment.
 
 -- An object gets a number
 
--- an object more, with its cdr
+-- one more object, with its cdr
 pub visits_more : (graph : KeyedGraph) (old new : Visits) (key : ℕ) (cons : Bool) (cdr : Seen) → AreVisits graph old → Shows graph (seen_as cons key) → Shows graph cdr → cdr ≡ cdr_of graph key
     → new.numbering.keys ≡ old.numbering.keys ++ key ∷ [] → new.numbering.conses ≡ old.numbering.conses ++ cons ∷ [] → new.cdrs ≡ old.cdrs ++ cdr ∷ [] → AreVisits graph new
 visits_more graph old new key cons cdr visits shows shown is keys conses cdrs = record {
@@ -44,7 +44,7 @@ cdr_of_cons graph key cons = ap (λ (b : Bool). if b then graph.field key 1 else
 pub cdr_of_block : (graph : KeyedGraph) (key : ℕ) → graph.cons key ≡ false → cdr_of graph key ≡ Nil
 cdr_of_block graph key block = ap (λ (b : Bool). if b then graph.field key 1 else Nil) block
 
--- the cdr that is kept of the cons with a number
+-- the cdr that is kept for the cons with this number
 pub cdr_kept : (graph : KeyedGraph) (visits : Visits) (number key : ℕ) (cdrs : List Seen) (default : Seen) → AreVisits graph visits → slice_get visits.numbering.keys number ≡ Some key
     → graph.cons key ≡ true → cdrs ≡ visits.cdrs → get_or cdrs number default ≡ graph.field key 1
 cdr_kept graph visits number key cdrs default are at cons is =
@@ -213,7 +213,7 @@ is_object now graph key form old new body same is visit =
 
 -- Objects are visited
 
--- the first of the objects that have numbers, so many, are visited
+-- the first `number` of the objects that have numbers are visited
 pub record AreFirst (graph : KeyedGraph) (old now : Visits) (number : ℕ) (objects : List Object) : Type 0 where
   pub visits : AreVisits graph now
   pub shown : All (λ key. All (Shows graph) (fields_of graph key)) (take number now.numbering.keys)

@@ -1,4 +1,4 @@
--- Which lines are accepted: a line is accepted exactly where it is the spelling of what it says, and that may come in its place.
+-- A line is accepted if and only if it is the spelling of what it means, and that is allowed in its place.
 use Rattle.std.specs.Prelude.{◌≡◌, ◌⊎◌, ℕ, ◌+◌, ◌-◌, ◌*◌, ◌<◌, ◌≤◌, List, [], ◌∷◌, ◌++◌, length, Bool, true, false, not, if◌then◌else◌, replicate, slice_set, None, Ok}
 use Rattle.std.specs.List.{All}
 use Rattle.store_word.specs.declared.space.Space.{Space}
@@ -22,21 +22,21 @@ use Rattle.world_text.specs.reading.Line.{line_at}
 use Rattle.world_text.specs.writing.Spelling.{IsWritten, WorldLine, FormatLine, SpaceLine, AreaLine, CapacityLine, ConsLine, BlockLine, RunLine, RootLine, ClosingLine, spelled}
 use Rattle.world_text.specs.reading.Limits.{AllRefer}
 
--- What may come
+-- What may be next
 
--- an area line may come
+-- an area line may be next
 abbrev pub takes_area : Part → Bool
 takes_area FirstArea = true
 takes_area Areas = true
 takes_area _ = false
 
--- an object line may come: behind the area lines in format 1, and behind the capacity line in format 2
+-- an object line may be next: after the area lines in format 1, and after the capacity line in format 2
 abbrev pub takes_object : Bool → Part → Bool
 takes_object second Areas = not second
 takes_object second Objects = true
 takes_object second _ = false
 
--- a root line or the line that closes the world may come
+-- a root line or the line that closes the world may be next
 abbrev pub takes_root : Bool → Part → Bool
 takes_root second Roots = true
 takes_root second part = takes_object second part
@@ -58,12 +58,12 @@ pub record IsNewArea (place : WorldReader) (rule : AreaRule) : Type 0 where
   pub quota : rule.quota ≤ 1048576
   pub fits : room place.world.space.levels place.world.areas + rule_room place.world.space.levels rule.quota ≤ place.world.space.regions
 
--- objects of one of the areas that want this charge, which its quota leaves
+-- objects of one of the areas with this charge, which its quota still allows
 pub record HasQuota (place : WorldReader) (area wanted : ℕ) : Type 0 where
   pub within : area < length place.world.areas
   pub leaves : charged_of place area + wanted ≤ quota_of place area
 
--- the first line behind the objects finds no reference to a missing one
+-- the first line after the objects finds no reference to a missing object
 pub record MayClose (place : WorldReader) : Type 0 where
   pub part : takes_root place.second place.part ≡ true
   pub refer : (place.part ≡ Roots) ⊎ AllRefer place.world.objects
@@ -75,7 +75,7 @@ pub record IsNewRoot (place : WorldReader) (register : ℕ) (value : Value) : Ty
   pub written : IsWritten value
   pub refers : RefersBelow (length place.world.objects) value
 
--- what the line says may come in its place
+-- what the line means is allowed in this place
 abbrev pub IsAllowed : WorldReader → WorldLine → Type 0
 IsAllowed place (FormatLine second) = place.part ≡ Opening
 IsAllowed place (SpaceLine space) = (place.part ≡ Sizing) × AreSizes space
@@ -91,14 +91,14 @@ IsAllowed place (RunLine area cars) =
 IsAllowed place (RootLine register value) = MayClose place × IsNewRoot place register value
 IsAllowed place (ClosingLine file) = MayClose place × (place.file ≡ file)
 
--- What it brings about
+-- What it causes
 
--- the place with these objects more, which were charged to an area
+-- the place with these objects added, which are charged to an area
 abbrev pub with_objects : WorldReader → ℕ → ℕ → List Object → WorldStep × WorldReader
 with_objects place area wanted objects =
     (Next, record place { part = Objects; charged = slice_set place.charged area (charged_of place area + wanted); world = record place.world { objects = place.world.objects ++ objects } })
 
--- what the line brings about, and the place behind it
+-- what the line causes, and the place after it
 abbrev pub outcome : WorldReader → WorldLine → WorldStep × WorldReader
 outcome place (FormatLine second) = (Next, record place { part = Sizing; second = second })
 outcome place (SpaceLine space) = (Next, record place { part = FirstArea; world = record place.world { space = space; roots = replicate space.registers Nil } })
@@ -110,14 +110,14 @@ outcome place (RunLine area cars) = with_objects place area (3 * length cars) (l
 outcome place (RootLine register value) = (Next, record place { part = Roots; world = record place.world { roots = slice_set place.world.roots register value }; rooted = slice_set place.rooted register true })
 outcome place (ClosingLine file) = (if file then WorldEnds else TraceBegins, record place { part = Closed })
 
--- the text spells a line that may come, and this is what it brings about
+-- the text spells a line that is allowed here; the line causes this step, and leads to this place
 pub record Says (place : WorldReader) (text : List ℕ) (step : WorldStep) (next : WorldReader) : Type 0 where
   pub line : WorldLine
   pub allowed : IsAllowed place line
   pub is : text ≡ spelled place.world.areas line
   pub brings : outcome place line ≡ (step, next)
 
--- The law above the order of tests: what is accepted says something, and what says something is accepted.
+-- The law above the order of the tests: a line is accepted if and only if it means something.
 pub record AcceptsSpellings (place : WorldReader) : Type 0 where
   pub only : (text : List ℕ) (step : WorldStep) (next : WorldReader) → line_at place text ≡ Ok (step, next) → Says place text step next
   pub all : (text : List ℕ) (step : WorldStep) (next : WorldReader) → Says place text step next → line_at place text ≡ Ok (step, next)

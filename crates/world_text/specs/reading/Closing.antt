@@ -1,4 +1,4 @@
--- The lines behind the objects: the roots, and the line that closes a world.
+-- The lines after the objects: the roots, and the line that closes a world.
 use Rattle.std.specs.Prelude.{ℕ, ◌-◌, ◌^◌, min, List, length, Bool, true, false, ◌==◌, nat_lt, if◌then◌else◌, codes, slice_get, slice_set, fold, Option, Some, None, unwrap_or, Ok, Err}
 use Rattle.lisp_graph.specs.declared.object.Value.{Value}
 use Rattle.lisp_graph.specs.declared.object.Value.TheVariants.{Ref}
@@ -15,14 +15,14 @@ use Rattle.world_text.specs.declared.reading.reader.WorldReader.{WorldReader}
 use Rattle.world_text.specs.reading.Next.{◌>>=◌, a_register, a_value, next}
 use Rattle.world_text.specs.reading.Reader.{Said, bad}
 
--- Numbers that no object has
+-- Numbers that are the number of no object
 
 -- the lesser of the number found so far and this one
 abbrev pub lesser : Option ℕ → ℕ → Option ℕ
 lesser None number = Some number
 lesser (Some found) number = Some (min found number)
 
--- the least number found so far that none of so many objects has, and that of the value where it is such
+-- with this many objects: the least of the missing numbers found so far and of the value's number, if it is missing
 abbrev pub missing_value : ℕ → Option ℕ → Value → Option ℕ
 missing_value objects found (Ref number) = if nat_lt number objects then found else lesser found number
 missing_value objects found _ = found
@@ -31,7 +31,7 @@ abbrev pub missing_body : ℕ → Option ℕ → Body → Option ℕ
 missing_body objects found (Cons car cdr) = missing_value objects (missing_value objects found car) cdr
 missing_body objects found (Block code fields) = fold (missing_value objects) found fields
 
--- the least number to which these objects refer and that none of them has
+-- the least number in a reference of these objects that is the number of none of them
 abbrev pub missing : List Object → Option ℕ
 missing objects = fold (λ found object. missing_body (length objects) found object.body) None objects
 
@@ -39,11 +39,11 @@ abbrev pub are_roots : Part → Bool
 are_roots Roots = true
 are_roots _ = false
 
--- the objects are looked through at the first line behind them
+-- the objects are tested at the first line after them
 abbrev pub missing_at : WorldReader → Option ℕ
 missing_at place = if are_roots place.part then None else missing place.world.objects
 
--- a number behind `#` is below 2^32
+-- a number after `#`, reported as at most 2^32 - 1
 abbrev pub no_object : ℕ → WorldFault
 no_object number = Bad (NoObject (min number (2 ^ 32 - 1)))
 
@@ -51,9 +51,9 @@ abbrev pub unless_missing : Option ℕ → Said → Said
 unless_missing None said = said
 unless_missing (Some number) said = Err (no_object number)
 
--- Each line has `count` words, and `words` behind its first one.
+-- Each line has `count` words, and `words` after its first one.
 
--- the register had a root line
+-- the register already had a root line
 abbrev pub has_root : WorldReader → ℕ → Bool
 has_root place register = unwrap_or (slice_get place.rooted register) false
 

@@ -6,7 +6,7 @@ use Rattle.lisp_graph.specs.declared.world.AreaRule.{AreaRule}
 use Rattle.world_text.specs.reading.Leading.{LeadsArea}
 use Rattle.world_text.specs.writing.Spelling.{IsWritten, spaced, value_text}
 
--- the text is so many values or fewer, with a space before each
+-- the text is at most `most` values, with a space before each
 pub record AreSpaced (text : List ℕ) (values : List Value) (most : ℕ) : Type 0 where
   pub is : text ≡ spaced (map value_text values)
   pub written : All IsWritten values
@@ -22,7 +22,7 @@ pub record SaysCons (areas : List AreaRule) (line : List ℕ) (area : ℕ) (car 
   pub first : IsWritten car
   pub second : IsWritten cdr
 
--- the line is `block` with the name of this area and this code, and this text behind them
+-- the line is `block` with the name of this area and this code, and this text follows them
 pub record BeginsBlock (areas : List AreaRule) (line : List ℕ) (area code : ℕ) (values : List ℕ) : Type 0 where
   pub named : List ℕ
   pub coded : List ℕ
@@ -31,7 +31,7 @@ pub record BeginsBlock (areas : List AreaRule) (line : List ℕ) (area code : �
   pub is : coded ≡ 32 ∷ decimal code ++ values
   pub small : code ≤ 65535
 
--- the line is `run` with the name of this area, and this text behind it, which isn't empty
+-- the line is `run` with the name of this area, and this text follows it, which isn't empty
 pub record BeginsRun (areas : List AreaRule) (line : List ℕ) (area : ℕ) (values : List ℕ) : Type 0 where
   pub named : List ℕ
   pub head : line ≡ codes "run " ++ named

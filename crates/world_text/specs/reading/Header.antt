@@ -23,7 +23,7 @@ opening_line place text =
     else if bytes_eq text (codes "lispm-world 2") then Ok (Next, record place { part = Sizing; second = true })
     else Err (Bad NotAWorld)
 
--- Each line below has `count` words, and `words` behind its first one.
+-- Each line below has `count` words, and `words` after its first one.
 
 -- the sizes of a store, each in its range
 unfoldable pub space_in : List (List ℕ) → Result Space Reason
@@ -61,11 +61,11 @@ rule_in areas words = do
   (quota, words) ← next (a_number 0 1048576) words
   Ok (record { name = name; kind = kind; quota = quota })
 
--- how many regions an area of this quota wants: one for each 1,024 words, and two for each level and for level 0
+-- how many regions an area with this quota needs: one for each 1,024 words, and two for each level and for level 0
 abbrev pub rule_room : ℕ → ℕ → ℕ
 rule_room levels quota = (quota + 1023) / 1024 + 2 * (levels + 1)
 
--- how many regions these areas want together
+-- how many regions these areas need together
 abbrev pub room : ℕ → List AreaRule → ℕ
 room levels areas = sum_by (λ rule. rule_room levels rule.quota) areas
 

@@ -4,7 +4,7 @@ use Rattle.lisp_graph.specs.declared.world.AreaRule.{AreaRule}
 use Rattle.world_text.specs.reading.Words.{is_word}
 use Rattle.world_text.specs.reading.Numbers.{area_of}
 
--- the name of this area, and this rest
+-- the text is the name of this area and then this rest
 pub record LeadsArea (areas : List AreaRule) (text : List ℕ) (area : ℕ) (rest : List ℕ) : Type 0 where
   pub name : List ℕ
   pub word : is_word name ≡ true

@@ -1,4 +1,4 @@
--- What is known of the place that accepted lines lead to, and of their world in the end.
+-- What is known of the places that accepted lines lead to, and of a world whose lines are closed.
 use Rattle.std.specs.Prelude.{◌≡◌, ℕ, ◌<◌, ◌≤◌, List, [], length, Bool, true, false, Some, ◌==◌, if◌then◌else◌, replicate, sum_by}
 use Rattle.std.specs.List.{All}
 use Rattle.lisp_graph.specs.Name.{is_name}
@@ -25,7 +25,7 @@ pub record AreNamed (areas : List AreaRule) : Type 0 where
 abbrev pub charged_in : ℕ → List Object → ℕ
 charged_in area objects = sum_by (λ object. if object.area == area then object.charge else 0) objects
 
--- an object of one of so many areas, which is charged for what it is
+-- an object in one of this many areas, with the charge of its kind
 pub record IsPlaced (areas : ℕ) (object : Object) : Type 0 where
   pub within : object.area < areas
   pub charge : IsCharge object.body object.charge
@@ -54,13 +54,13 @@ has_objects Roots = true
 has_objects Closed = true
 has_objects _ = false
 
--- the objects were looked through for references to missing ones
+-- the objects were tested for references to missing ones
 abbrev pub has_roots : Part → Bool
 has_roots Roots = true
 has_roots Closed = true
 has_roots _ = false
 
--- The place that accepted lines lead to.
+-- A place that accepted lines lead to.
 pub record IsReached (place : WorldReader) : Type 0 where
   pub limits : IsReader place
   pub space : has_space place.part ≡ true → IsSpace place.world.space
@@ -78,7 +78,7 @@ pub record IsReached (place : WorldReader) : Type 0 where
   pub roots : All (RefersBelow (length place.world.objects)) place.world.roots
   pub refer : has_roots place.part ≡ true → AllRefer place.world.objects
 
--- A world whose lines were accepted keeps the limits, its areas have names of their own and room, and its objects are within the quotas.
+-- A world whose lines were accepted is within the limits, its areas have different names and room, and its objects are within the quotas.
 pub record IsAccepted (world : World) : Type 0 where
   pub limits : IsWorld world
   pub capacities : length world.space.capacity ≡ 6

@@ -1,4 +1,4 @@
--- What a line of a world says in its place. The first test that fails gives the reason.
+-- What a line of a world means in its place. The first test that fails gives the reason.
 use Rattle.std.specs.Prelude.{ℕ, List, length, drop, Bool, true, false, ◌&&◌, if◌then◌else◌, bytes_eq, codes, Err}
 use Rattle.world_text.specs.declared.reading.reason.Reason.TheVariants.{NotAWorld, BadLine, SpaceExpected, AreaExpected, CapacityExpected, UnexpectedLine}
 use Rattle.world_text.specs.declared.fault.WorldFault.TheVariants.{Bad}
@@ -11,7 +11,7 @@ use Rattle.world_text.specs.reading.Header.{area_line, capacity_line, opening_li
 use Rattle.world_text.specs.reading.Objects.{block_line, cons_line, run_line}
 use Rattle.world_text.specs.reading.Closing.{closing_line, closing_word, missing_at, root_line, unless_missing}
 
--- Each line has the first word `head` and `count` words, `words` behind the first.
+-- Each line has the first word `head` and `count` words, `words` after the first.
 
 -- a root line, or the line that closes the world
 unfoldable pub last_lines : WorldReader → List ℕ → ℕ → List (List ℕ) → Said
@@ -28,7 +28,7 @@ object_lines place head count words =
     else if place.second && bytes_eq head (codes "run") then run_line place count words
     else last_lines place head count words
 
--- one more area line; behind them the capacity line in format 2, and an object line or a later one in format 1
+-- one more area line; after them the capacity line in format 2, and an object line or a later one in format 1
 unfoldable pub area_lines : WorldReader → List ℕ → ℕ → List (List ℕ) → Said
 area_lines place head count words =
     if bytes_eq head (codes "area") then area_line place count words
@@ -48,7 +48,7 @@ abbrev pub is_opening : Part → Bool
 is_opening Opening = true
 is_opening _ = false
 
--- What the line says in its place.
+-- What the line means in its place.
 abbrev pub line_at : WorldReader → List ℕ → Said
 line_at place text =
     if is_opening place.part then opening_line place text

@@ -1,4 +1,4 @@
--- Reading a line word by word: what it says, or the reason for which it is refused.
+-- Reading a line word by word: what it means, or the reason for which it is refused.
 use Rattle.std.specs.Prelude.{◌≡◌, ℕ, List, [], ◌∷◌, drop, Option, Some, None, Result, Ok, Err}
 use Rattle.lisp_graph.specs.declared.object.Value.{Value}
 use Rattle.lisp_graph.specs.declared.world.AreaRule.{AreaRule}
@@ -36,13 +36,13 @@ a_value word = found BadValue (value_of word)
 
 -- One word after another
 
--- what the first of these words says, and the words behind it
+-- what the first of these words means, and the words after it
 unfoldable pub next : {A : Type 0} → (List ℕ → Result A Reason) → List (List ℕ) → Result (A × List (List ℕ)) Reason
 next read words = do
   one ← read (first_word words)
   Ok (one, drop 1 words)
 
--- what each of these words says, up to the first that is refused
+-- what each of these words means, up to the first that is refused
 unfoldable pub each : {A : Type 0} → (List ℕ → Result A Reason) → List (List ℕ) → Result (List A) Reason
 each read [] = Ok []
 each read (word ∷ words) = do
@@ -52,19 +52,19 @@ each read (word ∷ words) = do
 
 -- What a function returned
 
--- it is what reading gives, seen by view
+-- it is what reading gives, seen through `view`
 abbrev pub Gives : {X Y E : Type 0} → (X → Y) → Result X E → Result Y E → Type 0
 Gives view (Ok x) read = read ≡ Ok (view x)
 Gives view (Err e) read = read ≡ Err e
 
--- the fault is what reading gives, or memory ran out
+-- the error is what reading gives, or memory ran out
 abbrev pub IsFault : {Y : Type 0} → WorldFault → Result Y Reason → Type 0
 IsFault (Bad reason) read = read ≡ Err reason
 IsFault TooSmall read = ⊥
 IsFault (Exhausted area charged wanted quota) read = ⊥
 IsFault NoMemory read = Unit {0}
 
--- it is what reading gives, seen by view, unless memory ran out
+-- it is what reading gives, seen through `view`, unless memory ran out
 abbrev pub MayGive : {X Y : Type 0} → (X → Y) → Result X WorldFault → Result Y Reason → Type 0
 MayGive view (Ok x) read = read ≡ Ok (view x)
 MayGive view (Err fault) read = IsFault fault read

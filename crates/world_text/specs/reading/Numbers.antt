@@ -17,7 +17,7 @@ is_number word =
     else if nat_lt 1 (length word) && slice_index word 0 == 48 then false
     else are_digits word
 
--- what digits stand for
+-- the number that digits represent
 abbrev pub number_value : List ℕ → ℕ
 number_value digits = fold (λ value digit. 10 * value + (digit - 48)) 0 digits
 

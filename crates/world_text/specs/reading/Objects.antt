@@ -23,7 +23,7 @@ block_with area code fields = record { area = area; charge = length fields + 1; 
 
 -- Charges
 
--- what the objects so far of an area are charged
+-- what the objects of an area so far are charged
 abbrev pub charged_of : WorldReader → ℕ → ℕ
 charged_of place area = slice_index place.charged area
 
@@ -34,19 +34,19 @@ quota_in areas area = option_map_or (λ rule. rule.quota) (slice_get areas area)
 abbrev pub quota_of : WorldReader → ℕ → ℕ
 quota_of place area = quota_in place.world.areas area
 
--- what the area is charged with this much more
+-- what the area is charged after this many more words
 unfoldable pub charge_with : WorldReader → ℕ → ℕ → Result ℕ WorldFault
 charge_with place area wanted =
     if nat_lt (quota_of place area) (charged_of place area + wanted) then Err (Exhausted area (charged_of place area) wanted (quota_of place area))
     else Ok (charged_of place area + wanted)
 
--- these objects more, which want this charge in an area
+-- the place with these objects added, which need this charge in an area
 unfoldable pub added : WorldReader → ℕ → ℕ → List Object → Said
 added place area wanted objects = do
   charged ← charge_with place area wanted
   Ok (Next, record place { part = Objects; charged = slice_set place.charged area charged; world = record place.world { objects = place.world.objects ++ objects } })
 
--- Each line has `count` words, and `words` behind its first one.
+-- Each line has `count` words, and `words` after its first one.
 
 -- `cons AREA V V`
 unfoldable pub cons_line : WorldReader → ℕ → List (List ℕ) → Said

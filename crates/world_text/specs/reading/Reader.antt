@@ -1,4 +1,4 @@
--- A place between two lines of a world: what the lines so far say.
+-- A place between two lines of a world: what the lines so far mean.
 use Rattle.std.specs.Prelude.{◌≡◌, ◌<◌, ◌≤◌, List, [], length, Bool, true, false, if◌then◌else◌, Result, Ok, Err, replicate}
 use Rattle.lisp_graph.specs.declared.world.AreaRule.{AreaRule}
 use Rattle.lisp_graph.specs.declared.world.World.{World}
@@ -11,7 +11,7 @@ use Rattle.world_text.specs.declared.reading.reader.Part.{Part}
 use Rattle.world_text.specs.declared.reading.reader.Part.TheVariants.{Opening, Closed}
 use Rattle.world_text.specs.declared.reading.reader.WorldReader.{WorldReader}
 
--- before the first line nothing was read
+-- the world before the first line
 abbrev pub no_world : World
 no_world = record {
   space = record { regions = 0; frames = 0; registers = 0; levels = 0; rate = 0; capacity = replicate 6 0 };
@@ -36,39 +36,39 @@ abbrev pub is_closed : Part → Bool
 is_closed Closed = true
 is_closed _ = false
 
--- what the line that led to a place has brought about
+-- what the line that led to a place has caused
 abbrev pub step_to : WorldReader → WorldStep
 step_to place = if is_closed place.part then (if place.file then WorldEnds else TraceBegins) else Next
 
--- A place that lines lead to keeps the limits.
+-- A place that lines lead to is within the limits.
 pub record IsReader (place : WorldReader) : Type 0 where
   pub areas : length place.world.areas ≤ 16
   pub registers : place.world.space.registers ≤ 256
   pub levels : place.world.space.levels ≤ 6
   pub roots : length place.world.roots ≡ place.world.space.registers
 
--- what a line says in its place: what it brings about and the place behind it, or why it is refused
+-- what a line means in its place: what it causes and the place after it, or why it is refused
 abbrev pub Said : Type 0
 Said = Result (WorldStep × WorldReader) WorldFault
 
--- a refusal is what the line says, or memory ran out
+-- a refusal is what the line means, or memory ran out
 abbrev pub IsRefusal : WorldFault → Said → Type 0
 IsRefusal (Bad reason) said = said ≡ Err (Bad reason)
 IsRefusal TooSmall said = said ≡ Err TooSmall
 IsRefusal (Exhausted area charged wanted quota) said = said ≡ Err (Exhausted area charged wanted quota)
 IsRefusal NoMemory said = Unit {0}
 
--- a fault that tells of an area tells of one of these
+-- if the refusal names an area, it is one of these
 abbrev pub NamesArea : List AreaRule → WorldFault → Type 0
 NamesArea areas (Exhausted area charged wanted quota) = area < length areas
 NamesArea areas _ = Unit {0}
 
--- An accepted line leads to the place that it says; a refused one changes nothing.
+-- An accepted line leads to the place that it means; a refused one changes nothing.
 abbrev pub Judged : WorldReader → WorldReader → Result WorldStep WorldFault → Said → Type 0
 Judged old new (Ok step) said = said ≡ Ok (step, new)
 Judged old new (Err fault) said = (new ≡ old) × IsRefusal fault said
 
--- a reason refuses the line
+-- a reading of words as a reading of a line: a reason becomes a refusal
 abbrev pub bad : {A : Type 0} → Result A Reason → Result A WorldFault
 bad (Ok x) = Ok x
 bad (Err reason) = Err (Bad reason)

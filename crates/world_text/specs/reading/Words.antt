@@ -9,12 +9,12 @@ is_space byte = byte == 32
 abbrev pub is_graphic : ℕ → Bool
 is_graphic byte = nat_le 33 byte && nat_le byte 126
 
--- the pieces between the spaces; behind a space at the end there is none
+-- the pieces between the spaces; no piece follows a space at the end
 unfoldable pub words_of : List ℕ → List (List ℕ)
 words_of [] = []
 words_of (byte ∷ bytes) = if is_space byte then [] ∷ words_of bytes else onto_first byte (words_of bytes)
 
--- the first of these words, or no bytes where there is none
+-- the first of these words, or no bytes if there is none
 abbrev pub first_word : List (List ℕ) → List ℕ
 first_word [] = []
 first_word (word ∷ words) = word

@@ -40,7 +40,7 @@ dumped_object graph keys key = record {
   body = dumped_body (graph.cons key) (graph.form key).code (map (dumped_value keys) (fields_of graph key));
 }
 
--- the text of a dump, where the objects have these numbers
+-- the text of a dump whose objects have these numbers
 abbrev pub dump_of : KeyedGraph → List ℕ → Space → List AreaRule → List ℕ
 dump_of graph keys space areas = file_text space areas (map (dumped_object graph keys) keys) (map (dumped_value keys) graph.registers)
 
@@ -58,19 +58,19 @@ pub record IsDump (graph : KeyedGraph) (space : Space) (areas : List AreaRule) (
   pub few : length keys < 2 ^ 32
   pub is : text ≡ dump_of graph keys space areas
 
--- where the answer is the swap's fault
+-- if the answer is a swap error, then P
 abbrev pub OnSwap : {T : Type 0} → Result T DumpFault → Type 0 → Type 0
 OnSwap (Err (Swap fault)) P = P
 OnSwap (Err NoMemory) P = Unit {0}
 OnSwap (Ok x) P = Unit {0}
 
--- the answer is anything but the swap's fault
+-- unless the answer is a swap error, P
 abbrev pub OffSwap : {T : Type 0} → Result T DumpFault → Type 0 → Type 0
 OffSwap (Err (Swap fault)) P = Unit {0}
 OffSwap (Err NoMemory) P = P
 OffSwap (Ok x) P = P
 
--- the count of faults never falls; it rose if the swap's fault is answered, and else it is as it was
+-- the count of swap errors never falls; it rose if the answer is a swap error, and otherwise is unchanged
 pub record HasSwapCause {T : Type 0} (before now : ℕ) (result : Result T DumpFault) : Type 0 where
   pub later : before ≤ now
   pub failed : OnSwap result (before < now)

@@ -21,12 +21,12 @@ abbrev pub object_line : ℕ → Body → WorldLine
 object_line area (Cons car cdr) = ConsLine area car cdr
 object_line area (Block code fields) = BlockLine area code fields
 
--- the line of the first of these objects, which begins a group of this size or none
+-- the line of the first of these objects, which begins a group of this size, or no group if the size is 0
 abbrev pub line_of_size : ℕ → Object → List Object → WorldLine
 line_of_size zero object objects = object_line object.area object.body
 line_of_size (suc more) object objects = RunLine object.area (map (λ one. car_of one.body) (take (suc more) (object ∷ objects)))
 
--- the lines of these objects, numbered from this one on, of which the first ones stand in a line before
+-- the lines of these objects, numbered from this one on; the first `skip` objects are in an earlier line
 abbrev pub object_lines_of : ℕ → ℕ → List Object → List WorldLine
 object_lines_of skip number [] = []
 object_lines_of (suc skip) number (object ∷ objects) = object_lines_of skip (number + 1) objects
@@ -34,7 +34,7 @@ object_lines_of zero number (object ∷ objects) =
     let size = group_size (to_tail object.area number (object ∷ objects)) in
     line_of_size size object objects ∷ object_lines_of (size - 1) (number + 1) objects
 
--- a line for each register from this one on that isn't nil
+-- a line for each register from this one on whose value isn't nil
 abbrev pub root_lines_of : ℕ → List Value → List WorldLine
 root_lines_of register [] = []
 root_lines_of register (value ∷ values) = if is_nil value then root_lines_of (register + 1) values else RootLine register value ∷ root_lines_of (register + 1) values

@@ -42,7 +42,7 @@ IsWritten (Ref number) = number < 2 ^ 32
 
 -- Lines
 
--- what a line of a world says
+-- what a line of a world means
 pub data WorldLine : Type 0 where
   FormatLine : Bool → WorldLine
   SpaceLine : Space → WorldLine

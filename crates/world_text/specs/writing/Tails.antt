@@ -1,14 +1,14 @@
--- What objects begin with, read from the last to the first: conses up to a tail.
+-- The tails that objects begin with, found by reading from the last object to the first.
 use Rattle.std.specs.Prelude.{◌≡◌, ℕ, List, ◌==◌, if◌then◌else◌, Option, Some, None}
 use Rattle.lisp_graph.specs.declared.object.Object.{Object}
 use Rattle.lisp_graph.specs.Groups.{to_tail}
 use Rattle.world_text.specs.declared.writing.groups.Tail.{Tail}
 
--- the count of a tail of this area
+-- the count of a tail, if it is of this area
 abbrev pub counted : Option Tail → ℕ → Option ℕ
 counted None area = None
 counted (Some tail) area = if tail.area == area then Some tail.count else None
 
--- the objects from this number on begin with conses of one area up to a tail, or with none
+-- the objects from this number on begin with this tail, or with none
 abbrev pub HasTail : ℕ → List Object → Option Tail → Type 0
 HasTail number objects tail = (area : ℕ) → to_tail area number objects ≡ counted tail area

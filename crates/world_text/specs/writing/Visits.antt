@@ -1,4 +1,4 @@
--- What a dump keeps of a walk while it numbers objects, so that each thing is looked at once.
+-- What a dump keeps of a walk while it numbers objects, so that each part of an object is read once.
 use Rattle.std.specs.Prelude.{◌≡◌, ℕ, List, ◌++◌, if◌then◌else◌, map}
 use Rattle.std.specs.List.{All}
 use Rattle.lisp_graph.specs.KeyedGraph.{KeyedGraph, Shows}
@@ -16,7 +16,7 @@ use Rattle.world_text.specs.writing.Dump.{dumped_body, dumped_object, dumped_val
 abbrev pub cdr_of : KeyedGraph → ℕ → Seen
 cdr_of graph key = if graph.cons key then graph.field key 1 else Nil
 
--- the objects that have numbers are known, and the cdrs of the conses among them
+-- the objects that have numbers are known, and so are the cdrs of the conses among them
 pub record AreVisits (graph : KeyedGraph) (visits : Visits) : Type 0 where
   pub known : IsKnown graph visits.numbering
   pub cdrs : visits.cdrs ≡ map (cdr_of graph) visits.numbering.keys
@@ -27,7 +27,7 @@ pub record Grows (keys all : List ℕ) : Type 0 where
   pub later : List ℕ
   pub is : all ≡ keys ++ later
 
--- a value is visited: it has its number, whatever gets one later
+-- a value is visited: it has its number, and keeps it when others get one
 pub record IsVisit (graph : KeyedGraph) (seen : Seen) (old new : Visits) (value : Value) : Type 0 where
   pub visited : Visited graph old.numbering.keys seen new.numbering.keys
   pub visits : AreVisits graph new

@@ -12,7 +12,7 @@ use std::alloc::Global;
 use std::marker::Model;
 use store_word::Space;
 
-/// Takes the lines of a world, one by one. Contracts see the place behind the lines that were taken.
+/// Takes the lines of a world, one by one. Contracts see the place after the lines that were taken.
 #[derive(Drop)]
 pub struct WorldBuilder {
     alloc: Global,
@@ -61,14 +61,14 @@ impl WorldBuilder {
         }
     }
 
-    /// For the lines of an input up to `trace`.
+    /// A builder for the lines of an input up to `trace`.
     pub fn new(alloc: Global) -> WorldBuilder
         ensures { result ≡ opening_place false }
     {
         WorldBuilder::opening(alloc, false)
     }
 
-    /// For the lines of a world file up to `end-world`.
+    /// A builder for the lines of a world file up to `end-world`.
     pub fn for_file(alloc: Global) -> WorldBuilder
         ensures { result ≡ opening_place true }
     {
@@ -84,7 +84,7 @@ impl WorldBuilder {
         line_at(self.alloc, &mut self.place, line)
     }
 
-    /// What the lines so far say of the world. Once they are closed it is the whole world.
+    /// The world that the lines so far mean: the whole world once they are closed.
     pub fn world(&self) -> &World
         ensures is { result.now ≡ self.now.world }
         ensures accepted { is_closed self.now.part ≡ true → IsAccepted result.now }
@@ -93,21 +93,21 @@ impl WorldBuilder {
         &self.place.world
     }
 
-    /// Whether the lines are closed.
+    /// Whether the last line that was taken closed the world.
     pub fn is_closed(&self) -> bool
         ensures { result ≡ is_closed self.now.part }
     {
         self.place.part == Part::Closed
     }
 
-    /// Which line may come.
+    /// Which lines may be next.
     pub fn part(&self) -> Part
         ensures { result ≡ self.now.part }
     {
         self.place.part
     }
 
-    /// What the lines so far say.
+    /// The world that the lines so far mean.
     pub fn so_far(self) -> World
         ensures is { result ≡ self.world }
         ensures reached { IsReached self }
@@ -124,8 +124,8 @@ impl WorldBuilder {
         self.place.world
     }
 
-    /// A line is accepted exactly where it is the spelling of what it says, and that may come in its place; and what is charged to
-    /// an area is the charges of its objects so far.
+    /// A line is accepted if and only if it is the spelling of what it means, and that is allowed in its place. What an area is
+    /// charged is the sum of the charges of its objects so far.
     pub fn accepts_spellings(&self)
         ensures spellings { AcceptsSpellings self.now }
         ensures reached { IsReached self.now }

@@ -1,4 +1,4 @@
-//! The lines on roots, and the line that closes a world.
+//! The `root` lines, and the line that closes a world.
 ghost use Rattle.std.specs.Prelude.{◌≡◌, false};
 ghost use Rattle.world_text.specs.reading.Words.{words_of};
 ghost use Rattle.world_text.specs.reading.Reader.{IsReader, Judged};
@@ -45,7 +45,7 @@ pub fn root_line(
     Ok(WorldStep::Next)
 }
 
-/// What closes a world: `end-world` a file, and `trace` an input's.
+/// The word that closes a world: `end-world` in a world file, `trace` in an input.
 pub fn closing_word(file: bool) -> &'static [u8]
     ensures { result.now ≡ closing_word file }
 {

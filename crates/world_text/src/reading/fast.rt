@@ -1,5 +1,5 @@
-//! Reading the lines of objects by one look at each byte. What answers None here is read, and refused with its reason, by
-//! `objects`.
+//! Reads object lines with one look at each byte. A line for which this returns None is read by `objects`, which accepts it or
+//! gives the reason for its refusal.
 ghost use Rattle.std.specs.Prelude.{◌≡◌, ◌<◌, ◌≤◌, ◌++◌, ◌∷◌, None, true, decimal, length, IfOk, IfSome};
 ghost use Rattle.world_text.specs.declared.reading.reader.Part.TheVariants.{Objects as AtObjects};
 ghost use Rattle.world_text.specs.reading.Reader.{IsReader, Judged};
@@ -14,7 +14,7 @@ use lisp_graph::{Areas, Body, Fields, Object, Value};
 use std::alloc::Global;
 use store_word::NoMemory;
 
-/// A space and a value, and the text behind them.
+/// A space and a value, and the text after them.
 #[inline(always)]
 fn spaced_value(text: &[u8]) -> Option<(Value, &[u8])>
     ensures { IfSome result (λ x. (text.now ≡ 32 ∷ value_text x.0 ++ x.1.now) × IsWritten x.0) }
@@ -32,7 +32,7 @@ fn last_value(text: &[u8]) -> Option<Value>
     if rest.is_empty() { Some(value) } else { None }
 }
 
-/// All the text as so many values or fewer, with a space before each.
+/// The whole text as at most `most` values, with a space before each.
 fn spaced_values(alloc: Global, most: u64, text: &[u8]) -> Result<Option<Fields>, NoMemory>
     ensures { IfOk result (λ read. IfSome read (λ values. AreSpaced text.now values most)) }
 {
@@ -81,7 +81,7 @@ fn cons_at(place: &mut WorldReader, line: &[u8]) -> Option<Result<WorldStep, Wor
     Some(add_object(place, area, object))
 }
 
-/// A space and a code, and the text behind them.
+/// A space and a code, and the text after them.
 #[inline(always)]
 fn spaced_code(text: &[u8]) -> Option<(u16, &[u8])>
     ensures { IfSome result (λ x. (text.now ≡ 32 ∷ decimal x.0 ++ x.1.now) × (x.0 ≤ 65535)) }
@@ -94,7 +94,7 @@ fn spaced_code(text: &[u8]) -> Option<(u16, &[u8])>
     Some((code as u16, rest))
 }
 
-/// What stands before the fields of `block AREA CODE V ..`
+/// What precedes the fields of `block AREA CODE V ..`
 #[inline(always)]
 fn block_front<'a>(areas: &Areas, line: &'a [u8]) -> Option<(usize, u16, &'a [u8])>
     ensures is { IfSome result (λ x. BeginsBlock areas.now line.now x.0 x.1 x.2.now) }
@@ -134,7 +134,7 @@ fn block_at(
     }
 }
 
-/// What stands before the cars of `run AREA V ..`
+/// What precedes the cars of `run AREA V ..`
 #[inline(always)]
 fn run_front<'a>(areas: &Areas, line: &'a [u8]) -> Option<(usize, &'a [u8])>
     ensures is { IfSome result (λ x. BeginsRun areas.now line.now x.0 x.1.now) }
@@ -169,7 +169,7 @@ fn run_at(
     }
 }
 
-/// The line of an object, if it is sure to be one.
+/// Reads an object line; None if it isn't certain that it is one.
 pub fn object_at(
     alloc: Global,
     place: &mut WorldReader,

@@ -1,4 +1,4 @@
-//! What the words of a `space`, an `area` and a `capacity` line say.
+//! What the words of a `space`, an `area` and a `capacity` line mean.
 ghost use Rattle.std.specs.Prelude.{◌≡◌, ◌≤◌, ◌-◌, ◌^◌, min, length, IfOk};
 ghost use Rattle.world_text.specs.reading.Words.{words_of};
 ghost use Rattle.world_text.specs.reading.Next.{Gives, next};
@@ -75,14 +75,14 @@ pub fn rule_in(areas: &Areas, text: &[u8]) -> Result<AreaRule, Reason>
     Ok(AreaRule { name, kind, quota })
 }
 
-/// How many regions an area of this quota wants.
+/// How many regions an area with this quota needs.
 pub fn rule_room(levels: u8, quota: u32) -> u64
     ensures { result ≡ rule_room levels quota }
 {
     u64::from(quota).div_ceil(1024) + 2 * (u64::from(levels) + 1)
 }
 
-/// How many regions these areas want, or the largest `u64` where that is more.
+/// How many regions these areas need together, or the largest `u64` if they need more.
 pub fn room(levels: u8, areas: &[AreaRule]) -> u64
     ensures { result ≡ min (room levels areas.now) (2 ^ 64 - 1) }
 {
@@ -93,7 +93,7 @@ pub fn room(levels: u8, areas: &[AreaRule]) -> u64
     wanted
 }
 
-/// A capacity for each word, and 0 behind them.
+/// A capacity for each word, and 0 for each remaining level.
 pub fn capacity_in(text: &[u8]) -> Result<[u32; 6], Reason>
     requires { length (words_of text.now) ≤ 6 }
     ensures { Gives (λ x. x) result (capacity_in (words_of text.now)) }

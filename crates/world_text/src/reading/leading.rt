@@ -1,5 +1,5 @@
-//! What a text begins with, by one look at each byte, for readers that go on behind it. Where it begins with something
-//! else they answer None, and give no reason.
+//! What a text begins with, found with one look at each byte, for readers that go on after it. If it begins with something
+//! else they return None, and give no reason.
 ghost use Rattle.std.specs.Prelude.{◌≡◌, ◌≤◌, ◌<◌, ◌++◌, ◌∷◌, true, length, take, decimal, IfSome};
 ghost use Rattle.world_text.specs.reading.Numbers.{are_digits, number_value};
 ghost use Rattle.world_text.specs.reading.Words.{is_graphic, is_word};
@@ -9,7 +9,7 @@ ghost use Rattle.world_text.specs.writing.Spelling.{IsWritten, value_text};
 use crate::reading::numbers::{area_of, negative};
 use lisp_graph::{Areas, Value};
 
-/// The text behind these bytes.
+/// The text after these bytes.
 #[inline(always)]
 pub fn behind<'a>(front: &[u8], text: &'a [u8]) -> Option<&'a [u8]>
     ensures { IfSome result (λ rest. text.now ≡ front.now ++ rest.now) }
@@ -18,7 +18,7 @@ pub fn behind<'a>(front: &[u8], text: &'a [u8]) -> Option<&'a [u8]>
     Some(rest)
 }
 
-/// The text behind a space.
+/// The text after a space.
 #[inline(always)]
 pub fn behind_space(text: &[u8]) -> Option<&[u8]>
     ensures { IfSome result (λ rest. text.now ≡ 32 ∷ rest.now) }
@@ -32,7 +32,7 @@ pub fn behind_space(text: &[u8]) -> Option<&[u8]>
     Some(&text[1..])
 }
 
-/// The number that the first digits make, ten at most, and how many they are.
+/// The number that the first digits make, ten at most, and how many digits it has.
 #[inline(always)]
 fn leading_digits(text: &[u8]) -> (u64, usize)
     ensures few { result.1 ≤ 10 }
@@ -55,7 +55,7 @@ fn leading_digits(text: &[u8]) -> (u64, usize)
     (value, count)
 }
 
-/// A number of 32 bits at the front, and the text behind it.
+/// A number of 32 bits at the front, and the text after it.
 #[inline(always)]
 pub fn leading_number(text: &[u8]) -> Option<(u32, &[u8])>
     ensures { IfSome result (λ x. text.now ≡ decimal x.0 ++ x.1.now) }
@@ -79,7 +79,7 @@ fn is_graphic(byte: u8) -> bool
     byte >= 33 && byte <= 126
 }
 
-/// A word at the front, and the text behind it, which isn't empty.
+/// A word at the front, and the text after it, which isn't empty.
 #[inline(always)]
 pub fn leading_word(text: &[u8]) -> Option<(&[u8], &[u8])>
     ensures { IfSome result (λ x. (text.now ≡ x.0.now ++ x.1.now) × (is_word x.0.now ≡ true)) }
@@ -96,7 +96,7 @@ pub fn leading_word(text: &[u8]) -> Option<(&[u8], &[u8])>
     None
 }
 
-/// The name of one of the areas at the front, and the text behind it.
+/// The name of one of the areas at the front, and the text after it.
 #[inline(always)]
 pub fn leading_area<'a>(areas: &Areas, text: &'a [u8]) -> Option<(usize, &'a [u8])>
     ensures is { IfSome result (λ x. LeadsArea areas.now text.now x.0 x.1.now) }
@@ -107,7 +107,7 @@ pub fn leading_area<'a>(areas: &Areas, text: &'a [u8]) -> Option<(usize, &'a [u8
     Some((area, rest))
 }
 
-/// The number of an object at the front, behind `#`, and the text behind it.
+/// The number of an object at the front, which followed `#`, and the text after it.
 #[inline(always)]
 fn leading_reference(text: &[u8]) -> Option<(Value, &[u8])>
     ensures { IfSome result (λ x. (35 ∷ text.now ≡ value_text x.0 ++ x.1.now) × IsWritten x.0) }
@@ -116,7 +116,7 @@ fn leading_reference(text: &[u8]) -> Option<(Value, &[u8])>
     Some((Value::Ref(u64::from(number)), rest))
 }
 
-/// The size of a number below 0 at the front, behind `-`, and the text behind it.
+/// The size of a negative number at the front, which followed `-`, and the text after it.
 #[inline(always)]
 fn leading_negative(text: &[u8]) -> Option<(Value, &[u8])>
     ensures { IfSome result (λ x. (45 ∷ text.now ≡ value_text x.0 ++ x.1.now) × IsWritten x.0) }
@@ -131,7 +131,7 @@ fn leading_negative(text: &[u8]) -> Option<(Value, &[u8])>
     Some((Value::Fix(negative(size)), rest))
 }
 
-/// A number of 0 or more at the front, and the text behind it.
+/// A number of 0 or more at the front, and the text after it.
 #[inline(always)]
 fn leading_positive(text: &[u8]) -> Option<(Value, &[u8])>
     ensures { IfSome result (λ x. (text.now ≡ value_text x.0 ++ x.1.now) × IsWritten x.0) }
@@ -143,7 +143,7 @@ fn leading_positive(text: &[u8]) -> Option<(Value, &[u8])>
     Some((Value::Fix(size as i32), rest))
 }
 
-/// `nil` at the front, and the text behind it.
+/// `nil` at the front, and the text after it.
 #[inline(always)]
 fn leading_nil(text: &[u8]) -> Option<(Value, &[u8])>
     ensures { IfSome result (λ x. (text.now ≡ value_text x.0 ++ x.1.now) × IsWritten x.0) }
@@ -152,7 +152,7 @@ fn leading_nil(text: &[u8]) -> Option<(Value, &[u8])>
     Some((Value::Nil, rest))
 }
 
-/// A value at the front, and the text behind it.
+/// A value at the front, and the text after it.
 #[inline(always)]
 pub fn leading_value(text: &[u8]) -> Option<(Value, &[u8])>
     ensures { IfSome result (λ x. (text.now ≡ value_text x.0 ++ x.1.now) × IsWritten x.0) }

@@ -1,4 +1,4 @@
-//! Which line it is, by its first word.
+//! Distinguishes the kinds of lines by their first word.
 ghost use Rattle.std.specs.Prelude.{◌≡◌, ◌+◌, length};
 ghost use Rattle.world_text.specs.reading.Words.{words_of};
 ghost use Rattle.world_text.specs.reading.Reader.{IsReader, Judged};
@@ -125,7 +125,7 @@ fn line_in(
     }
 }
 
-/// The line in its place. A refused line changes nothing.
+/// Takes the next line in its place. A refused line changes nothing.
 pub fn line_at(alloc: Global, place: &mut WorldReader, text: &[u8]) -> Result<WorldStep, WorldFault>
     requires { IsReader place.old }
     ensures judged { Judged place.old place.new result (line_at place.old text.now) }

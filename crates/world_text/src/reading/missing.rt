@@ -1,4 +1,4 @@
-//! Numbers of objects that no object has.
+//! Numbers that occur in references, but are the number of no object.
 ghost use Rattle.std.specs.Prelude.{◌≡◌, ◌-◌, min, fold};
 ghost use Rattle.world_text.specs.reading.Closing.{lesser, missing, missing_at, missing_body, missing_value, no_object};
 
@@ -62,7 +62,7 @@ fn missing(objects: &[Object]) -> Option<u64>
     found
 }
 
-/// The least number in the object lines that no object has, where they weren't looked through before.
+/// The least number in the object lines that is the number of no object; None if the lines were already tested.
 pub fn missing_at(place: &WorldReader) -> Option<u64>
     ensures { result ≡ missing_at place.now }
 {
@@ -73,7 +73,7 @@ pub fn missing_at(place: &WorldReader) -> Option<u64>
     }
 }
 
-/// The refusal of a line for an object with this number.
+/// The refusal of a line because no object has this number.
 pub fn no_object(number: u64) -> WorldFault
     ensures { result ≡ no_object number }
 {

@@ -1,4 +1,4 @@
-//! Reading a line word by word. Each call takes the first word of a text and answers what it says, with the text behind it.
+//! Reading a line word by word. Each call takes the first word of a text and returns what it means, with the text after it.
 ghost use Rattle.std.specs.Prelude.{◌≡◌, ◌<◌, ◌≤◌, ◌-◌, length, IfOk};
 ghost use Rattle.world_text.specs.reading.Words.{words_of};
 ghost use Rattle.world_text.specs.reading.Next.{Gives, MayGive, a_number, a_register, a_value, an_area, each, next};
@@ -23,7 +23,7 @@ pub fn next_number(low: u32, high: u32, text: &[u8]) -> Result<(u32, &[u8]), Rea
     }
 }
 
-/// A register out of so many.
+/// A register, below the number of registers.
 #[tactic(auto, unfolding(crate::specs::reading::Next::next))]
 pub fn next_register(registers: u32, text: &[u8]) -> Result<(u32, &[u8]), Reason>
     ensures is { Gives (λ x. (x.0, words_of x.1.now)) result (next (a_register registers) (words_of text.now)) }
@@ -37,7 +37,7 @@ pub fn next_register(registers: u32, text: &[u8]) -> Result<(u32, &[u8]), Reason
     }
 }
 
-/// The name of one of the areas, which is answered by its place.
+/// The name of one of the areas; the result is the area's place among them.
 #[tactic(auto, unfolding(crate::specs::reading::Next::next))]
 pub fn next_area<'a>(areas: &Areas, text: &'a [u8]) -> Result<(usize, &'a [u8]), Reason>
     ensures is { Gives (λ x. (x.0, words_of x.1.now)) result (next (an_area areas.now) (words_of text.now)) }
@@ -51,7 +51,7 @@ pub fn next_area<'a>(areas: &Areas, text: &'a [u8]) -> Result<(usize, &'a [u8]),
     }
 }
 
-/// A value.
+/// A value: `nil`, an integer of 32 bits, or `#` and the number of an object.
 #[tactic(auto, unfolding(crate::specs::reading::Next::next))]
 pub fn next_value(text: &[u8]) -> Result<(Value, &[u8]), Reason>
     ensures is { Gives (λ x. (x.0, words_of x.1.now)) result (next a_value (words_of text.now)) }

@@ -4,7 +4,7 @@ ghost use Rattle.world_text.specs.reading.Numbers.{are_digits, area_of, integer_
 
 use lisp_graph::{Areas, Value};
 
-/// The number that these digits stand for, or None where one of them is no digit.
+/// The number that these digits represent, or None if one of them isn't a digit.
 fn digits_in(word: &[u8]) -> Option<u64>
     requires { length word.now ≤ 10 }
     ensures { MatchOption result (are_digits word.now ≡ false) (λ n. (are_digits word.now ≡ true) × (n ≡ number_value word.now)) }
@@ -19,7 +19,7 @@ fn digits_in(word: &[u8]) -> Option<u64>
     Some(value)
 }
 
-/// Whether the word has as many bytes as a number that fits 32 bits, and no zero before other digits.
+/// Whether the word may spell a number of 32 bits: at most ten bytes, and no zero before other digits.
 fn may_fit(word: &[u8]) -> bool
     ensures fits { result ≡ true → (length word.now ≤ 10) × (is_number word.now ≡ are_digits word.now) }
     ensures none { result ≡ false → (low high : ℕ) → high < 2 ^ 32 → number_in low high word.now ≡ None }
@@ -33,7 +33,7 @@ fn may_fit(word: &[u8]) -> bool
     word.len() == 1 || word[0] != b'0'
 }
 
-/// The number from `low` to `high` that the word spells, or None where it spells none.
+/// The number from `low` to `high` that the word spells, or None if it spells none.
 pub fn number_in(low: u32, high: u32, word: &[u8]) -> Option<u32>
     ensures is { result ≡ number_in low high word.now }
     ensures within { IfSome result (λ n. (low ≤ n) × (n ≤ high)) }
@@ -72,7 +72,7 @@ fn integer_of(word: &[u8]) -> Option<i32>
     }
 }
 
-/// The value that the word spells, or None where it spells none.
+/// The value that the word spells, or None if it spells none.
 pub fn value_of(word: &[u8]) -> Option<Value>
     ensures { result ≡ value_of word.now }
 {
@@ -87,7 +87,7 @@ pub fn value_of(word: &[u8]) -> Option<Value>
     Some(Value::Fix(number))
 }
 
-/// The register, out of so many, that the word names.
+/// The register that the word names, below the number of registers.
 pub fn register_of(registers: u32, word: &[u8]) -> Option<u32>
     ensures is { result ≡ register_of registers word.now }
     ensures within { IfSome result (λ n. n < registers) }
@@ -116,7 +116,7 @@ fn is_named(name: &[u8], word: &[u8]) -> bool
     true
 }
 
-/// The place of the area with this name, or None where no area has it.
+/// The place of the area with this name, or None if no area has it.
 pub fn area_of(areas: &Areas, word: &[u8]) -> Option<usize>
     ensures is { result ≡ area_of areas.now word.now }
     ensures within { IfSome result (λ n. n < length areas.now) }

@@ -1,4 +1,4 @@
-//! The lines on objects.
+//! The object lines.
 ghost use Rattle.std.specs.Prelude.{◌≡◌, ◌<◌, ◌≤◌, ◌+◌, ◌*◌, ◌^◌, List, [], ◌∷◌, ◌++◌, length, OnOk, OnErr};
 ghost use Rattle.lisp_graph.specs.declared.object.Object.{Object as OneObject};
 ghost use Rattle.world_text.specs.reading.Words.{words_of};
@@ -22,7 +22,7 @@ fn quota_of(place: &WorldReader, area: usize) -> u32
     }
 }
 
-/// What the area is charged with this much more.
+/// What the area is charged after this many more words.
 #[tactic(auto, unfolding(crate::specs::reading::Objects::charge_with))]
 fn charge_with(place: &WorldReader, area: usize, wanted: u32) -> Result<u32, WorldFault>
     requires { area < 16 }
@@ -41,7 +41,7 @@ fn charge_with(place: &WorldReader, area: usize, wanted: u32) -> Result<u32, Wor
     Ok(charged + wanted)
 }
 
-/// One object more, which wants its own charge.
+/// Adds an object, whose charge the area's quota must allow.
 #[tactic(auto, unfolding(crate::specs::reading::Objects::added))]
 pub fn add_object(
     place: &mut WorldReader,
@@ -60,7 +60,7 @@ pub fn add_object(
     Ok(WorldStep::Next)
 }
 
-/// The cdr of the cons with this name in a run, where these cars are left behind it.
+/// The cdr of the cons with this name in a compact list, followed by conses with these cars.
 fn link(name: u64, cars: &[Value]) -> Value
     requires { name + 1 < 2 ^ 64 }
     ensures { result ≡ link name cars.now }
@@ -71,7 +71,7 @@ fn link(name: u64, cars: &[Value]) -> Value
     }
 }
 
-/// The conses of a run. Without memory for all of them a part is added.
+/// Adds the conses of a compact list. If memory runs out, only some of them are added.
 #[tactic(auto, using(crate::proofs::reading_laws::Runs::run_more), unfolding(lisp_graph::specs::Effect::list_from))]
 fn push_run(objects: &mut Objects, area: u8, cars: &[Value]) -> Result<(), NoMemory>
     ensures ok { OnOk result (objects.new ≡ objects.old ++ list_from area (length objects.old) cars.now) }
@@ -96,7 +96,7 @@ fn push_run(objects: &mut Objects, area: u8, cars: &[Value]) -> Result<(), NoMem
     Ok(())
 }
 
-/// A run's conses, whose charge is wanted together.
+/// Adds the conses of a compact list, whose charges the area's quota must allow together.
 #[tactic(auto, unfolding(crate::specs::reading::Objects::added))]
 pub fn add_run(
     place: &mut WorldReader,
@@ -117,7 +117,7 @@ pub fn add_run(
     Ok(WorldStep::Next)
 }
 
-/// The conses of a run, or none of them.
+/// Adds the conses of a compact list, or none of them.
 fn add_conses(objects: &mut Objects, area: u8, cars: &[Value]) -> Result<(), NoMemory>
     ensures ok { OnOk result (objects.new ≡ objects.old ++ list_from area (length objects.old) cars.now) }
     ensures err { OnErr result (objects.new ≡ objects.old) }

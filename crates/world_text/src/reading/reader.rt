@@ -1,7 +1,7 @@
 //! A place between two lines of a world.
 use lisp_graph::World;
 
-/// Which line may come.
+/// Which lines may be next.
 #[derive(Clone, Copy, Debug, PartialEq, Eq)]
 pub enum Part {
     /// The first line.
@@ -10,9 +10,9 @@ pub enum Part {
     Sizing,
     /// The first `area` line.
     FirstArea,
-    /// An `area` line, and behind the last one the `capacity` line in format 2, or a line behind it in format 1.
+    /// An `area` line, or after the last one the `capacity` line in format 2, and any later line in format 1.
     Areas,
-    /// An object line or a line behind them.
+    /// An object line or any later line.
     Objects,
     /// A `root` line or the line that closes the world.
     Roots,
@@ -20,17 +20,17 @@ pub enum Part {
     Closed,
 }
 
-/// What the lines so far say.
+/// What the lines so far mean.
 #[derive(Drop)]
 pub struct WorldReader {
-    /// A world file, which `end-world` closes in the place of `trace`.
+    /// A world file: `end-world` closes it instead of `trace`.
     pub file: bool,
     pub part: Part,
     /// Format 2.
     pub second: bool,
     /// The sizes, the areas, the objects and the roots that were read so far.
     pub world: World,
-    /// What the objects so far of each area are charged, in words.
+    /// What the objects of each area so far are charged, in words.
     pub charged: [u32; 16],
     /// Which registers had a `root` line.
     pub rooted: [bool; 256],

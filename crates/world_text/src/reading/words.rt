@@ -9,7 +9,7 @@ fn first_space(text: &[u8]) -> Option<usize>
     text.iter().position(|byte| *byte == b' ')
 }
 
-/// The first word, and the text behind the space after it. Both are empty where no word is left.
+/// The first word, and the text after the space that follows it. Both are empty if no word remains.
 pub fn next_word(text: &[u8]) -> (&[u8], &[u8])
     ensures word { result.0.now ≡ first_word (words_of text.now) }
     ensures rest { words_of result.1.now ≡ drop 1 (words_of text.now) }
@@ -20,7 +20,7 @@ pub fn next_word(text: &[u8]) -> (&[u8], &[u8])
     }
 }
 
-/// How many words the line has, where it is well formed.
+/// How many words the line has, or None if it isn't well formed.
 #[tactic(auto, using(crate::proofs::reading_laws::WordCount::counted_is))]
 fn word_count(text: &[u8]) -> Option<usize>
     ensures is { result ≡ (if is_well_formed text.now then Some (length (words_of text.now)) else None) }
@@ -43,8 +43,8 @@ fn word_count(text: &[u8]) -> Option<usize>
     if in_word { Some(count) } else { None }
 }
 
-/// A well-formed line: its first word, how many words it has, and the text behind the first. It is None exactly where the
-/// line isn't well-formed.
+/// For a well-formed line: its first word, how many words it has, and the text after the first. None if and only if the
+/// line isn't well formed.
 pub fn split_line(text: &[u8]) -> Option<(&[u8], usize, &[u8])>
     ensures formed { is_some result ≡ is_well_formed text.now }
     ensures head { IfSome result (λ x. x.0.now ≡ first_word (words_of text.now)) }

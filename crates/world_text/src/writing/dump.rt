@@ -10,8 +10,8 @@ use std::alloc::Global;
 use store_word::Space;
 
 /// The text of the world file that a machine dumps: the space and the areas as they are given, the objects that the registers
-/// reach, and the registers. It fails where memory runs out, where more than 2^32 - 1 objects are reached, and where the swap
-/// fails, and changes nothing that the walk shows.
+/// reach, and the registers. It fails if memory runs out, if more than 2^32 - 1 objects are reached, or if a page call of the swap
+/// device fails. It changes nothing that the walk shows.
 pub fn dump_text<W: Walk>(
     alloc: Global,
     walk: &mut W,

@@ -1,4 +1,4 @@
-//! The objects and the registers of a dump, which get their numbers in the walk that shows them.
+//! The objects and the registers of a dump; the objects get their numbers in the walk that shows them.
 ghost use Rattle.std.specs.Prelude.{◌≡◌, ◌<◌, ◌^◌, Some, true, false, length, slice_get, IfOk};
 ghost use Rattle.world_text.specs.writing.Numbering.{IsKnown, IsNumbering, fields_of};
 ghost use Rattle.world_text.specs.writing.Dump.{HasSwapCause};
@@ -18,7 +18,7 @@ pub struct Contents {
     pub registers: Fields,
 }
 
-/// The fields of an object with this many are visited.
+/// Visits the fields of an object with this many.
 fn dumped_fields<W: Walk>(
     alloc: Global,
     walk: &mut W,
@@ -44,7 +44,7 @@ fn dumped_fields<W: Walk>(
     Ok(fields)
 }
 
-/// The car and the cdr of the cons with this number are visited; the cdr was shown when the cons got its number.
+/// Visits the car and the cdr of the cons with this number. The cdr was shown when the cons got its number.
 fn dumped_cons<W: Walk>(
     walk: &mut W,
     visits: &mut Visits,
@@ -65,7 +65,7 @@ fn dumped_cons<W: Walk>(
     Ok(Body::Cons { car, cdr })
 }
 
-/// The fields of a block of this form are visited.
+/// Visits the fields of a block of this form.
 fn dumped_block<W: Walk>(
     alloc: Global,
     walk: &mut W,
@@ -88,7 +88,7 @@ fn dumped_block<W: Walk>(
     })
 }
 
-/// The fields of the object with this number and form are visited.
+/// Visits the fields of the object with this number and form.
 fn dumped_body<W: Walk>(
     alloc: Global,
     walk: &mut W,
@@ -111,7 +111,7 @@ fn dumped_body<W: Walk>(
     }
 }
 
-/// The object with this number is visited.
+/// Visits the object with this number.
 fn dumped_object<W: Walk>(
     alloc: Global,
     walk: &mut W,
@@ -134,7 +134,7 @@ fn dumped_object<W: Walk>(
     })
 }
 
-/// The objects that have numbers are visited, in the order of these, as long as the list goes on.
+/// Visits the objects that have numbers, in the order of these, until none remains; further ones get numbers meanwhile.
 fn dumped_objects<W: Walk>(
     alloc: Global,
     walk: &mut W,
@@ -156,7 +156,7 @@ fn dumped_objects<W: Walk>(
     Ok(objects)
 }
 
-/// The registers are visited.
+/// Visits the registers.
 fn dumped_registers<W: Walk>(
     alloc: Global,
     walk: &mut W,
@@ -180,8 +180,8 @@ fn dumped_registers<W: Walk>(
     Ok(registers)
 }
 
-/// What a dump writes of a walk. Each register is looked at once, and of each object that they reach its form and each field
-/// once. It fails where memory runs out, where 2^32 objects or more are reached, and where the swap fails.
+/// What a dump writes of a walk. Each register is read once, and of each reachable object the form once and each field
+/// once. It fails if memory runs out, if 2^32 objects or more are reached, or if a page call of the swap device fails.
 pub fn contents_of<W: Walk>(alloc: Global, walk: &mut W) -> Result<Contents, DumpFault>
     ensures is { IfOk result (IsWalk (W.graph walk.old)) }
     ensures few { IfOk result (λ contents. length contents.objects < 2 ^ 32) }
@@ -199,8 +199,8 @@ pub fn contents_of<W: Walk>(alloc: Global, walk: &mut W) -> Result<Contents, Dum
     })
 }
 
-/// The objects that the registers reach, in the order of their numbers. It fails where memory runs out, where 2^32 objects
-/// or more are reached, and where the swap fails.
+/// The objects that the registers reach, in the order of their numbers. It fails if memory runs out, if 2^32 objects
+/// or more are reached, or if a page call of the swap device fails.
 pub fn numbering_of<W: Walk>(alloc: Global, walk: &mut W) -> Result<Numbering, DumpFault>
     ensures is { IfOk result (λ numbering. IsNumbering (W.graph walk.old) numbering.keys) }
     ensures known { IfOk result (λ numbering. IsKnown (W.graph walk.old) numbering) }

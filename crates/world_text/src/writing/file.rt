@@ -24,7 +24,7 @@ fn push_head(text: &mut Text, space: &Space, areas: &[AreaRule]) -> Result<(), N
     push_capacity(text, space)
 }
 
-/// The line of the group of this size that begins with these objects, or that of the first where the size is 0.
+/// The line of the group of this size that begins with these objects; if the size is 0, the line of the first object.
 fn push_first(
     text: &mut Text,
     areas: &[AreaRule],
@@ -43,7 +43,7 @@ fn push_first(
     }
 }
 
-/// The lines of objects: each group in one line, and each other object in its own.
+/// The lines of objects: a line for each group, and one for each other object.
 fn push_objects(
     alloc: Global,
     text: &mut Text,
@@ -81,8 +81,8 @@ fn push_roots(text: &mut Text, roots: &[Value]) -> Result<(), NoMemory>
     Ok(())
 }
 
-/// The text of the world file with these lines: what a dump writes, and what compiling writes. In format 2. There are fewer
-/// than 2^32 objects, and as few roots. It fails only where memory runs out.
+/// The text of the world file with these lines, in format 2: what a dump writes, and what compiling writes. There must be fewer
+/// than 2^32 objects, and fewer than 2^32 roots. It fails only if memory runs out.
 #[tactic(auto, using(std::proofs::Common::append_assoc))]
 pub fn file_text(
     alloc: Global,

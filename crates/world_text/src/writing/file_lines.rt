@@ -1,4 +1,4 @@
-//! The lines of a world file, each with its line feed. Where memory runs out a call may have added a part of what it writes.
+//! The lines of a world file, each with its line feed. If memory runs out, a call may have added a part of what it writes.
 ghost use Rattle.std.specs.Prelude.{◌≡◌, ◌≤◌, ◌++◌, [], ◌∷◌, true, take, map, OnOk};
 ghost use Rattle.world_text.specs.writing.Spelling.{AreaLine, CapacityLine, FormatLine, RootLine, RunLine, SpaceLine, spaced, value_text};
 ghost use Rattle.world_text.specs.writing.File.{car_of, object_line, text_of};
@@ -100,7 +100,7 @@ fn car_of(body: &Body) -> Value
     }
 }
 
-/// The cars of conses, each behind a space.
+/// The cars of conses, each after a space.
 #[tactic(auto, using(std::proofs::Common::append_assoc))]
 fn push_cars(text: &mut Text, objects: &[Object]) -> Result<(), NoMemory>
     ensures { OnOk result (text.new ≡ text.old ++ spaced (map value_text (map (λ one. car_of one.body) objects.now))) }

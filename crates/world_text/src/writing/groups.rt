@@ -1,4 +1,4 @@
-//! Groups of conses that stand in one line.
+//! Groups of conses that are written in one line.
 ghost use Rattle.std.specs.Prelude.{◌≡◌, ◌<◌, ◌^◌, ◌+◌, Some, None, length, drop, IfOk};
 ghost use Rattle.lisp_graph.specs.Graph.{is_ref};
 ghost use Rattle.lisp_graph.specs.Groups.{group_size, is_cell, is_nil, sizes_of};
@@ -26,7 +26,7 @@ fn is_ref(number: u64, value: Value) -> bool
     }
 }
 
-/// Whether a cons of charge 3 has the end of a list as its cdr.
+/// Whether this is a cons of charge 3 whose cdr ends a list.
 fn is_tail(object: &Object) -> bool
     ensures { result ≡ is_cell object.now.area is_nil object.now }
 {
@@ -39,7 +39,7 @@ fn is_tail(object: &Object) -> bool
     }
 }
 
-/// Whether a cons of charge 3 refers to this number in its cdr.
+/// Whether this is a cons of charge 3 whose cdr refers to this number.
 fn is_link(object: &Object, next: u64) -> bool
     ensures { result ≡ is_cell object.now.area (is_ref next) object.now }
 {
@@ -52,14 +52,14 @@ fn is_link(object: &Object, next: u64) -> bool
     }
 }
 
-/// A cons that ends a list, or one that leads to such a cons from object to object: their area, and how many they are.
+/// A tail: a cons that ends a list, or conses that lead to such a cons, each to the next object; their area and number.
 #[derive(Clone, Copy)]
 pub struct Tail {
     pub area: u8,
     pub count: u32,
 }
 
-/// How many conses of the area there are up to the tail.
+/// How many conses of the area precede the end of the tail, if the tail is in this area.
 fn counted(tail: Option<Tail>, area: u8) -> Option<u32>
     ensures { result ≡ counted tail area }
 {
@@ -69,7 +69,7 @@ fn counted(tail: Option<Tail>, area: u8) -> Option<u32>
     }
 }
 
-/// What the objects from this place on begin with, where it is known for the next.
+/// The tail that the objects from this index on begin with, given the tail that the next begin with.
 fn tail_at(objects: &[Object], index: usize, next: Option<Tail>) -> Option<Tail>
     requires within { index < length objects.now }
     requires few { length objects.now < 2 ^ 32 }
@@ -91,7 +91,7 @@ fn tail_at(objects: &[Object], index: usize, next: Option<Tail>) -> Option<Tail>
     })
 }
 
-/// How many objects the group has that begins with these.
+/// How many objects are in the group that begins with these.
 fn group_size(count: Option<u32>) -> u32
     ensures { result ≡ group_size count }
 {

@@ -1,8 +1,8 @@
-//! The numbers of objects, from 0 in the order in which they were visited.
+//! The numbers of objects, from 0 on in the order in which the objects were visited.
 ghost use Rattle.std.specs.Prelude.{◌≡◌, ◌<◌, ◌≤◌, ◌^◌, ◌==◌, ◌++◌, [], ◌∷◌, false, length, slice_get, position, OnOk, IfSome, IfNone};
 ghost use Rattle.world_text.specs.writing.Numbering.{is_numbered};
 
-use indexmap::IndexSet;
+use crate::writing::number_table::{entry_at, make_room, set_entry};
 use lisp_graph::Sequence;
 use std::alloc::Global;
 use std::marker::Model;
@@ -11,17 +11,20 @@ use store_word::NoMemory;
 /// Keys of objects, each with its place as its number. There are fewer than 2^32.
 #[derive(Drop)]
 pub struct Keys {
-    keys: IndexSet<u64>,
+    alloc: Global,
+    keys: Vec<u64>,
+    pages: Vec<Sequence<u32>>,
 }
 
 impl Model for Keys {
     ghost use Rattle.std.specs.Prelude.{ℕ, List, length, ◌<◌, ◌^◌};
+    ghost use Rattle.world_text.specs.writing.NumberTable.{HasNumbers};
 
     ghost Value = { List ℕ };
 
-    ghost view = { λ n. n.keys.keys };
+    ghost view = { λ n. n.keys.items };
 
-    ghost invariant = { λ n. length n.keys.keys < 2 ^ 32 };
+    ghost invariant = { λ n. (length n.keys.items < 2 ^ 32) × HasNumbers n.pages.items n.keys.items };
 }
 
 impl Keys {
@@ -29,7 +32,9 @@ impl Keys {
         ensures { result ≡ [] }
     {
         Keys {
-            keys: IndexSet::new(alloc),
+            alloc,
+            keys: Vec::new(alloc),
+            pages: Vec::new(alloc),
         }
     }
 
@@ -45,7 +50,7 @@ impl Keys {
     pub fn contains(&self, key: u64) -> bool
         ensures { result ≡ is_numbered self.now key }
     {
-        self.keys.contains(&key)
+        entry_at(&self.pages, key) != 0
     }
 
     /// The key with this number, or None from the length on.
@@ -58,27 +63,34 @@ impl Keys {
         if number >= self.keys.len() {
             return None;
         }
-        self.keys.get_index(number).copied()
+        self.keys.get(number).copied()
     }
 
-    /// The number of the object with this key, or None where it has none.
+    /// The number of the object with this key, or None if it has none.
     pub fn number_of(&self, key: u64) -> Option<usize>
         ensures is { result ≡ position (λ k. key == k) self.now }
         ensures none { IfNone result (is_numbered self.now key ≡ false) }
     {
-        self.keys.get_index_of(&key)
+        let entry = entry_at(&self.pages, key);
+        if entry == 0 {
+            return None;
+        }
+        Some((entry - 1) as usize)
     }
 
-    /// Gives a key the next number. It is refused where memory runs out, and for the 2^32-th key.
+    /// Gives a key the next number. It fails if memory runs out, and for the 2^32th key.
     fn add(&mut self, key: u64) -> Result<(), NoMemory>
         requires { is_numbered self.old key ≡ false }
         ensures ok { OnOk result (self.new ≡ self.old ++ key ∷ []) }
         ensures small { length self.new < 2 ^ 32 }
     {
-        if self.keys.len() >= u32::MAX as usize {
+        let number = self.keys.len();
+        if number >= u32::MAX as usize {
             return Err(NoMemory);
         }
-        self.keys.insert_full(key)?;
+        make_room(self.alloc, &mut self.pages, key)?;
+        self.keys.push(key)?;
+        set_entry(&mut self.pages, key, number as u32 + 1);
         Ok(())
     }
 }
@@ -91,7 +103,7 @@ pub struct Numbering {
 }
 
 impl Numbering {
-    /// No object was visited yet.
+    /// The numbering before any object is visited.
     pub fn new(alloc: Global) -> Numbering
         ensures keys { result.keys ≡ [] }
         ensures conses { result.conses ≡ [] }
@@ -102,7 +114,7 @@ impl Numbering {
         }
     }
 
-    /// Gives a cons or a block the next number. It fails where memory runs out, and for the 2^32-th object.
+    /// Gives a cons or a block the next number. It fails if memory runs out, and for the 2^32th object.
     pub fn add(&mut self, key: u64, cons: bool) -> Result<(), NoMemory>
         requires { is_numbered self.old.keys key ≡ false }
         ensures keys { OnOk result (self.new.keys ≡ self.old.keys ++ key ∷ []) }

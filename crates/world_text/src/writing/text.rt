@@ -1,4 +1,4 @@
-//! Words of a text that grows. Where memory runs out a call may have added a part of what it writes.
+//! Words of a text that grows. If memory runs out, a call may have added a part of what it writes.
 ghost use Rattle.std.specs.Prelude.{◌≡◌, ◌≤◌, ◌++◌, [], ◌∷◌, decimal, map, length, OnOk};
 ghost use Rattle.std.specs.Fmt.{signed_decimal};
 ghost use Rattle.world_text.specs.writing.Spelling.{kind_text, name_of, spaced, value_text};
@@ -65,7 +65,7 @@ pub fn push_spaced_value(text: &mut Text, value: Value) -> Result<(), NoMemory>
     push_value(text, value)
 }
 
-/// Values, each behind a space.
+/// Values, each after a space.
 #[tactic(auto, using(std::proofs::Common::append_assoc))]
 pub fn push_values(text: &mut Text, values: &[Value]) -> Result<(), NoMemory>
     ensures { OnOk result (text.new ≡ text.old ++ spaced (map value_text values.now)) }
@@ -76,7 +76,7 @@ pub fn push_values(text: &mut Text, values: &[Value]) -> Result<(), NoMemory>
     Ok(())
 }
 
-/// Numbers, each behind a space.
+/// Numbers, each after a space.
 #[tactic(auto, using(std::proofs::Common::append_assoc))]
 pub fn push_numbers(text: &mut Text, numbers: &[u32]) -> Result<(), NoMemory>
     ensures { OnOk result (text.new ≡ text.old ++ spaced (map decimal numbers.now)) }
@@ -87,7 +87,7 @@ pub fn push_numbers(text: &mut Text, numbers: &[u32]) -> Result<(), NoMemory>
     Ok(())
 }
 
-/// How a kind is written.
+/// The word that spells a kind.
 pub fn kind_text(kind: AreaKind) -> &'static [u8]
     ensures { result.now ≡ kind_text kind }
 {
@@ -98,7 +98,7 @@ pub fn kind_text(kind: AreaKind) -> &'static [u8]
     }
 }
 
-/// The name of the area with this number: at most 16 bytes, none where there is no such area.
+/// The name of the area with this number: at most 16 bytes, none if there is no such area.
 pub fn name_of(areas: &[AreaRule], area: u8) -> &[u8]
     ensures is { result.now ≡ name_of areas.now area }
     ensures short { length result.now ≤ 16 }

@@ -13,7 +13,7 @@ use lisp_graph::{Seen, Sequence, Value, Walk};
 use std::alloc::Global;
 use store_word::NoMemory;
 
-/// The objects that were visited, and the cdr of each that is a cons, as the walk showed it. A block has nil in its place.
+/// The objects that were visited, and the cdr of each cons among them as the walk showed it; for a block, nil.
 #[derive(Drop)]
 pub struct Visits {
     pub numbering: Numbering,
@@ -21,7 +21,7 @@ pub struct Visits {
 }
 
 impl Visits {
-    /// No object was visited yet.
+    /// The visits before any object is visited.
     pub fn new(alloc: Global) -> Visits
         ensures keys { result.numbering.keys ≡ [] }
         ensures visits { (graph : KeyedGraph) → AreVisits graph result }
@@ -33,7 +33,7 @@ impl Visits {
     }
 }
 
-/// The cons without a number to which the value refers.
+/// The cons to which the value refers, if it has no number yet.
 fn next_cons(keys: &Keys, value: Seen) -> Option<u64>
     ensures { result ≡ next_cons keys.now value }
 {
@@ -43,7 +43,7 @@ fn next_cons(keys: &Keys, value: Seen) -> Option<u64>
     }
 }
 
-/// A cons gets the next number, and those along its cdrs that have none.
+/// Gives the next numbers to a cons and to the conses along its cdrs, up to the first that has a number.
 fn chain<W: Walk>(walk: &mut W, visits: &mut Visits, key: u64) -> Result<(), DumpFault>
     requires shows { Shows (W.graph walk.old) (a_cons key) }
     requires fresh { is_numbered visits.old.numbering.keys key ≡ false }
@@ -94,7 +94,7 @@ fn block_number(visits: &mut Visits, key: u64) -> Result<u64, NoMemory>
     Ok(number as u64)
 }
 
-/// A value is visited; it is answered with the number of the object to which it refers.
+/// Visits a value; the result has the number of the object to which it refers.
 pub fn visit<W: Walk>(walk: &mut W, visits: &mut Visits, seen: Seen) -> Result<Value, DumpFault>
     requires shows { Shows (W.graph walk.old) seen }
     requires visits { AreVisits (W.graph walk.old) visits.old }

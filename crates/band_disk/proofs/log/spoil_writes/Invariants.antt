@@ -3,7 +3,7 @@ use Rattle.band_disk.specs.Logs.{AreWithin, spoiled, with_writes, writes_in}
 use Rattle.band_disk.specs.Entries.{calls_of, written_size}
 use Rattle.band_disk.proofs.log.spoil_writes.Given as goal
 
--- what is left to write makes the whole
+-- the remaining writes lead to the whole
 abbrev pub invariant-loop-entry : goal.invariant-loop-entry
 invariant-loop-entry l =
     let left = spoiled (writes_in (calls_of (drop l.entry-index l.entries) l.rest)) in

@@ -4,7 +4,7 @@ use Rattle.band_disk.specs.Disks.{overwritten}
 use Rattle.band_disk.proofs.Overwriting.{spoiled_parts}
 use Rattle.band_disk.proofs.overwrite.spoil.Goals as goal
 
--- what was filled, and the rest behind it
+-- what was filled, followed by the rest
 pub returns-clause-items : goal.returns-clause-items
 returns-clause-items c =
     let bytes = c.args.bytes.now in

@@ -1,4 +1,4 @@
-use Rattle.band_run.proofs.Loading.{calm_tells, did_list, stays_on_err}
+use Rattle.band_run.proofs.Loading.{asks_nothing, calm_tells, did_list, stays_on_err}
 use Rattle.band_run.proofs.answers.answer.Goals as goal
 
 pub returns-in-List-clause-did : goal.returns-in-List-clause-did
@@ -11,3 +11,9 @@ returns-in-List-clause-tells g c = calm_tells c.list.result _ c.list.ensures.cal
 
 pub returns-in-List-clause-quiet : goal.returns-in-List-clause-quiet
 returns-in-List-clause-quiet g c = stays_on_err c.list.result _
+
+pub returns-in-List-clause-asks : goal.returns-in-List-clause-asks
+returns-in-List-clause-asks g c = asks_nothing c.list.result _
+
+pub returns-in-List-clause-unasked : goal.returns-in-List-clause-unasked
+returns-in-List-clause-unasked g c = stays_on_err c.list.result _

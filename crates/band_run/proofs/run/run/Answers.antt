@@ -9,7 +9,7 @@ use Rattle.band_run.specs.Steps.{GoesOnAnyway}
 use Rattle.band_run.proofs.Going.{going_more, going_start, ran_stopped}
 use Rattle.band_run.proofs.run.run.Goals as goal
 
--- the commands up to one and with it, and from it on
+-- the commands before one, those up to and including it, and those from it on
 next_done : (commands : List BandCommand) (i : ℕ) (command : BandCommand) → i < length commands → command ≡ get_or commands i command → take (i + 1) commands ≡ take i commands ++ command ∷ []
 next_done commands i command below is = take_more commands i command below ∙ ap (λ (x : BandCommand). take i commands ++ x ∷ []) (sym is)
 
@@ -24,7 +24,7 @@ loop-command-init g c =
     record {
       text = [];
       gathered = subst (λ (p : List ℕ). Gathered (g.K.Sink.stands c.args.sink.now) (g.K.Sink.stands c.args.sink.now) p []) (sym c.requires.pending) (gathered_nothing []);
-      going = going_start D.bytes D.space D.images D.clock D.images_since D.faults g.met.D.BandDisk.only_now c.args.disk.now c.args.store.now c.requires.closed;
+      going = going_start D.bytes D.space D.images D.clock D.images_since D.faults D.changes g.met.D.BandDisk.only_now c.args.disk.now c.args.store.now c.requires.closed;
       usable = λ is. absurd (let off = ap (λ s. s.opened) c.requires.closed in cc);
       sink = refl;
     }
@@ -37,8 +37,8 @@ loop-command-preserved g c =
     record {
       text = inv.text ++ reply_text e.acted.0;
       gathered = gathered_more (reply_text e.acted.0) inv.gathered e.acted.3;
-      going = subst (λ (done : List BandCommand). GoesOnAnyway D.bytes D.space D.images D.clock D.images_since D.faults c.args.disk.now c.act.new.disk c.act.new.store done (inv.text ++ reply_text e.acted.0)) (sym (next_done c.args.commands.now c.loop-command.command-index c.command-item.result (search rules) c.command-item.is))
-          (going_more D.bytes D.space D.images D.clock D.images_since D.faults g.met.D.BandDisk.only_now c.args.disk.now c.loop-command.disk c.act.new.disk c.loop-command.store (take c.loop-command.command-index c.args.commands.now) inv.text inv.going c.command-item.result c.act.new.store e.acted.0 e.acted.1 e.later_disk e.acted.2 e.acted.4);
+      going = subst (λ (done : List BandCommand). GoesOnAnyway D.bytes D.space D.images D.clock D.images_since D.faults D.changes c.args.disk.now c.act.new.disk c.act.new.store done (inv.text ++ reply_text e.acted.0)) (sym (next_done c.args.commands.now c.loop-command.command-index c.command-item.result (search rules) c.command-item.is))
+          (going_more D.bytes D.space D.images D.clock D.images_since D.faults D.changes g.met.D.BandDisk.only_now c.args.disk.now c.loop-command.disk c.act.new.disk c.loop-command.store (take c.loop-command.command-index c.args.commands.now) inv.text inv.going c.command-item.result c.act.new.store e.acted.0 e.acted.1 e.later_disk e.acted.2 e.acted.4 e.acted.5);
       usable = e.usable;
       sink = e.quiet (λ is. cc (is)) ∙ inv.sink;
     }
@@ -50,5 +50,5 @@ returns-in_err-act-clause-ran g c =
     let e = c.in_err-act.ensures in
     let q = err_from_is_err_and c.from_residual.result c.from_residual.ensures.1 in
     let split = next_later c.args.commands.now c.loop-command.command-index c.command-item.result (search rules) c.command-item.is in
-    rw (q.1, q.2) (ran_stopped D.bytes D.space D.images D.clock D.images_since D.faults g.met.D.BandDisk.only_now (g.K.Sink.stands c.args.sink.now) (g.K.Sink.stands c.loop-command.sink) (g.K.Sink.stands c.act.new.sink) c.loop-command.buffer.pending c.act.new.buffer.pending c.args.disk.now c.loop-command.disk c.act.new.disk
+    rw (q.1, q.2) (ran_stopped D.bytes D.space D.images D.clock D.images_since D.faults D.changes g.met.D.BandDisk.only_now (g.K.Sink.stands c.args.sink.now) (g.K.Sink.stands c.loop-command.sink) (g.K.Sink.stands c.act.new.sink) c.loop-command.buffer.pending c.act.new.buffer.pending c.args.disk.now c.loop-command.disk c.act.new.disk
     c.loop-command.store c.act.new.store c.args.commands.now (take c.loop-command.command-index c.args.commands.now) (drop (c.loop-command.command-index + 1) c.args.commands.now) c.command-item.result inv.text c.in_err-act.field-0.0 split inv.going inv.gathered e.later_disk e.acted)

@@ -17,7 +17,7 @@ gate_at-requires g c =
     let l = c.records in
     omega (arith, walk_within (g.D.BandDisk.bytes c.args.disk.now) l.bands.items l.gate l.invariant.walked, ap length l.invariant.reads.bytes_stay)
 
--- what stands at the gate, on the disk as it was
+-- what is at the gate, on the unchanged disk
 pub returns-in-Shut-clause-read : goal.returns-in-Shut-clause-read
 returns-in-Shut-clause-read g c =
     let l = c.records in

@@ -11,6 +11,8 @@ use Rattle.mem_port.proofs.Telling.{answered-if, answers, quiet-then_fault, quie
 use Rattle.mem_port.specs.View.{Quiet, shown}
 use Rattle.transporter.proofs.Marked.{marks-but, marks-read}
 use Rattle.block_store.proofs.Marked.{field_marks}
+use Rattle.transporter.proofs.Moving.{read-writes, writes-moves}
+use Rattle.block_store.proofs.FieldsRead.{field_moves}
 use Rattle.block_store.proofs.fields.set_field.Goals as goal
 
 pub find_field-requires : goal.find_field-requires
@@ -105,3 +107,23 @@ pub returns-clause-marks : goal.returns-clause-marks
 returns-clause-marks g c =
     let at = c.in_ok-at.ensures in
     field_marks _ _ _ c.args.ground.now.table c.args.of.content c.args.index c.in_ok-at.at c.args.value c.requires at.place (stores_nothing-twice at.stays c.in_ok-old.ensures.stays) c.with_cdr.result (ap (λ (w : Parts). w.content) c.with_cdr.ensures) c.in_ok-write.ensures.ok
+
+-- What moves
+
+pub returns-in_err-at-clause-moves : goal.returns-in_err-at-clause-moves
+returns-in_err-at-clause-moves g c = λ fresh. writes-moves (read-writes c.args.ground.now.table c.in_err-at.ensures.stays)
+
+pub returns-in_err-old-clause-moves : goal.returns-in_err-old-clause-moves
+returns-in_err-old-clause-moves g c = λ fresh. writes-moves (read-writes c.args.ground.now.table (stores_nothing-twice c.in_ok-at.ensures.stays c.in_err-old.ensures.stays))
+
+pub returns-in_err-write-clause-moves : goal.returns-in_err-write-clause-moves
+returns-in_err-write-clause-moves g c = λ fresh. writes-moves (read-writes c.args.ground.now.table (stores_nothing-twice (stores_nothing-twice c.in_ok-at.ensures.stays c.in_ok-old.ensures.stays) c.in_err-write.ensures.err))
+
+pub returns-clause-moves : goal.returns-clause-moves
+returns-clause-moves g c = λ fresh.
+    let at = c.in_ok-at.ensures in
+    let read = c.in_ok-old.ensures in
+    let found = ap (λ (ws : List Parts). slice_get ws c.in_ok-at.at) read.stays.words ∙ read.value in
+    let is = c.with_cdr.ensures ∙ ap (λ (code : CdrCode). record c.args.value { cdr = code }) c.cdr_code.ensures in
+    field_moves _ c.args.ground.now.table c.args.of.content c.args.index c.in_ok-at.at c.args.value c.requires at.place (λ a ref old. fresh (a, ref, old))
+    _ _ (stores_nothing-twice at.stays read.stays) c.in_ok-old.old c.with_cdr.result found is c.in_ok-write.ensures.ok

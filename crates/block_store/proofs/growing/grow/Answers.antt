@@ -98,7 +98,7 @@ note_husk-requires-clause-enough g c =
     old_charged _ _ c.args.of c.args.wanted c.requires.can c.requires.few c.in_ok-head.head head.head _ head.stays c.class_of_live-class.result c.class_of_live-class.ensures _ _ _ p.opens c.grown_length-wide.result c.grown_length-wide.ensures c.place_for-placed.result.at p.end
     (g.M.Memory.seen c.lay_anew.new.mem) c.in_ok-lay_anew.ensures.ok c.commit.new.self.table (c.commit.ensures.table _ end)
 
--- What the call leaves
+-- The state after the call
 
 has_grown : (g : Over) (c : After-known-2 g) → LeavesGrown (g.M.Memory.seen c.args.ground.now.mem) c.args.ground.now.table (g.M.Memory.seen c.note_husk.new.self.mem) c.note_husk.new.self.table c.args.of.content c.args.wanted c.place_for-placed.result.at
 has_grown g c =

@@ -13,6 +13,6 @@ invariant-loop-done g l = record {
   cost : l.steps ≡ l.fn.steps + l.done;
 }
 
--- as many words are left
+-- the number of words that remain
 abbrev pub decreases-loop-done : goal.decreases-loop-done
 decreases-loop-done g l = l.count - l.done

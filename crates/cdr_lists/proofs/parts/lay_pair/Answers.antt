@@ -47,7 +47,7 @@ returns-clause-set g c =
 pub returns-clause-relaid : goal.returns-clause-relaid
 returns-clause-relaid g c =
     let f = c.in_ok-car.ensures in
-    on_ok_weaker c.lay_settled.result (cell_relaid f.word f.written f.words f.table f.others) c.lay_settled.ensures.laid
+    on_ok_weaker c.lay_settled.result (cell_relaid f.word f.written f.words f.moves f.table f.others) c.lay_settled.ensures.laid
 
 pub returns-clause-fault : goal.returns-clause-fault
 returns-clause-fault g c =

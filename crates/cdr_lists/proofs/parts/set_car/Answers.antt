@@ -7,7 +7,7 @@ use Rattle.transporter.specs.Preserving.{FreshOn}
 use Rattle.transporter.proofs.Preserved.{fresh-value, read-stays_fresh, read-preserves, stored-preserves, preserves-then}
 use Rattle.cdr_lists.specs.Faults.{is_fault}
 use Rattle.cdr_lists.proofs.Asked.{asked-then, asked-then_fault}
-use Rattle.cdr_lists.proofs.Addressed.{sets_car, settable_at}
+use Rattle.cdr_lists.proofs.Addressed.{readable_at, sets_car, settable_at}
 use Rattle.cdr_lists.proofs.Calm.{still_stays_fresh}
 use Rattle.cdr_lists.proofs.Finding.{can_find, code_after}
 use Rattle.cdr_lists.proofs.PartsSet.{car_set, car_written, store_inside}
@@ -15,6 +15,8 @@ use Rattle.transporter.specs.Marking.{MarksFollowBut}
 use Rattle.transporter.proofs.Marked.{marks-but, marks-read, marks-stored, marks-then_but}
 use Rattle.cdr_lists.proofs.Calm.{final_plain, young_stored}
 use Rattle.cdr_lists.proofs.Finding.{same_place}
+use Rattle.transporter.proofs.Moving.{moves-after_read, read-writes, stored-writes, writes-moves}
+use Rattle.cdr_lists.proofs.Settling.{car_live}
 use Rattle.cdr_lists.proofs.parts.set_car.Goals as goal
 
 pub read_cons-requires : goal.read_cons-requires
@@ -91,3 +93,18 @@ returns-clause-marks g c = λ at there.
     let here = marks-then_but (marks-read t read.stays)
     (marks-stored t c.in_ok-cons.cons.at c.with_cdr.result c.in_ok-write.ensures.ok (store_inside read.stays read.cons.place.last.inside) (final_plain read.cons.place.last read.stays) (young_stored t c.with_cdr.result c.args.value (ap (λ (w : Parts). w.content) c.with_cdr.ensures) c.requires.young)) in
     subst (MarksFollowBut (g.M.Memory.seen c.args.ground.now.mem) t (g.M.Memory.seen c.write.new.self) t) (same_place _ c.args.of.content c.in_ok-cons.cons.at at read.cons.place there) here
+
+-- What moves
+
+pub returns-in_err-cons-clause-moves : goal.returns-in_err-cons-clause-moves
+returns-in_err-cons-clause-moves g c = writes-moves (read-writes c.args.ground.now.table c.in_err-cons.ensures.stays)
+
+pub returns-in_err-write-clause-moves : goal.returns-in_err-write-clause-moves
+returns-in_err-write-clause-moves g c = writes-moves (read-writes c.args.ground.now.table (stores_nothing-twice c.in_ok-cons.ensures.stays c.in_err-write.ensures.err))
+
+pub returns-clause-moves : goal.returns-clause-moves
+returns-clause-moves g c =
+    let read = c.in_ok-cons.ensures in
+    let p = read.cons.place in
+    let alive = car_live _ _ _ p.reference (readable_at _ _ c.args.of p.reference p.is c.requires.can) read.stays c.in_ok-cons.cons.at p.final p.last in
+    moves-after_read read.stays (writes-moves (stored-writes c.in_ok-cons.cons.at c.with_cdr.result alive (store_inside read.stays p.last.inside) (ap (λ (w : Parts). w.cdr) c.with_cdr.ensures ∙ sym (code_after read.cons read.stays)) c.in_ok-write.ensures.ok.words))

@@ -9,19 +9,20 @@ use Rattle.transporter.proofs.Alive.{live-read}
 use Rattle.transporter.proofs.Preserved.{fresh-value, read-stays_fresh, read-preserves, stored-preserves, preserves-then}
 use Rattle.cdr_lists.specs.Faults.{is_fault}
 use Rattle.cdr_lists.proofs.Asked.{asked-then, asked-then_fault}
-use Rattle.cdr_lists.proofs.Addressed.{keeps_at, keeps_cons, sets_cdr, sets_cdr_at, settable_at, settable_word}
+use Rattle.cdr_lists.proofs.Addressed.{keeps_at, keeps_cons, readable_at, sets_cdr, sets_cdr_at, settable_at, settable_word}
 use Rattle.cdr_lists.proofs.Calm.{still_stays_fresh}
 use Rattle.cdr_lists.proofs.Finding.{can_find, code_after, reads_keep_cons}
 use Rattle.cdr_lists.proofs.PartsSet.{on_err, cell_at_most, can_set_there, sets_cdr_there, keeps_cons_there, second_inside, cdr_set, cdr_written, no_cell_there, no_pair_there, relaid_there}
 use Rattle.transporter.specs.Marking.{MarksFollowBut}
-use Rattle.transporter.proofs.Moving.{moves-after_read, read-once}
+use Rattle.transporter.proofs.Moving.{moves-after_read, read-once, stored-writes, writes-moves}
 use Rattle.transporter.proofs.Marked.{marks-read, marks-stored, marks-then, marks-then_but}
 use Rattle.cdr_lists.proofs.Calm.{young_stored}
 use Rattle.cdr_lists.proofs.Finding.{code_there, same_place}
-use Rattle.cdr_lists.proofs.PartsSet.{marks_cdr, no_pair_table, second_plain}
+use Rattle.cdr_lists.proofs.PartsSet.{marks_cdr, no_pair_else, second_plain}
+use Rattle.cdr_lists.proofs.Settling.{cdr_live}
 use Rattle.cdr_lists.proofs.parts.set_cdr.Goals as goal
 
--- Where the cons isn't found
+-- If the cons isn't found
 
 pub read_cons-requires : goal.read_cons-requires
 read_cons-requires g c = can_find _ _ c.args.of c.requires.can
@@ -279,4 +280,21 @@ returns-in_err-lay_pair-in_default-clause-moves g c = on_err c.from_residual-in_
 pub returns-in_ok-lay_pair-in_default-clause-table : goal.returns-in_ok-lay_pair-in_default-clause-table
 returns-in_ok-lay_pair-in_default-clause-table g c =
     let cons = c.in_ok-cons.ensures.cons in
-    no_pair_table (g.M.Memory.seen c.args.ground.now.mem) c.args.of.content c.in_ok-cons.cons.at cons.place (λ e. c.in_default.not-Normal (sym cons.code ∙ e))
+    no_pair_else (g.M.Memory.seen c.args.ground.now.mem) c.args.of.content c.in_ok-cons.cons.at cons.place (λ e. c.in_default.not-Normal (sym cons.code ∙ e))
+
+pub returns-in_ok-lay_pair-in_default-clause-stored : goal.returns-in_ok-lay_pair-in_default-clause-stored
+returns-in_ok-lay_pair-in_default-clause-stored g c =
+    let cons = c.in_ok-cons.ensures.cons in
+    no_pair_else (g.M.Memory.seen c.args.ground.now.mem) c.args.of.content c.in_ok-cons.cons.at cons.place (λ e. c.in_default.not-Normal (sym cons.code ∙ e))
+
+pub returns-in_ok-write-in-Normal-clause-stored : goal.returns-in_ok-write-in-Normal-clause-stored
+returns-in_ok-write-in-Normal-clause-stored g c = λ to there normal.
+    let cons = c.in_ok-cons.ensures in
+    let p = cons.cons.place in
+    let second = c.in_ok-second-in-Normal.ensures in
+    let reads = stores_nothing-twice cons.stays second.stays in
+    let code = code_after cons.cons reads ∙ c.in-Normal.is in
+    let found = word_at-read (g.M.Memory.seen c.read.new.self).words _ (c.in_ok-cons.cons.at + 1) _ (sym second.stays.words) second.value in
+    let alive = cdr_live _ _ _ p.reference (readable_at _ _ c.args.of p.reference p.is c.requires.can) reads c.in_ok-cons.cons.at p.final p.last code (c.in_ok-cons.cons.at + 1) (omega arith) in
+    let inside = second_inside _ _ _ _ (settable_at _ _ c.args.of c.args.value p.reference p.is c.requires) _ reads c.in_ok-cons.cons.at p.final p.last code in
+    moves-after_read reads (writes-moves (stored-writes (c.in_ok-cons.cons.at + 1) c.with_cdr.result alive inside (ap (λ (w : Parts). w.cdr) c.with_cdr.ensures ∙ c.cdr_code.ensures ∙ sym (ap (λ (w : Parts). w.cdr) found)) c.in_ok-write-in-Normal.ensures.ok.words))

@@ -19,7 +19,7 @@ use Rattle.cdr_lists.proofs.Refused.{refuses_none}
 use Rattle.cdr_lists.proofs.Settling.{reads_cdr, cdr_live, cdr_settleable, cdr_fetched, cdr_faulted, settled_at, list_fresh}
 use Rattle.cdr_lists.proofs.settled.cdr.Goals as goal
 
--- Where the cons isn't found
+-- If the cons isn't found
 
 pub read_cons-requires : goal.read_cons-requires
 read_cons-requires g c = can_find _ _ c.args.of c.requires

@@ -1,6 +1,6 @@
 use Rattle.std.proofs.Common.{ap, sym, ◌∙◌}
 use Rattle.heap_collect.proofs.Freed.{frees_nothing, frees_then}
-use Rattle.heap_collect.proofs.SilentSteps.{comes_alone, done_quiet, done_then, full_again, low_levels, never_alone, placed_quiet, placed_then, prepares, same_full, stands_after}
+use Rattle.heap_collect.proofs.SilentSteps.{comes_alone, done_quiet, done_then, full_again, low_levels, never_alone, not_due, placed_quiet, placed_then, prepares, same_full, stands_after}
 use Rattle.heap_collect.proofs.silent.prepare.Goals as goal
 
 pub flip_alone-requires : goal.flip_alone-requires
@@ -14,6 +14,16 @@ returns-then-has_capacity-clause-silent g c registers k s x same count =
     let r = c.reclaim_alone.ensures.reclaims registers k s x in
     let f = c.flip_alone.ensures.flips registers r.0 r.1 r.2 (r.4 ∙ same) count in
     prepares (g.M.Memory.seen c.flip_alone.new.ground.mem) c.flip_alone.new.ground.table c.flip_alone.new.scan registers s r.1 f.0 r.0 c.args.space.now same (sym c.has_capacity.ensures ∙ c.if-has_capacity.true) r.3 r.4 f.2 f.1
+
+pub returns-then-has_capacity-clause-memory : goal.returns-then-has_capacity-clause-memory
+returns-then-has_capacity-clause-memory g c never =
+    c.flip_alone.ensures.memory ∙ ap (λ ground. ground.mem) (c.reclaim_alone.ensures.still (not_due _ _ (sym c.has_capacity.ensures ∙ c.if-has_capacity.true) never))
+
+pub returns-then-has_capacity-clause-rests : goal.returns-then-has_capacity-clause-rests
+returns-then-has_capacity-clause-rests g c never still =
+    let same = comes_alone (g.M.Memory.seen c.args.ground.now.mem) c.args.ground.now.table c.reclaim_alone.new.ground.table c.args.scan.now c.args.space.now c.requires.standing
+    (sym c.has_capacity.ensures ∙ c.if-has_capacity.true) c.reclaim_alone.ensures.idle c.reclaim_alone.ensures.going c.reclaim_alone.ensures.totals in
+    (c.flip_alone.ensures.still (same ∙ still)).0 ∙ c.reclaim_alone.ensures.still (not_due _ _ (sym c.has_capacity.ensures ∙ c.if-has_capacity.true) never)
 
 pub returns-then-has_capacity-clause-done : goal.returns-then-has_capacity-clause-done
 returns-then-has_capacity-clause-done g c =

@@ -1,6 +1,6 @@
 use Rattle.std.proofs.Common.{inl, inr, refl, sym, ◌∙◌}
 use Rattle.heap_collect.proofs.Freed.{frees_nothing}
-use Rattle.heap_collect.proofs.SilentSteps.{aim_none, aim_some, done_here, no_reclaim, reclaim_silent, same_totals}
+use Rattle.heap_collect.proofs.SilentSteps.{aim_gone, aim_none, aim_some, done_here, no_reclaim, reclaim_silent, same_totals}
 use Rattle.heap_collect.proofs.silent.reclaim_alone.Goals as goal
 use Rattle.heap_collect.proofs.silent.reclaim_alone.Goals.{else-is_over-via-then-is_over+else-is_some, else-is_over-via-else-is_over}
 
@@ -11,6 +11,11 @@ returns-then-is_some-clause-reclaims g c registers k s x =
     (aim_some t.aim c.condemned.result c.is_some.result c.condemned.ensures c.is_some.ensures c.if-is_some.true) (sym c.is_over.ensures ∙ c.if-is_over.true) in
     let r = c.end_collection.ensures.reclaims c.args.scan.now registers k s o.0 x o.1 o.2 in
     (r.0, r.1, r.2, reclaim_silent s r.1 o.0 o.1 o.2 r.3, r.3.space)
+
+pub returns-then-is_some-clause-still : goal.returns-then-is_some-clause-still
+returns-then-is_some-clause-still g c never =
+    let t = c.args.ground.now.table in
+    absurd (aim_some t.aim c.condemned.result c.is_some.result c.condemned.ensures c.is_some.ensures c.if-is_some.true (aim_gone c.args.scan.now.over t.aim (sym c.is_over.ensures ∙ c.if-is_over.true) never))
 
 pub returns-then-is_some-clause-totals : goal.returns-then-is_some-clause-totals
 returns-then-is_some-clause-totals g c = same_totals c.args.ground.now.table c.end_collection.new.ground.table c.end_collection.ensures.freed

@@ -4,10 +4,10 @@ use Rattle.inside_run.proofs.Showing.{shows_nothing, shows_stopped, shows_whole}
 use Rattle.inside_run.proofs.top.answer_shown.Goals as goal
 
 pub returns-in-Err-clause-ran : goal.returns-in-Err-clause-ran
-returns-in-Err-clause-ran g c = shows_nothing (g.S.Source.left c.args.source.now) c.args.machine.now.heap c.args.machine.now.faults c.report.result c.report.ensures.wrote
+returns-in-Err-clause-ran g c = shows_nothing (g.S.Source.left c.args.source.now) c.args.machine.now.heap c.args.machine.now.faults c.report.result (c.idle_has_no_world.ensures c.requires) c.report.ensures.wrote
 
 pub returns-in-Err-new-clause-ran : goal.returns-in-Err-new-clause-ran
-returns-in-Err-new-clause-ran g c = shows_nothing (g.S.Source.left c.args.source.now) c.args.machine.now.heap c.args.machine.now.faults c.report-in-Err-new.result c.report-in-Err-new.ensures.wrote
+returns-in-Err-new-clause-ran g c = shows_nothing (g.S.Source.left c.args.source.now) c.args.machine.now.heap c.args.machine.now.faults c.report-in-Err-new.result (c.idle_has_no_world.ensures c.requires) c.report-in-Err-new.ensures.wrote
 
 pub returns-in-Ok-run_trace-clause-ran : goal.returns-in-Ok-run_trace-clause-ran
 returns-in-Ok-run_trace-clause-ran g c =

@@ -6,6 +6,7 @@ returns c = record {
   words_apart = misread.words_apart;
   chain_is_full = misread.chain_is_full;
   null_above = misread.null_above;
+  husks_are_few = misread.husks_are_few;
   page_is_marked = misread.page_is_marked;
   none_is_free = misread.none_is_free;
   old_is_left = misread.old_is_left;

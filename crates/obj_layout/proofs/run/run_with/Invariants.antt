@@ -6,7 +6,7 @@ use Rattle.obj_layout.specs.declared.run.TheConstants.{RUN_LIMIT}
 use Rattle.obj_layout.proofs.Running.{Found}
 use Rattle.obj_layout.proofs.run.run_with.Given as goal
 
--- so many cells of the run were found, and the word is that of the last
+-- this number of cells of the run were found, and the word is that of the last
 abbrev pub invariant-loop-behind : goal.invariant-loop-behind
 invariant-loop-behind g l = record {
   found : Found (g.M.Memory.seen l.fn.mem).words l.at l.cells;

@@ -7,12 +7,12 @@ use Rattle.replay_run.proofs.input.answer_input.Goals as goal
 pub returns-in-Err-clause-ran : goal.returns-in-Err-clause-ran
 returns-in-Err-clause-ran g c =
     ran_finish (g.E.Engine.faults c.args.engine.now) (g.E.Engine.faults c.args.engine.now) (Err (Tell Memory)) c.report.result (λ e. absurd (cc (e))) (λ e. absurd (cc (e)))
-    (ran_nothing (g.S.Source.left c.args.source.now) (g.E.Engine.stands c.args.engine.now) (g.E.Engine.faults c.args.engine.now - g.E.Engine.faults c.args.engine.now) (omega arith)) c.report.ensures.wrote
+    (ran_nothing (g.S.Source.left c.args.source.now) (g.E.Engine.stands c.args.engine.now) (g.E.Engine.faults c.args.engine.now - g.E.Engine.faults c.args.engine.now) (omega arith) (c.idle_has_no_world.ensures c.requires)) c.report.ensures.wrote
 
 pub returns-in-Err-new-clause-ran : goal.returns-in-Err-new-clause-ran
 returns-in-Err-new-clause-ran g c =
     ran_finish (g.E.Engine.faults c.args.engine.now) (g.E.Engine.faults c.args.engine.now) (Err (Tell Memory)) c.report-in-Err-new.result (λ e. absurd (cc (e))) (λ e. absurd (cc (e)))
-    (ran_nothing (g.S.Source.left c.args.source.now) (g.E.Engine.stands c.args.engine.now) (g.E.Engine.faults c.args.engine.now - g.E.Engine.faults c.args.engine.now) (omega arith)) c.report-in-Err-new.ensures.wrote
+    (ran_nothing (g.S.Source.left c.args.source.now) (g.E.Engine.stands c.args.engine.now) (g.E.Engine.faults c.args.engine.now - g.E.Engine.faults c.args.engine.now) (omega arith) (c.idle_has_no_world.ensures c.requires)) c.report-in-Err-new.ensures.wrote
 
 pub returns-clause-ran : goal.returns-clause-ran
 returns-clause-ran g c = ran_finish (g.E.Engine.faults c.args.engine.now) (g.E.Engine.faults c.run_trace-outcome.new.engine) c.run_trace-outcome.result c.finish.result c.run_trace-outcome.ensures.read c.run_trace-outcome.ensures.swap c.run_trace-outcome.ensures.ran c.finish.ensures.wrote

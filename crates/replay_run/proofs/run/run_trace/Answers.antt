@@ -1,4 +1,4 @@
-use Rattle.std.proofs.Common.{◌∙◌, arith, inl, inr, refl, sym}
+use Rattle.std.proofs.Common.{◌∙◌, ap, arith, inl, inr, refl, sym}
 use Rattle.line_input.proofs.Going.{falls}
 use Rattle.input_verdict.proofs.Accepted.{next_bytes}
 use Rattle.replay_run.proofs.Going.{going_start, going_filled, passes_accepted}
@@ -40,11 +40,11 @@ returns-in-Err-answer_line-clause-ran g c =
     elim c.in-Err-answer_line.ensures.stopped [
       | inl r ↦
           rw (r.stops, r.still.0, r.still.1, r.still.2)
-          (ran_judge going c.loop-found.invariant.place e.end c.enough_if-enough.result c.in-Ok-Some.found r.trouble r.place' many found (rw c.bytes.ensures.value at r.judged) r.early)
+          (ran_judge going c.loop-found.invariant.place e.end c.enough_if-enough.result c.in-Ok-Some.found r.trouble r.place' many found (rw c.bytes.ensures.value at r.judged) r.early (λ none. ap (λ e. g.E.Engine.loaded e) (c.loop-found.invariant.going.idle_before none).1 ∙ c.idle_has_no_world.ensures c.requires.idle))
       | inr h ↦
           let judged = rw c.bytes.ensures.value at h.accepted in
           let p = passes_accepted c.next_line.new.reader c.enough_if-enough.result c.in-Ok-Some.found c.loop-found.place _ c.loop-found.invariant.place.counts.within many judged found in
-          rw h.stops (ran_stopped going c.loop-found.invariant.place e.end c.in-Ok-Some.found p _ judged (g.E.Engine.faults c.answer_line.new.engine) h.event h.halt refl h.acted)
+          rw h.stops (ran_stopped going c.loop-found.invariant.place e.end c.in-Ok-Some.found p _ judged (g.E.Engine.faults c.answer_line.new.engine) h.event h.halt refl h.unloaded h.acted)
     ]
 
 pub loop-found-smaller : goal.loop-found-smaller

@@ -14,6 +14,6 @@ invariant-loop-done g l = record {
   cost : l.steps ≡ l.fn.steps + 2 * l.done;
 }
 
--- as many words are left
+-- fewer words remain
 abbrev pub decreases-loop-done : goal.decreases-loop-done
 decreases-loop-done g l = l.count - l.done

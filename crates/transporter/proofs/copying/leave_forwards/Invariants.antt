@@ -3,7 +3,7 @@ use Rattle.mem_port.specs.View.{Quiet, shown}
 use Rattle.transporter.specs.Writes.{Writes, forward_to}
 use Rattle.transporter.proofs.copying.leave_forwards.Given as goal
 
--- the forwards so far are left
+-- the forwards so far are written
 abbrev pub invariant-loop-i : goal.invariant-loop-i
 invariant-loop-i g l = record {
   forwards : Writes (g.M.Memory.seen l.fn.mem) (g.M.Memory.seen l.mem) l.at l.i (λ i. forward_to (l.to + i));

@@ -5,7 +5,7 @@ use Rattle.index_lists.specs.Chains.{last_of}
 use Rattle.area_space.specs.Table.{Table, chain, live, slot_of, used_of}
 use Rattle.area_space.proofs.ground.Ground.place.Goals as goal
 
--- where words don't fit behind a region, it is more than half full
+-- if words don't fit after the used end of a region, it is more than half full
 half_full : (t : Table) (area level words : ℕ) → words ≤ 2048 → ((r : ℕ) → last_of (chain t (live (slot_of t area level))) ≡ Some r → 4096 < used_of t r + words)
     → (r : ℕ) → last_of (chain t (live (slot_of t area level))) ≡ Some r → 2048 < used_of t r
 half_full t area level words few full r is = let more = full r is in omega arith

@@ -6,7 +6,7 @@ use Rattle.band_disk.proofs.memory.BandMemory.make_durable.Goals as goal
 pub lay-requires-clause-within : goal.lay-requires-clause-within
 lay-requires-clause-within c = within_more c.self.inside.room _ _ _ c.self.invariant.2 c.self.invariant.0.within
 
--- what is read is durable now
+-- now what is read is durable
 pub invariant_of-self : goal.invariant_of-self
 invariant_of-self c =
     (kept_sync _ _ _ _ _ _ c.self.invariant.0 _ _ c.note_sync.ensures c.lay.ensures.items, c.self.invariant.1, omega (arith, c.self.invariant.2, c.lay.ensures.capacity))

@@ -12,7 +12,7 @@ pub replace-requires : goal.replace-requires
 replace-requires c =
     omega (arith, ap length (c.deref.ensures.value ∙ c.leave.ensures.items), left_short _ _ _ _ _ _ c.self.invariant.0, c.self.invariant.1)
 
--- nothing is left to sync
+-- everything is synced
 pub invariant_of-self-2 : goal.invariant_of-self-2
 invariant_of-self-2 c =
     let inside = c.self.inside in

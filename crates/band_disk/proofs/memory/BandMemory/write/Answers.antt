@@ -4,7 +4,7 @@ use Rattle.band_disk.specs.Memory.{LogInvariant}
 use Rattle.band_disk.proofs.Invariant.{kept_write}
 use Rattle.band_disk.proofs.memory.BandMemory.write.Goals as goal
 
--- one write more stands in the log, and in the bytes as read
+-- there is one more write in the log, and in the bytes as read
 pub invariant_of-self : goal.invariant_of-self
 invariant_of-self c =
     let inside = c.self.inside in

@@ -4,7 +4,7 @@ use Rattle.band_store.specs.Directory.{is_ordered}
 use Rattle.band_store.proofs.Records.{length-put, ordered_put}
 use Rattle.band_store.proofs.store.BandStore.add.Goals as goal
 
--- one name more at most, in its place
+-- at most one more name, at its position
 pub invariant_of-self-2 : goal.invariant_of-self-2
 invariant_of-self-2 c =
     let bands = c.self.inside.bands.items in

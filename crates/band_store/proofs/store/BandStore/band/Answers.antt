@@ -7,7 +7,7 @@ use Rattle.band_store.proofs.store.BandStore.band.Goals as goal
 pub returns-then-index-count : goal.returns-then-index-count
 returns-then-index-count c = sym (size_past c.args.self.now.bands c.args.index (omega (arith, c.if-index-count.true, c.count.ensures)))
 
--- the band that was read is the one at the place
+-- the band that was read is the one at the position
 pub returns : goal.returns
 returns c =
     let read = c.index-band.result.now in

@@ -11,7 +11,7 @@ invariant_of-self-2 g c =
     let read = c.in_ok-gate.ensures.read in
     (ap is_ordered read.2 ∙ ordered_index read.0, omega (arith, c.in-Ok.ensures.0, c.len.ensures, c.read_directory.new.bands.ok.0))
 
--- what was refused has one cause
+-- a refusal has one cause
 pub returns-in_err-gate-clause-holds : goal.returns-in_err-gate-clause-holds
 returns-in_err-gate-clause-holds g c saves holds =
     let bytes = g.D.BandDisk.bytes c.args.disk.now in
@@ -22,7 +22,7 @@ returns-in_err-gate-clause-damaged g c at damaged =
     let bytes = g.D.BandDisk.bytes c.args.disk.now in
     damaged_answer bytes at c.from_residual.result (search rules) (search rules) damaged
 
--- the disk holds what it held, and nothing is left to sync
+-- the disk contains what it contained, and everything is synced
 pub returns-clause-opened : goal.returns-clause-opened
 returns-clause-opened g c =
     let read = c.in_ok-gate.ensures.read in

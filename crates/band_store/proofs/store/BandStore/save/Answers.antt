@@ -15,7 +15,7 @@ write_record-requires-clause-place g c =
     let ready = c.requires (writable c.args.self.now c.room.result (record { name = c.args.name.now; text = c.args.text.now }) c.in_ok-gate.gate way.may).opened in
     omega (arith, gate, ready.1.here.next, gate_within ready.0 _ ready.1.here.holds)
 
--- the record stands whole behind its open gate
+-- the whole record follows its open gate
 pub returns-in-Ok-clause-saved : goal.returns-in-Ok-clause-saved
 returns-in-Ok-clause-saved g c saves ready =
     let way = under_way c.args.self.now c.room.result c.in_ok-gate.gate c.args.name.now c.args.text.now _ _ c.deref.result.now c.as_bytes-bytes.ensures.is c.as_slice-text.ensures c.as_bytes-bytes.ensures.name c.in_ok-gate.ensures (c.deref.ensures.value ∙ c.in_ok-record.ensures) in

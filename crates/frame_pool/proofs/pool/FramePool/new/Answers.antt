@@ -1,7 +1,9 @@
-use Rattle.std.proofs.Common.{ℕ, List, [], ◌∷◌, ◌++◌, sym, ◌∙◌, ap, subst, arith, rules}
+use Rattle.std.proofs.lemmas.List.{length-replicate}
+use Rattle.store_word.specs.Words.{null_word}
+use Rattle.std.proofs.Common.{ℕ, ◌*◌, length, List, [], ◌∷◌, ◌++◌, sym, ◌∙◌, ap, subst, arith, rules}
 use Rattle.index_lists.specs.Chains.{Chains, IsFree, with_list, list_at}
 use Rattle.frame_pool.proofs.Starting.{filled_free, range_more, fresh_kept}
-use Rattle.frame_pool.proofs.Keeping.{pool_sound}
+use Rattle.frame_pool.proofs.Keeping.{pool_sound, latest-none}
 use Rattle.frame_pool.proofs.pool.FramePool.new.Goals as goal
 
 pub push_back-requires-clause-free : goal.push_back-requires-clause-free
@@ -15,9 +17,11 @@ loop-frame-preserved c = record {
 }
 
 pub invariant_of-result : goal.invariant_of-result
-invariant_of-result c =
-    fresh_kept _ c.args.frames c.loop-frame.frame _ _ _ c.loop-frame.invariant.filled (omega arith) c.requires c.loop-frame.invariant.sound (search rules) (search rules) (search rules)
+invariant_of-result c = (
+  fresh_kept _ c.args.frames c.loop-frame.frame _ _ _ c.loop-frame.invariant.filled (omega arith) c.requires c.loop-frame.invariant.sound (search rules) (search rules) (ap length c.in_ok-words.ensures ∙ length-replicate (c.args.frames * 256) null_word),
+  latest-none _ _ 0 (ap (λ (v : Chains). list_at v 1) c.loop-frame.invariant.filled),
+)
 
 pub returns-clause-sound : goal.returns-clause-sound
 returns-clause-sound c =
-    pool_sound _ _ _ _ (fresh_kept _ c.args.frames c.loop-frame.frame _ _ _ c.loop-frame.invariant.filled (omega arith) c.requires c.loop-frame.invariant.sound (search rules) (search rules) (search rules))
+    pool_sound _ _ _ _ (fresh_kept _ c.args.frames c.loop-frame.frame _ _ _ c.loop-frame.invariant.filled (omega arith) c.requires c.loop-frame.invariant.sound (search rules) (search rules) (ap length c.in_ok-words.ensures ∙ length-replicate (c.args.frames * 256) null_word))

@@ -2,7 +2,7 @@ use Rattle.frame_pool.proofs.Keeping.{pool_sound, inside_if_used}
 use Rattle.frame_pool.proofs.pool.FramePool.oldest.Goals as goal
 
 pub returns-clause-sound : goal.returns-clause-sound
-returns-clause-sound c = rw (← c.self.view_is) (pool_sound _ _ _ _ c.self.invariant)
+returns-clause-sound c = rw (← c.self.view_is) (pool_sound _ _ _ _ c.self.invariant.0)
 
 pub returns-clause-inside : goal.returns-clause-inside
-returns-clause-inside c = rw (← c.self.view_is) (inside_if_used _ _ (pool_sound _ _ _ _ c.self.invariant) c.front.ensures.listed)
+returns-clause-inside c = rw (← c.self.view_is) (inside_if_used _ _ (pool_sound _ _ _ _ c.self.invariant.0) c.front.ensures.listed)

@@ -3,4 +3,4 @@ use Rattle.frame_pool.proofs.Keeping.{pool_sound, written_kept}
 use Rattle.frame_pool.proofs.pool.FramePool.set_tag.Goals as goal
 
 pub returns-clause-sound : goal.returns-clause-sound
-returns-clause-sound c = pool_sound _ _ _ _ (written_kept _ _ _ _ _ _ _ c.self.invariant refl (length-set _ _ _) refl)
+returns-clause-sound c = pool_sound _ _ _ _ (written_kept _ _ _ _ _ _ _ c.self.invariant.0 refl (length-set _ _ _) refl)

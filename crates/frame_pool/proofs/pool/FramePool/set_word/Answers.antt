@@ -1,6 +1,6 @@
-use Rattle.std.proofs.Common.{refl, length-set}
+use Rattle.std.proofs.Common.{length, refl, ap, ◌∙◌, length-set}
 use Rattle.frame_pool.proofs.Keeping.{pool_sound, written_kept}
 use Rattle.frame_pool.proofs.pool.FramePool.set_word.Goals as goal
 
 pub returns-clause-sound : goal.returns-clause-sound
-returns-clause-sound c = pool_sound _ _ _ _ (written_kept _ _ _ _ _ _ _ c.self.invariant refl refl (length-set _ _ _))
+returns-clause-sound c = pool_sound _ _ _ _ (written_kept _ _ _ _ _ _ _ c.self.invariant.0 refl refl (ap length c.set.ensures ∙ length-set _ _ _))

@@ -1,31 +1,45 @@
-use Rattle.std.proofs.Common.{sym, ◌∙◌}
-use Rattle.frame_pool.proofs.Keeping.{pool_sound, touched_kept, with_latest-last, same_option}
+use Rattle.std.proofs.Common.{ℕ, Some, ap, sym, ◌∙◌, arith}
+use Rattle.std.proofs.lemmas.List.{get_or_default}
+use Rattle.index_lists.specs.Chains.{Chains, list_at}
+use Rattle.index_lists.proofs.Callers.{list_at-with_list_same}
+use Rattle.frame_pool.proofs.Keeping.{pool_sound, touched_kept, with_latest-last, latest_last, latest-push}
 use Rattle.frame_pool.proofs.pool.FramePool.touch.Goals as goal
 
-pub returns-then-eq-clause-touched : goal.returns-then-eq-clause-touched
-returns-then-eq-clause-touched c =
-    let latest = same_option _ _ c.if-eq.ensures in
-    rw (← c.self.view_is) (sym (with_latest-last _ _ (pool_sound _ _ _ _ c.self.invariant) (sym latest ∙ c.back.ensures.last)))
+pub returns-then-self-frame-clause-touched : goal.returns-then-self-frame-clause-touched
+returns-then-self-frame-clause-touched c =
+    let m = rw (← c.self.view_is) at c.requires in
+    let last = latest_last (list_at c.self.inside.chains 1) c.self.inside.pages.items c.self.inside.latest_page c.self.inside.latest_frame c.args.frame m c.self.invariant.1 in
+    rw (← c.self.view_is) (sym (with_latest-last _ _ (pool_sound _ _ _ _ c.self.invariant.0) (ap (λ (n : ℕ). Some n) (sym c.if-self-frame.true) ∙ sym last)))
 
-pub returns-then-eq-clause-sound : goal.returns-then-eq-clause-sound
-returns-then-eq-clause-sound c = rw (← c.self.view_is) (pool_sound _ _ _ _ c.self.invariant)
+pub returns-then-self-frame-clause-sound : goal.returns-then-self-frame-clause-sound
+returns-then-self-frame-clause-sound c = rw (← c.self.view_is) (pool_sound _ _ _ _ c.self.invariant.0)
 
 pub invariant_of-self : goal.invariant_of-self
 invariant_of-self c =
     let m = rw (← c.self.view_is) at c.requires in
-    touched_kept _ _ _ _ _ c.args.frame c.self.invariant m (c.move_back.ensures.moved 1 m) c.move_back.ensures.sound
+    let low = (pool_sound _ _ _ _ c.self.invariant.0).used_in c.args.frame m in
+    let order = ap (λ (v : Chains). list_at v 1) (c.move_back.ensures.moved 1 m) ∙ list_at-with_list_same c.self.inside.chains 1 _ (omega (arith, c.self.invariant.0.two)) in (
+      touched_kept _ _ _ _ _ c.args.frame c.self.invariant.0 m (c.move_back.ensures.moved 1 m) c.move_back.ensures.sound,
+      latest-push _ _ _ _ c.args.frame order (c.index.ensures ∙ get_or_default c.self.inside.pages.items c.args.frame _ 0 low),
+    )
 
 pub returns-clause-sound : goal.returns-clause-sound
 returns-clause-sound c =
     let m = rw (← c.self.view_is) at c.requires in
-    pool_sound _ _ _ _ (touched_kept _ _ _ _ _ c.args.frame c.self.invariant m (c.move_back.ensures.moved 1 m) c.move_back.ensures.sound)
+    pool_sound _ _ _ _ (touched_kept _ _ _ _ _ c.args.frame c.self.invariant.0 m (c.move_back.ensures.moved 1 m) c.move_back.ensures.sound)
 
-pub returns-then-eq-clause-inside : goal.returns-then-eq-clause-inside
-returns-then-eq-clause-inside c =
+pub returns-then-self-frame-clause-inside : goal.returns-then-self-frame-clause-inside
+returns-then-self-frame-clause-inside c =
     let m = rw (← c.self.view_is) at c.requires in
-    rw (← c.self.view_is) ((pool_sound _ _ _ _ c.self.invariant).used_in c.args.frame m)
+    rw (← c.self.view_is) ((pool_sound _ _ _ _ c.self.invariant.0).used_in c.args.frame m)
 
 pub returns-clause-inside : goal.returns-clause-inside
 returns-clause-inside c =
     let m = rw (← c.self.view_is) at c.requires in
-    (pool_sound _ _ _ _ c.self.invariant).used_in c.args.frame m
+    (pool_sound _ _ _ _ c.self.invariant.0).used_in c.args.frame m
+
+pub index-requires : goal.index-requires
+index-requires c =
+    let m = rw (← c.self.view_is) at c.requires in
+    let low = (pool_sound _ _ _ _ c.self.invariant.0).used_in c.args.frame m in
+    omega (arith, low, c.self.inside.pages.ok.0)

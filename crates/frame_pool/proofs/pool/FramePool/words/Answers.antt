@@ -2,4 +2,4 @@ use Rattle.frame_pool.proofs.Keeping.{pool_sound}
 use Rattle.frame_pool.proofs.pool.FramePool.words.Goals as goal
 
 pub returns-clause-sound : goal.returns-clause-sound
-returns-clause-sound c = rw (← c.self.view_is) (pool_sound _ _ _ _ c.self.invariant)
+returns-clause-sound c = rw (← c.self.view_is) (pool_sound _ _ _ _ c.self.invariant.0)

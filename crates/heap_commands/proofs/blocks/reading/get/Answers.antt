@@ -5,6 +5,8 @@ use Rattle.heap_state.proofs.Fetching.{fetched_shows, answer_performs}
 use Rattle.heap_state.proofs.Playing.{performs_after}
 use Rattle.heap_commands.proofs.Gets.{field_fetches, field_readable, get_faulted, get_lacks, get_refused, only_from}
 use Rattle.heap_commands.proofs.Settling.{settles_one}
+use Rattle.block_store.proofs.transporter.Moving.{moves-more, moves-then}
+use Rattle.heap_commands.proofs.Moves.{moves_read}
 use Rattle.heap_commands.proofs.blocks.reading.get.Goals as goal
 
 pub field-requires : goal.field-requires
@@ -67,3 +69,20 @@ returns-in-Ok-clause-costs g c =
     let reading_grows = c.in-Ok.ensures.grows.placed in
     let showing = c.show_into.ensures.cost in
     record { tells = search rules; few = search rules; cost = on_ok_weaker c.show_into.result (λ _. omega arith) c.show_into.ensures.set }
+
+-- What moves
+
+pub returns-in-Ok-clause-moves : goal.returns-in-Ok-clause-moves
+returns-in-Ok-clause-moves g c = moves_read (moves-then c.in_ok-block.ensures.moves c.field.ensures.keeps.moves) c.show_into.ensures.stays refl
+
+pub returns-in-Err-NotABlock-clause-moves : goal.returns-in-Err-NotABlock-clause-moves
+returns-in-Err-NotABlock-clause-moves g c = moves-then c.in_ok-block.ensures.moves c.field.ensures.keeps.moves
+
+pub returns-in-Err-NoField-clause-moves : goal.returns-in-Err-NoField-clause-moves
+returns-in-Err-NoField-clause-moves g c = moves-then c.in_ok-block.ensures.moves c.field.ensures.keeps.moves
+
+pub returns-in-Err-Swap-clause-moves : goal.returns-in-Err-Swap-clause-moves
+returns-in-Err-Swap-clause-moves g c = moves-then c.in_ok-block.ensures.moves c.field.ensures.keeps.moves
+
+pub returns-in_err-block-clause-moves : goal.returns-in_err-block-clause-moves
+returns-in_err-block-clause-moves g c = moves-more (omega arith) c.in_err-block.ensures.moves

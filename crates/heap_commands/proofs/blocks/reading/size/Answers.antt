@@ -3,6 +3,7 @@ use Rattle.heap_state.proofs.Playing.{performs_after}
 use Rattle.heap_commands.proofs.Referring.{register_meaning}
 use Rattle.heap_commands.proofs.Settling.{settles_one}
 use Rattle.heap_commands.proofs.Sizes.{size_faulted, size_refused, size_told}
+use Rattle.heap_commands.proofs.Moves.{moves_read}
 use Rattle.heap_commands.proofs.blocks.reading.size.Goals as goal
 
 pub length-requires : goal.length-requires
@@ -34,3 +35,14 @@ returns-in-Err-Swap-clause-performs g c =
     let told = c.in-Err-Swap.ensures in
     performs_after _ _ _ _ _ _ _ _ _ _ _ s.leaves
     (size_faulted _ _ _ _ c.settle_register.new.registers c.args.of c.in_ok-block.block s.read (s.inside _ c.requires.of) told.looks.stays told.looks.table)
+
+-- What moves
+
+pub returns-in-Ok-clause-moves : goal.returns-in-Ok-clause-moves
+returns-in-Ok-clause-moves g c = moves_read c.in_ok-block.ensures.moves c.length.ensures.looks.stays c.length.ensures.looks.table
+
+pub returns-in-Err-NotABlock-clause-moves : goal.returns-in-Err-NotABlock-clause-moves
+returns-in-Err-NotABlock-clause-moves g c = moves_read c.in_ok-block.ensures.moves c.length.ensures.looks.stays c.length.ensures.looks.table
+
+pub returns-in-Err-Swap-clause-moves : goal.returns-in-Err-Swap-clause-moves
+returns-in-Err-Swap-clause-moves g c = moves_read c.in_ok-block.ensures.moves c.length.ensures.looks.stays c.length.ensures.looks.table

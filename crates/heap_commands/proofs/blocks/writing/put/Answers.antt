@@ -4,6 +4,7 @@ use Rattle.heap_state.proofs.Playing.{performs_after, performs_fault}
 use Rattle.heap_commands.proofs.Marked.{marks_field}
 use Rattle.heap_commands.proofs.Settling.{settles_two}
 use Rattle.heap_commands.proofs.Stores.{can_set, put_faulted, put_lacks, put_performs, put_refused}
+use Rattle.heap_commands.proofs.Moves.{moves_still, settled_word}
 use Rattle.heap_commands.proofs.blocks.writing.put.Goals as goal
 
 pub set_field-requires : goal.set_field-requires
@@ -53,3 +54,29 @@ returns-in_err-settle_items-clause-performs g c =
     let p = err_from_is_err_and c.from_residual.result c.from_residual.ensures.1 in
     let x = c.in_err-settle_items.ensures in
     rw p.1 (performs_fault _ _ _ _ c.args.registers.now c.settle_items.new.registers _ refl (record { represented = x.represented; preserves = x.preserves; others = x.others; stays_fresh = x.stays_fresh; marks = x.marks }))
+
+-- What moves
+
+pub returns-in-Ok-clause-moves : goal.returns-in-Ok-clause-moves
+returns-in-Ok-clause-moves g c =
+    let x = c.in_ok-settle_items.ensures in
+    let s = settles_two _ _ _ _ _ _ c.requires.consistent x.represented x.preserves x.others x.stays_fresh x.marks c.args.target c.args.from x.fresh in
+    moves_still x.moves (c.set_field.ensures.moves (settled_word c.settle_items.new.ground.table c.settle_items.new.registers c.args.target c.index-registers-target.result (s.inside _ c.requires.target) c.index-registers-target.is s.left_settled))
+
+pub returns-in-Err-NotABlock-clause-moves : goal.returns-in-Err-NotABlock-clause-moves
+returns-in-Err-NotABlock-clause-moves g c =
+    let x = c.in_ok-settle_items.ensures in
+    let s = settles_two _ _ _ _ _ _ c.requires.consistent x.represented x.preserves x.others x.stays_fresh x.marks c.args.target c.args.from x.fresh in
+    moves_still x.moves (c.set_field.ensures.moves (settled_word c.settle_items.new.ground.table c.settle_items.new.registers c.args.target c.index-registers-target.result (s.inside _ c.requires.target) c.index-registers-target.is s.left_settled))
+
+pub returns-in-Err-NoField-clause-moves : goal.returns-in-Err-NoField-clause-moves
+returns-in-Err-NoField-clause-moves g c =
+    let x = c.in_ok-settle_items.ensures in
+    let s = settles_two _ _ _ _ _ _ c.requires.consistent x.represented x.preserves x.others x.stays_fresh x.marks c.args.target c.args.from x.fresh in
+    moves_still x.moves (c.set_field.ensures.moves (settled_word c.settle_items.new.ground.table c.settle_items.new.registers c.args.target c.index-registers-target.result (s.inside _ c.requires.target) c.index-registers-target.is s.left_settled))
+
+pub returns-in-Err-Swap-clause-moves : goal.returns-in-Err-Swap-clause-moves
+returns-in-Err-Swap-clause-moves g c =
+    let x = c.in_ok-settle_items.ensures in
+    let s = settles_two _ _ _ _ _ _ c.requires.consistent x.represented x.preserves x.others x.stays_fresh x.marks c.args.target c.args.from x.fresh in
+    moves_still x.moves (c.set_field.ensures.moves (settled_word c.settle_items.new.ground.table c.settle_items.new.registers c.args.target c.index-registers-target.result (s.inside _ c.requires.target) c.index-registers-target.is s.left_settled))

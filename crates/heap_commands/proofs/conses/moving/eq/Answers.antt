@@ -4,6 +4,7 @@ use Rattle.heap_state.proofs.Playing.{performs_after, performs_fault}
 use Rattle.heap_commands.proofs.Cells.{stays_leaves}
 use Rattle.heap_commands.proofs.Comparing.{comparable, compared_performs}
 use Rattle.heap_commands.proofs.Settling.{settles_two}
+use Rattle.heap_commands.proofs.Moves.{moves_read}
 use Rattle.heap_commands.proofs.conses.moving.eq.Goals as goal
 
 pub is_same-requires : goal.is_same-requires
@@ -27,3 +28,11 @@ returns-in_err-same-clause-performs g c =
     let p = err_from_is_err_and c.from_residual-in_err-same.result c.from_residual-in_err-same.ensures.1 in
     rw p.1 (performs_after _ _ _ _ _ _ _ _ _ _ _ s.leaves
     (performs_fault _ _ _ _ c.settle_items.new.registers c.settle_items.new.registers _ refl (stays_leaves _ _ _ _ c.settle_items.new.registers refl c.in_err-same.ensures.stays)))
+
+-- What moves
+
+pub returns-clause-moves : goal.returns-clause-moves
+returns-clause-moves g c = moves_read c.in_ok-settle_items.ensures.moves c.in_ok-same.ensures.stays refl
+
+pub returns-in_err-same-clause-moves : goal.returns-in_err-same-clause-moves
+returns-in_err-same-clause-moves g c = moves_read c.in_ok-settle_items.ensures.moves c.in_err-same.ensures.stays refl

@@ -8,6 +8,8 @@ use Rattle.heap_state.proofs.Playing.{performs_after, performs_fault, performs_r
 use Rattle.heap_commands.proofs.Cells.{cdr_fetches, kept_leaves, no_cons}
 use Rattle.heap_commands.proofs.Readable.{only_one, readable}
 use Rattle.heap_commands.proofs.Settling.{settles_one}
+use Rattle.block_store.proofs.transporter.Moving.{moves-more, moves-then}
+use Rattle.heap_commands.proofs.Moves.{moves_read}
 use Rattle.heap_commands.proofs.conses.parts.cdr.Goals as goal
 
 pub cdr-requires : goal.cdr-requires
@@ -61,3 +63,17 @@ returns-in-Ok-clause-costs g c =
     let reading_grows = c.in-Ok.ensures.keeps.preserves.grows.placed in
     let showing = c.show_into.ensures.cost in
     record { tells = search rules; few = search rules; cost = on_ok_weaker c.show_into.result (λ _. omega arith) c.show_into.ensures.set }
+
+-- What moves
+
+pub returns-in-Ok-clause-moves : goal.returns-in-Ok-clause-moves
+returns-in-Ok-clause-moves g c = moves_read (moves-then c.in_ok-cons.ensures.moves c.cdr.ensures.keeps.moves) c.show_into.ensures.stays refl
+
+pub returns-in-Err-NotACons-clause-moves : goal.returns-in-Err-NotACons-clause-moves
+returns-in-Err-NotACons-clause-moves g c = moves-then c.in_ok-cons.ensures.moves c.cdr.ensures.keeps.moves
+
+pub returns-in-Err-Swap-clause-moves : goal.returns-in-Err-Swap-clause-moves
+returns-in-Err-Swap-clause-moves g c = moves-then c.in_ok-cons.ensures.moves c.cdr.ensures.keeps.moves
+
+pub returns-in_err-cons-clause-moves : goal.returns-in_err-cons-clause-moves
+returns-in_err-cons-clause-moves g c = moves-more (omega arith) c.in_err-cons.ensures.moves

@@ -12,6 +12,7 @@ use Rattle.heap_commands.proofs.Marked.{marks_car}
 use Rattle.heap_commands.proofs.Readable.{settable}
 use Rattle.heap_commands.proofs.Settling.{settles_two}
 use Rattle.heap_commands.proofs.Storing.{car_stores, both_settled, stored_performs}
+use Rattle.heap_commands.proofs.Moves.{moves_still}
 use Rattle.heap_commands.proofs.conses.parts.rplaca.Goals as goal
 
 pub set_car-requires : goal.set_car-requires
@@ -54,3 +55,14 @@ returns-in_err-settle_items-clause-performs g c =
     let p = err_from_is_err_and c.from_residual.result c.from_residual.ensures.1 in
     let x = c.in_err-settle_items.ensures in
     rw p.1 (performs_fault _ _ _ _ c.args.registers.now c.settle_items.new.registers _ refl (record { represented = x.represented; preserves = x.preserves; others = x.others; stays_fresh = x.stays_fresh; marks = x.marks }))
+
+-- What moves
+
+pub returns-in-Ok-clause-moves : goal.returns-in-Ok-clause-moves
+returns-in-Ok-clause-moves g c = moves_still c.in_ok-settle_items.ensures.moves c.set_car.ensures.moves
+
+pub returns-in-Err-NotACons-clause-moves : goal.returns-in-Err-NotACons-clause-moves
+returns-in-Err-NotACons-clause-moves g c = moves_still c.in_ok-settle_items.ensures.moves c.set_car.ensures.moves
+
+pub returns-in-Err-Swap-clause-moves : goal.returns-in-Err-Swap-clause-moves
+returns-in-Err-Swap-clause-moves g c = moves_still c.in_ok-settle_items.ensures.moves c.set_car.ensures.moves

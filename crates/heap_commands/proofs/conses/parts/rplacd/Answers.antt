@@ -1,4 +1,4 @@
-use Rattle.std.proofs.Common.{◌≢◌, refl}
+use Rattle.std.proofs.Common.{◌≢◌, arith, inl, refl}
 use Rattle.std.proofs.lemmas.Result.{err_from_is_err_and}
 use Rattle.store_word.specs.Words.{tag_of}
 use Rattle.store_word.specs.declared.word.Tag.TheVariants.{List as ListTag}
@@ -12,6 +12,8 @@ use Rattle.heap_commands.proofs.Marked.{marks_cdr, marks_faulted}
 use Rattle.heap_commands.proofs.Readable.{settable}
 use Rattle.heap_commands.proofs.Settling.{settles_two}
 use Rattle.heap_commands.proofs.Storing.{cdr_stores, both_settled, stored_faulted, stored_performs}
+use Rattle.block_store.proofs.transporter.Moving.{moves-more, moves-then}
+use Rattle.heap_commands.proofs.Moves.{cdr_moves}
 use Rattle.heap_commands.proofs.conses.parts.rplacd.Goals as goal
 
 pub set_cdr-requires : goal.set_cdr-requires
@@ -56,3 +58,22 @@ returns-in_err-settle_items-clause-performs g c =
     let p = err_from_is_err_and c.from_residual.result c.from_residual.ensures.1 in
     let x = c.in_err-settle_items.ensures in
     rw p.1 (performs_fault _ _ _ _ c.args.registers.now c.settle_items.new.registers _ refl (record { represented = x.represented; preserves = x.preserves; others = x.others; stays_fresh = x.stays_fresh; marks = x.marks }))
+
+-- What moves
+
+pub returns-in-Ok-clause-moves : goal.returns-in-Ok-clause-moves
+returns-in-Ok-clause-moves g c =
+    let x = c.in_ok-settle_items.ensures in
+    let s = settles_two _ _ _ _ _ _ c.requires.consistent x.represented x.preserves x.others x.stays_fresh x.marks c.args.target c.args.from x.fresh in
+    let got = c.set_cdr.ensures in
+    let list = λ (other : tag_of c.index-registers-target.result.content ≢ ListTag). (let e = got.not_a_cons.1 other in let is = c.in-Ok.is in absurd {A = ⊥} cc) in
+    cdr_moves _ _ _ _ _ _ c.settle_items.new.registers c.args.target c.args.from (s.inside _ c.requires.target) (s.inside _ c.requires.from) c.index-registers-target.result c.index-registers-from.result c.index-registers-target.is c.index-registers-from.is s.consistent list x.moves c.in-Ok.ensures.stored c.in-Ok.ensures.relaid
+
+pub returns-in-Err-NotACons-clause-moves : goal.returns-in-Err-NotACons-clause-moves
+returns-in-Err-NotACons-clause-moves g c = inl (moves-then c.in_ok-settle_items.ensures.moves c.in-Err-NotACons.ensures.moves)
+
+pub returns-in-Err-Swap-clause-moves : goal.returns-in-Err-Swap-clause-moves
+returns-in-Err-Swap-clause-moves g c = inl (moves-then c.in_ok-settle_items.ensures.moves c.in-Err-Swap.ensures.moves)
+
+pub returns-in_err-settle_items-clause-moves : goal.returns-in_err-settle_items-clause-moves
+returns-in_err-settle_items-clause-moves g c = inl (moves-more (omega arith) c.in_err-settle_items.ensures.moves)

@@ -1,7 +1,7 @@
 use Rattle.std.proofs.Common.{◌≡◌, ◌∷◌, ◌++◌, ◌∙◌, ℕ, List, ap, append_assoc}
 use Rattle.line_input.proofs.statuses.reasons.write_exhausted.Goals as goal
 
--- the last words of the line, and what ends it
+-- the last words of the line, and its end
 words_end : (area charged wanted quota end : List ℕ) → (area ++ 32 ∷ (charged ++ 32 ∷ (wanted ++ 32 ∷ quota))) ++ end ≡ area ++ 32 ∷ (charged ++ 32 ∷ (wanted ++ 32 ∷ (quota ++ end)))
 words_end area charged wanted quota end =
     append_assoc area (32 ∷ (charged ++ 32 ∷ (wanted ++ 32 ∷ quota))) end

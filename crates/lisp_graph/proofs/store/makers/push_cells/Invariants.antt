@@ -3,7 +3,7 @@ use Rattle.lisp_graph.specs.Graph.{value_at}
 use Rattle.lisp_graph.specs.Effect.{list_from}
 use Rattle.lisp_graph.proofs.store.makers.push_cells.Given as goal
 
--- what is left to add makes the whole list, behind the objects that were there
+-- the conses made so far and those that remain are the whole list, after the objects that were there
 abbrev pub invariant-loop-index : goal.invariant-loop-index
 invariant-loop-index l = record {
   old : take (length l.initial.objects) l.objects ≡ l.initial.objects;

@@ -40,6 +40,9 @@ returns-in-Ok-clause-runs g c = rw (c.replied.ensures.is, ← c.self.view_is) (m
 pub returns-in-Ok-clause-makes : goal.returns-in-Ok-clause-makes
 returns-in-Ok-clause-makes g c = rw (c.replied.ensures.is, ← c.self.view_is) (made g (goal.at.returns-in-Ok-clause-makes g c).After-replied).makes
 
+pub returns-in-Ok-clause-order : goal.returns-in-Ok-clause-order
+returns-in-Ok-clause-order g c = rw (c.replied.ensures.is, ← c.self.view_is) (made g (goal.at.returns-in-Ok-clause-order g c).After-replied).order
+
 -- it was refused
 refused : (g : Over) (c : In-Err g) → Allocated (contents_at c.self.inside.ground c.self.inside.scan c.self.inside.registers.items c.self.inside.space)
     (contents_at c.admitted.new.ground c.admitted.new.scan (with_items c.self.inside.registers c.admitted.new.registers).items c.self.inside.space) c.args.steps.now c.admitted.new.steps 2 2 2 (C.Cons c.args.to c.args.area c.args.car c.args.cdr) c.in-Err.reply
@@ -56,3 +59,6 @@ returns-in-Err-clause-runs g c = rw (← c.self.view_is) (refused g (goal.at.ret
 
 pub returns-in-Err-clause-makes : goal.returns-in-Err-clause-makes
 returns-in-Err-clause-makes g c = rw (← c.self.view_is) (refused g (goal.at.returns-in-Err-clause-makes g c).In-Err).makes
+
+pub returns-in-Err-clause-order : goal.returns-in-Err-clause-order
+returns-in-Err-clause-order g c = rw (← c.self.view_is) (refused g (goal.at.returns-in-Err-clause-order g c).In-Err).order

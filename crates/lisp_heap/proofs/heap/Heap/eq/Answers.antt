@@ -2,6 +2,7 @@ use Rattle.std.proofs.Common.{refl}
 use Rattle.lisp_graph.specs.declared.command.Command.TheVariants as C
 use Rattle.lisp_heap.proofs.Running.{lent_consistent, lent_runs}
 use Rattle.lisp_heap.proofs.Telling.{takes_by}
+use Rattle.lisp_heap.proofs.Transporting.{most_listed}
 use Rattle.lisp_heap.proofs.heap.Heap.eq.Goals as goal
 
 pub eq-answer-requires-clause-consistent : goal.eq-answer-requires-clause-consistent
@@ -15,3 +16,6 @@ returns-clause-runs g c = rw (c.ended.ensures.is, ← c.self.view_is) (lent_runs
 
 pub returns-clause-takes : goal.returns-clause-takes
 returns-clause-takes g c = rw (← c.self.view_is) (takes_by c.eq-answer.result _ c.ended.ensures.is c.eq-answer.ensures.costs.few c.eq-answer.ensures.costs.cost)
+
+pub returns-clause-moves : goal.returns-clause-moves
+returns-clause-moves g c = rw (← c.self.view_is) (most_listed c.eq-answer.ensures.moves)

@@ -5,7 +5,7 @@ use Rattle.lisp_graph.specs.declared.reply.Reply.TheVariants as R
 use Rattle.heap_collect.proofs.Phases.{stands_for_some}
 use Rattle.lisp_heap.specs.Contents.{Contents, contents_at}
 use Rattle.lisp_heap.specs.Stands.{IsSound, Runs}
-use Rattle.lisp_heap.proofs.Collections.{base_listed, begins_listed, flip_sure, same_count, was_idle}
+use Rattle.lisp_heap.proofs.Collections.{base_listed, begins_listed, busy_still, flip_sure, same_count, was_idle}
 use Rattle.lisp_heap.proofs.Listed.{standing}
 use Rattle.lisp_heap.proofs.Marked.{pages_same}
 use Rattle.lisp_heap.proofs.Running.{step_runs}
@@ -34,7 +34,7 @@ ran g c =
     (λ k s b same. x.step registers k s b (c.self.invariant.registers ∙ sym (ap (λ (sp : Space). sp.registers) same)) (c.self.invariant.regions ∙ sym (ap (λ (sp : Space). sp.regions) same)))
     refl x.regions
     (told_still (old g c) (new g c) 0 (C.Flip c.args.what) c.flip-reply.result (ap g.M.Memory.faults x.memory) (ap g.M.Memory.taken x.memory) (not_fault c.flip-reply.result (sure g c)) (λ _. ap (λ mem. length (g.M.Memory.resident mem)) x.memory))
-    (λ fault. absurd (sure g c fault)) (λ done i is. absurd (cc (is))) (pages_same _ _ (C.Flip c.args.what) (ap g.M.Memory.seen x.memory))
+    (λ fault. absurd (sure g c fault)) (λ done i is. absurd (cc (is))) (pages_same _ _ (C.Flip c.args.what) (ap g.M.Memory.seen x.memory)) (λ none. absurd (cc (none)))
 
 pub flip-reply-requires : goal.flip-reply-requires
 flip-reply-requires g c = record { standing = stands_for_some (standing (g.M.Memory.seen c.self.inside.ground.mem) _ _ _ _ _ _ _ c.self.invariant) }
@@ -55,6 +55,9 @@ returns-clause-pages g c count is =
     let ground = (standing (g.M.Memory.seen c.self.inside.ground.mem) _ _ _ _ _ _ _ c.self.invariant).represents.represents.kept.ground in
     rw (← c.self.view_is, ← x.memory) (base_listed (g.M.Memory.seen c.flip-reply.new.ground.mem) c.self.inside.ground.table c.flip-reply.new.ground.table c.args.what count
     (same_count c.self.inside.ground.table.aim c.flip-reply.result _ count none x.pages is) (rw (x.memory) ground.levels_size) x.regions)
+
+pub returns-clause-busy : goal.returns-clause-busy
+returns-clause-busy g c busy = rw (← c.self.view_is) (busy_still c.self.inside.ground.table.aim c.flip-reply.result _ c.flip-reply.ensures.pages (λ some. (c.flip-reply.ensures.busy some).2) busy)
 
 pub returns-clause-faults : goal.returns-clause-faults
 returns-clause-faults g c = rw (← c.self.view_is) (ap g.M.Memory.faults c.flip-reply.ensures.memory)

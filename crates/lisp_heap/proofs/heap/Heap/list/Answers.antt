@@ -47,6 +47,9 @@ returns-in-Ok-clause-cells g c fine =
     rw (with_items_is c.self.inside.registers x.new.registers (x.auto.registers ∙ c.admitted.auto.registers ∙ c.as_mut_slice-registers.ensures.len))
     (cost_of x.result x.ensures.cells (made_sure x.result (sym c.replied.ensures.is ∙ fine)))
 
+pub returns-in-Ok-clause-order : goal.returns-in-Ok-clause-order
+returns-in-Ok-clause-order g c = rw (c.replied.ensures.is, ← c.self.view_is, ← c.list_charge-charge.ensures) (made g (goal.at.returns-in-Ok-clause-order g c).After-replied).order
+
 -- it was refused
 refused : (g : Over) (c : In-Err g) → Allocated (contents_at c.self.inside.ground c.self.inside.scan c.self.inside.registers.items c.self.inside.space)
     (contents_at c.admitted.new.ground c.admitted.new.scan (with_items c.self.inside.registers c.admitted.new.registers).items c.self.inside.space) c.args.steps.now c.admitted.new.steps c.list_charge-charge.result (length c.args.items.now) (length c.args.items.now) (C.List c.args.to c.args.area c.args.items.now) c.in-Err.reply
@@ -68,3 +71,6 @@ pub returns-in-Err-clause-cells : goal.returns-in-Err-clause-cells
 returns-in-Err-clause-cells g c fine =
     let unmade = c.in-Err.ensures.refuses (C.List c.args.to c.args.area c.args.items.now) refl c.requires.some refl (λ s. record { effect_of = _; is = refl; wanted = ap (λ (n : ℕ). Some (record { area = c.args.area; charge = n })) (sym c.list_charge-charge.ensures) }) in
     absurd (unmade.unmade fine)
+
+pub returns-in-Err-clause-order : goal.returns-in-Err-clause-order
+returns-in-Err-clause-order g c = rw (← c.self.view_is, ← c.list_charge-charge.ensures) (refused g (goal.at.returns-in-Err-clause-order g c).In-Err).order

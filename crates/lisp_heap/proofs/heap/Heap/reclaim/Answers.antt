@@ -33,7 +33,7 @@ ran g c =
     c.self.inside.space _ _ _ _ _ _ 0 0 C.Reclaim c.reclaim-reply.result
     c.self.invariant c.known.ensures.1.marked tt refl (λ k s b same. x.step registers k s b) refl x.regions
     (told_still (old g c) (new g c) 0 C.Reclaim c.reclaim-reply.result x.faults x.taken (not_fault c.reclaim-reply.result (sure g c)) (λ frees. absurd (cc (frees))))
-    (λ fault. absurd (sure g c fault)) (λ done i is. absurd (cc (is))) (pages_unmarked _ _ C.Reclaim x.frees.unmarked)
+    (λ fault. absurd (sure g c fault)) (λ done i is. absurd (cc (is))) (pages_unmarked _ _ C.Reclaim x.frees.unmarked) (λ _. refl)
 
 pub reclaim-reply-requires : goal.reclaim-reply-requires
 reclaim-reply-requires g c = record { standing = stands_for_some (standing (g.M.Memory.seen c.self.inside.ground.mem) _ _ _ _ _ _ _ c.self.invariant) }

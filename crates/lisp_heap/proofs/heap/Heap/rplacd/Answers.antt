@@ -1,7 +1,9 @@
-use Rattle.std.proofs.Common.{refl}
+use Rattle.std.proofs.Common.{refl, ◌∙◌}
+use Rattle.std.proofs.lemmas.List.{with_items_is}
 use Rattle.lisp_graph.specs.declared.command.Command.TheVariants as C
 use Rattle.lisp_heap.proofs.Running.{lent_consistent, lent_runs}
 use Rattle.lisp_heap.proofs.Telling.{takes_by}
+use Rattle.lisp_heap.proofs.Transporting.{laid_listed}
 use Rattle.lisp_heap.proofs.heap.Heap.rplacd.Goals as goal
 
 pub rplacd-answer-requires-clause-consistent : goal.rplacd-answer-requires-clause-consistent
@@ -15,3 +17,7 @@ returns-clause-runs g c = rw (c.ended.ensures.is, ← c.self.view_is) (lent_runs
 
 pub returns-clause-takes : goal.returns-clause-takes
 returns-clause-takes g c = rw (← c.self.view_is) (takes_by c.rplacd-answer.result _ c.ended.ensures.is c.rplacd-answer.ensures.costs.few c.rplacd-answer.ensures.costs.cost)
+
+pub returns-clause-moves : goal.returns-clause-moves
+returns-clause-moves g c =
+    rw (with_items_is c.self.inside.registers c.rplacd-answer.new.registers (c.rplacd-answer.ensures.performs.others.count ∙ c.deref_mut.ensures.len), ← c.self.view_is) (laid_listed c.rplacd-answer.ensures.moves)

@@ -33,7 +33,7 @@ ran g c =
     c.self.inside.space _ _ _ _ _ _ c.args.steps.now c.scavenge-reply.new.steps (C.Scavenge c.args.count) c.scavenge-reply.result
     c.self.invariant c.known.ensures.1.marked tt refl (λ k s b is. x.step k s (rw (c.deref_mut.ensures.value) b)) (x.registers.count ∙ ap length c.deref_mut.ensures.value) x.table.form.regions
     (told_by (old g c) (new g c) c.args.steps.now c.scavenge-reply.new.steps (C.Scavenge c.args.count) c.scavenge-reply.result x.tells) (λ e. (x.on.some, x.grows)) (λ done i is. absurd (cc (is)))
-    (pages_marked (g.M.Memory.seen c.self.inside.ground.mem) (g.M.Memory.seen c.scavenge-reply.new.ground.mem) c.self.inside.ground.table c.scavenge-reply.new.ground.table (C.Scavenge c.args.count) c.scavenge-reply.result x.table x.on.marks)
+    (pages_marked (g.M.Memory.seen c.self.inside.ground.mem) (g.M.Memory.seen c.scavenge-reply.new.ground.mem) c.self.inside.ground.table c.scavenge-reply.new.ground.table (C.Scavenge c.args.count) c.scavenge-reply.result x.table x.on.marks) (λ none. absurd (cc (none)))
 
 pub scavenge-reply-requires : goal.scavenge-reply-requires
 scavenge-reply-requires g c = record { standing = rw (c.deref_mut.ensures.value) (standing (g.M.Memory.seen c.self.inside.ground.mem) _ _ _ _ _ _ _ c.self.invariant) }

@@ -27,10 +27,13 @@ silent g c =
       regions = x.regions;
       faults = x.faults;
       taken = x.taken;
-      resident = λ alone. ap (λ ground. length (g.M.Memory.resident ground.mem)) (x.quiet alone).0;
+      memory = λ never. ap g.M.Memory.seen (x.memory never);
+      rests = λ never still. ap (λ ground. ground.table) (x.rests never still);
+      begins = x.begins;
+      resident = λ alone. ap (λ mem. length (g.M.Memory.resident mem)) (x.memory alone);
     }
 
--- what is there for the new object
+-- the room for the new object
 there : (g : Over) (c : In-Ok g) → Admits (view c.args.ground.now) (view c.admit.new.ground) c.args.scan.now c.admit.new.scan c.args.registers.now c.admit.new.registers c.args.space.now c.args.area c.args.charge c.args.steps.now c.admit.new.steps c.new_level-level.result
 there g c =
     let x = c.in-Ok.ensures in
@@ -39,6 +42,8 @@ there g c =
       ahead = x.ahead;
       left = x.left;
       level_is = λ s are. c.new_level-level.ensures ∙ ap new_level (kind_is c.kinds.result.now s.areas c.args.area (c.kinds.ensures.kinds ∙ are));
+      scans = x.scans;
+      idle = λ none. (let y = x.idle none in (ap view y.0, y.1, y.2));
       amount = x.amount;
       same = x.begun;
       on = x.on;

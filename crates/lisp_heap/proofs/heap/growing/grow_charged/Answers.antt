@@ -1,5 +1,6 @@
 use Rattle.std.proofs.Common.{refl, sym, ◌∙◌, ap, subst, arith}
 use Rattle.lisp_graph.specs.declared.command.Command.TheVariants as C
+use Rattle.area_space.specs.View.{view}
 use Rattle.heap_state.specs.Reads.{reply_of}
 use Rattle.heap_state.proofs.transporter.Alive.{grows-then}
 use Rattle.heap_state.proofs.transporter.Marked.{marks-then}
@@ -85,3 +86,18 @@ returns-in-Ok-clause-marks g c = marks-then c.in-Ok.ensures.on.marks c.grow.ensu
 
 pub returns-in-Err-clause-marks : goal.returns-in-Err-clause-marks
 returns-in-Err-clause-marks g c = c.in-Err.ensures.on.marks
+
+pub returns-in-Ok-clause-order : goal.returns-in-Ok-clause-order
+returns-in-Ok-clause-order g c fine =
+    let x = c.requires.standing in
+    let y = c.in-Ok.ensures in
+    let ahead = y.ahead x.map x.state x.represents in
+    record {
+      ground = view c.admit.new.ground;
+      scans = y.scans;
+      idle = λ none. (let z = y.idle none in (ap view z.0, z.1, z.2));
+      placed = cost_of c.grow.result c.grow.ensures.placed (made_sure c.grow.result (sym c.reply_of.ensures ∙ fine)) ahead.represented.map x.state c.args.area c.args.charge ahead.represented.represents (c.requires.wants.grows x.map x.state x.represents.represents);
+    }
+
+pub returns-in-Err-clause-order : goal.returns-in-Err-clause-order
+returns-in-Err-clause-order g c fine = absurd (refused_unmade c.in-Err.reply _ _ _ _ (λ e. (c.in-Err.ensures.exhausted e).0) fine)

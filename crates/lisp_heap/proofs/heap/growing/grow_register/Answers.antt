@@ -1,8 +1,10 @@
-use Rattle.std.proofs.Common.{refl, sym, ◌∙◌, subst, arith}
+use Rattle.std.proofs.Common.{◌*◌, refl, sym, ◌∙◌, subst, arith}
 use Rattle.lisp_graph.specs.declared.command.Command.TheVariants as C
+use Rattle.area_space.specs.View.{view}
 use Rattle.heap_state.proofs.transporter.Alive.{grows-then}
 use Rattle.heap_state.proofs.transporter.Marked.{marks-then}
 use Rattle.lisp_heap.specs.Costs.{IsRefused, LookCosts, Spends}
+use Rattle.lisp_heap.specs.Growth.{LooksAndWidens}
 use Rattle.lisp_heap.proofs.Growing.{answered_sure, consistent_now, looked, looks_refused, none_wanted, same_charge, some_wanted, spends_looked, standing_looked}
 use Rattle.lisp_heap.proofs.Telling.{tells_then}
 use Rattle.lisp_heap.proofs.heap.growing.grow_register.Goals as goal
@@ -97,3 +99,14 @@ returns-in-Answered-clause-refused g c refused =
 
 pub returns-in-Wants-clause-tells : goal.returns-in-Wants-clause-tells
 returns-in-Wants-clause-tells g c = tells_then c.in-Wants.ensures.tells c.grow_charged.ensures.tells
+
+pub returns-in-Answered-clause-order : goal.returns-in-Answered-clause-order
+returns-in-Answered-clause-order g c fine k s x area charge some = absurd (none_wanted _ _ (c.in-Answered.ensures.finds.unwanted (λ e. cc) k s x.represents x.reach) some)
+
+pub returns-in-Wants-clause-order : goal.returns-in-Wants-clause-order
+returns-in-Wants-clause-order g c fine k s x area charge some =
+    let z = c.find_growing-found.ensures in
+    let y = z.represented k s x.represents x.reach in
+    let same = same_charge s c.args.target c.args.wanted c.in-Wants.area c.in-Wants.charge area charge (c.in-Wants.ensures.finds.grows y.map s y.represents) some in
+    subst (λ n. LooksAndWidens (view c.args.ground.now) (view c.grow_charged.new.ground) c.args.scan.now c.grow_charged.new.scan c.args.registers.now c.grow_charged.new.registers n (c.args.rate * n)) (sym same)
+    (record { ground = view c.find_growing-found.new.ground; words = c.find_growing-found.new.registers; others = z.others; table = z.preserves.grows; few = z.few; widens = c.grow_charged.ensures.order fine })

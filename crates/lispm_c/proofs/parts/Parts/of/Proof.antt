@@ -1,4 +1,4 @@
--- `of` calls what takes a box apart. The pointer and the handle go into the parts, and with them what the box owned.
+-- `of` calls the function that takes a box apart. The pointer and the handle go into the parts, and with them what the box owned.
 use Rattle.std.proofs.Common.{◌≡◌, [], ◌∷◌, refl, sym, ap, ◌∙◌, List}
 use Rattle.std.proofs.raw_atomic.Walks.{proved_at}
 use base.Fml.{ftrue, fsep}

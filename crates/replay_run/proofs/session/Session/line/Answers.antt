@@ -9,7 +9,7 @@ use Rattle.replay_run.proofs.Events.{is_in}
 use Rattle.replay_run.proofs.Feeding.{going_of, line_goes, line_halted, line_refused}
 use Rattle.replay_run.proofs.session.Session.line.Goals as goal
 
--- what is known of a session that goes on
+-- what holds of an open session
 goes_on : (fed written : List ℕ) (s seen : Seen) → seen ≡ s → s.state ≡ Open → Does fed written s → GoesOn fed written seen
 goes_on fed written s seen view is does = subst (GoesOn fed written) (sym view) (subst (λ state. DoesIn state fed written s) is does)
 
@@ -53,7 +53,7 @@ returns-in-Err-clause-does g c = λ fed written does.
     (elim e.stopped [
       | inl r ↦
           let same = r.still.0 in
-          rw same (line_refused old c.args.text.now c.requires.one c.front_of-size.ensures.front c.front_of-size.ensures.size stop e.read (λ is. rw (sym same) (swap is)) r)
+          rw same (line_refused old c.args.text.now c.requires.one c.front_of-size.ensures.front c.front_of-size.ensures.size stop e.read (λ is. rw (sym same) (swap is)) r c.idle_has_no_world.ensures)
       | inr h ↦
           line_halted old c.args.text.now c.requires.one c.front_of-size.ensures.front c.front_of-size.ensures.size c.answer_line.new.place c.answer_line.new.engine _ _ _ _ _ stop e.read swap
           (record { room = omega (arith, ap length few, ap (λ b. b.room) c.forget.ensures.pending, c.self.invariant.0); few = omega (arith, c.forget.ensures.faults) }) h

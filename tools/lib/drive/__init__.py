@@ -1,0 +1,1 @@
+"""Drivers: a heap in a driver, the judgement of a driver's run, and many inputs over a driver."""

@@ -1,0 +1,1 @@
+"""Outputs: the replies as values, and whether they are those of some run."""

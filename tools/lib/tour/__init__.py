@@ -1,0 +1,1 @@
+"""The lessons of the tour, its exercises, charts and pages."""
