@@ -19,6 +19,7 @@ pub mod Flipping
 pub mod Releasing
 pub mod Freeing
 pub mod Reclaiming
+pub mod Emptied
 pub mod Starting
 pub mod GroundLaws
 pub mod Lasting

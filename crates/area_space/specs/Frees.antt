@@ -1,5 +1,6 @@
 -- What a reclaim does to the classes and their regions.
-use Rattle.std.specs.Prelude.{◌≡◌, ◌≢◌, ℕ, ◌<◌, ◌≤◌, None, [], slice_set, Contains}
+use Rattle.std.specs.Prelude.{◌≡◌, ◌≢◌, ℕ, ◌/◌, ◌<◌, ◌≤◌, Bool, not, nat_eq, None, List, [], filter, slice_set, Contains}
+use Rattle.std.specs.List.{list_any, range_with_len}
 use Rattle.index_lists.specs.Chains.{without}
 use Rattle.area_space.specs.Table.{Table, slots_of, stale, chain, used_of, mark_of, IsOld}
 use Rattle.area_space.specs.Flips.{Slot, state_of, SameSizes}
@@ -46,3 +47,13 @@ pub record Frees (old new : Table) : Type 0 where
   pub slots : (slot : ℕ) → slot < slots_of old → state_of new slot ≡ emptied (state_of old slot)
   pub gone : (r : ℕ) → IsOld old r → IsBare new r
   pub kept : (r : ℕ) → (IsOld old r → ⊥) → SameUse old new r
+
+-- Resident pages
+
+-- whether a region is in an old class
+abbrev pub is_old : Table → ℕ → Bool
+is_old t region = list_any (λ slot. list_any (nat_eq region) (chain t (stale slot))) (range_with_len 0 (slots_of t))
+
+-- the pages outside old regions, in their order
+abbrev pub outside_old : Table → List ℕ → List ℕ
+outside_old t pages = filter (λ page. not (is_old t (page / 16))) pages

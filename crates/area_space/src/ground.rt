@@ -1,6 +1,7 @@
 //! A memory and its regions: objects are placed and committed, regions are condemned and freed.
 ghost use Rattle.std.specs.Prelude.{◌≡◌, ℕ, ◌+◌, ◌-◌, ◌*◌, ◌/◌, ◌<◌, ◌≤◌, IfSome, IfNone, Some, length, slice_index, Contains};
 ghost use Rattle.index_lists.specs.Chains.{last_of};
+ghost use Rattle.mem_port.specs.Frames.{outside};
 ghost use Rattle.mem_port.specs.Store.{Clears};
 ghost use Rattle.area_space.specs.Table.{areas_of, levels_of, slot_of, live, chain, used_of, quota_of, IsOld, IsUnclassed, page_list};
 ghost use Rattle.area_space.specs.Room.{RoomRule, words_of_area};
@@ -8,7 +9,7 @@ ghost use Rattle.area_space.specs.Sound.{IsTable};
 ghost use Rattle.area_space.specs.Places.{IsEnd, opened};
 ghost use Rattle.area_space.specs.Charges.{AllowsOrigin, committed, husked};
 ghost use Rattle.area_space.specs.Flips.{Condemns};
-ghost use Rattle.area_space.specs.Frees.{Frees};
+ghost use Rattle.area_space.specs.Frees.{Frees, outside_old};
 ghost use Rattle.area_space.specs.PageList.{Adds};
 ghost use Rattle.area_space.specs.Ground.{with_level};
 
@@ -147,13 +148,15 @@ impl<M: Memory> Ground<M> {
         self.table.known();
     }
 
-    /// Makes all old regions free, their words NULL, and their classes' charges 0. No word outside
-    /// old regions may have an address in one. No swap error occurs.
+    /// Makes all old regions free, their words NULL, and their classes' charges 0. Their pages are no longer
+    /// resident, and no other page leaves its frame. No word outside old regions may have an address in
+    /// one. No swap error occurs.
     pub fn free_old(&mut self)
         requires ground { IsGround (view self.old) }
         requires old { NamesNoOld (view self.old) }
         requires named { NamesNoFree (view self.old) }
         ensures words { ClearsOld (view self.old) (view self.new) }
+        ensures resident { M.resident self.new.mem ≡ outside_old self.old.table (M.resident self.old.mem) }
         ensures table { Frees self.old.table self.new.table }
         ensures ground { IsGround (view self.new) }
         ensures named { NamesNoFree (view self.new) }
@@ -175,7 +178,9 @@ fn clear_if_old<M: Memory>(mem: &mut M, table: &RegionTable, region: u32)
     requires small { region < 1024 }
     requires size { length (M.seen mem.old).levels ≡ table.now.regions }
     ensures clears { IsOld table.now region → Clears (M.seen mem.old) (M.seen mem.new) region }
+    ensures empties { IsOld table.now region → M.resident mem.new ≡ outside region (M.resident mem.old) }
     ensures same { (IsOld table.now region → ⊥) → M.seen mem.new ≡ M.seen mem.old }
+    ensures stays { (IsOld table.now region → ⊥) → M.resident mem.new ≡ M.resident mem.old }
     ensures faults { M.faults mem.new ≡ M.faults mem.old }
     ensures taken { M.taken mem.new ≡ M.taken mem.old }
 {

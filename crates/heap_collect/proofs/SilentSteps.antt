@@ -1,6 +1,7 @@
 -- The state after the silent steps.
 use Rattle.std.proofs.Common.{◌≡◌, ◌⊎◌, inl, inr, ℕ, suc, ◌+◌, ◌*◌, ◌^◌, ◌<◌, ◌≤◌, ◌==◌, Bool, true, false, not, ◌&&◌, nat_le, nat_lt, List, Option, Some, None, if◌then◌else◌, is_none, is_some, MatchBool, refl, sym, ◌∙◌, ap, subst, arith}
 use Rattle.std.specs.Prelude.{IfSome}
+use Rattle.std.proofs.lemmas.Bool.{cases_Bool, cond-true, cond-false}
 use Rattle.std.proofs.lemmas.Nat.{mul-add-lt}
 use Rattle.store_word.specs.Words.{Parts}
 use Rattle.store_word.specs.declared.levels.Levels.{Levels}
@@ -12,7 +13,7 @@ use Rattle.lisp_graph.proofs.Totals.{total-cong}
 use Rattle.mem_port.specs.Store.{Store}
 use Rattle.area_space.specs.Accounts.{debt, level_total}
 use Rattle.area_space.specs.Flips.{Slot}
-use Rattle.area_space.specs.Frees.{Frees}
+use Rattle.area_space.specs.Frees.{Frees, outside_old}
 use Rattle.area_space.specs.Table.{Table, areas_of, levels_of, live, slot_of, slots_of}
 use Rattle.heap_state.specs.lisp_meaning.Maps.{some_below}
 use Rattle.heap_state.specs.lisp_meaning.State.{Condemned, Collection, Idle, Phase, Running, State, aim_of, is_idle, no_aim}
@@ -25,7 +26,7 @@ use Rattle.scavenger.specs.Scan.{Scan}
 use Rattle.heap_state.specs.RepresentsAll.{RepresentsAll}
 use Rattle.heap_state.specs.Scans.{Scans}
 use Rattle.heap_collect.specs.Moments.{IsDone, IsResting}
-use Rattle.heap_collect.specs.Silent.{IsSilent, PreparesTo, StandsIn, capacity_at, collects_alone, done_from, flips_alone, flips_idle, full_bits, full_levels_on, is_full_on, placed_from, some_set}
+use Rattle.heap_collect.specs.Silent.{IsSilent, PreparesTo, StandsIn, capacity_at, collects_alone, done_from, flips_alone, flips_idle, full_bits, full_levels_on, is_full_on, placed_from, reclaims_alone, resident_from, some_set}
 use Rattle.heap_collect.proofs.Full.{bits_some, set_none, set_some}
 use Rattle.heap_collect.proofs.Reclaimed.{swept_of}
 use Rattle.heap_collect.proofs.ScannedAhead.{idle_phase, running_phase}
@@ -148,6 +149,14 @@ pub aim_none : {A : Type 0} (o r : Option A) (b : Bool) → r ≡ o → b ≡ is
 aim_none None r b same is gone = refl
 aim_none (Some v) r b same is gone = let x : is_some r ≡ true = ap is_some same in let z : false ≡ true = sym gone ∙ is ∙ x in absurd (cc)
 
+-- a reclaim is due only if a scan has finished and a collection runs
+pub due_over : {A : Type 0} (over : Bool) (aim : Option A) → (over && is_some aim) ≡ true → over ≡ false → ⊥
+due_over over aim due going = let x : (over && is_some aim) ≡ false = ap (λ b. b && is_some aim) going in let z : true ≡ false = sym due ∙ x in cc
+
+pub due_some : {A : Type 0} (over : Bool) (aim : Option A) → (over && is_some aim) ≡ true → aim ≡ None → ⊥
+due_some true aim due none = let x : is_some aim ≡ false = ap is_some none in let z : true ≡ false = sym due ∙ x in cc
+due_some false aim due none = absurd (cc)
+
 -- if a scan has finished and no reclaim is due, no collection runs
 pub aim_gone : {A : Type 0} (over : Bool) (aim : Option A) → over ≡ true → (over && is_some aim) ≡ false → aim ≡ None
 aim_gone true None is never = refl
@@ -263,3 +272,16 @@ never_alone t scan space none comes = go (collects_alone space) none comes
     go : (b : Bool) → b ≡ false → (b && (scan.over && is_some (full_levels_on t space))) ≡ true → ⊥
     go false none comes = cc
     go true none comes = cc
+
+-- Resident pages
+
+pub resident_then : (t : Table) (scan : Scan) (space : Space) (before after : List ℕ) → collects_alone space ≡ true → ((scan.over && is_some t.aim) ≡ true → after ≡ outside_old t before) → ((scan.over && is_some t.aim) ≡ false → after ≡ before)
+    → after ≡ resident_from t scan space before
+resident_then t scan space before after alone due never =
+    elim (cases_Bool (scan.over && is_some t.aim)) [
+      | inl on ↦ due on ∙ sym (cond-true (reclaims_alone t scan space) (outside_old t before) before (ap (λ b. b && (scan.over && is_some t.aim)) alone ∙ on))
+      | inr off ↦ never off ∙ sym (cond-false (reclaims_alone t scan space) (outside_old t before) before (ap (λ b. b && (scan.over && is_some t.aim)) alone ∙ off))
+    ]
+
+pub resident_quiet : (t : Table) (scan : Scan) (space : Space) (pages : List ℕ) → collects_alone space ≡ false → pages ≡ resident_from t scan space pages
+resident_quiet t scan space pages quiet = sym (cond-false (reclaims_alone t scan space) (outside_old t pages) pages (ap (λ b. b && (scan.over && is_some t.aim)) quiet))

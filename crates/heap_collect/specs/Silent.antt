@@ -7,6 +7,7 @@ use Rattle.store_word.specs.declared.space.Space.{Space}
 use Rattle.lisp_graph.specs.Totals.{total, if_true}
 use Rattle.mem_port.specs.Store.{Store}
 use Rattle.area_space.specs.Accounts.{level_total}
+use Rattle.area_space.specs.Frees.{outside_old}
 use Rattle.area_space.specs.Table.{Table}
 use Rattle.heap_state.specs.lisp_meaning.State.{State}
 use Rattle.heap_state.specs.lisp_meaning.Run.{SilentFlip, SilentReclaim, collects_itself}
@@ -64,6 +65,10 @@ done_from t scan space = if flips_alone t scan space then 0 else scan.done
 
 abbrev pub placed_from : Table → Scan → Space → ℕ
 placed_from t scan space = if flips_alone t scan space then 0 else t.placed
+
+-- the resident pages after the silent steps, in order of use: a reclaim makes the pages of old regions empty
+abbrev pub resident_from : Table → Scan → Space → List ℕ → List ℕ
+resident_from t scan space pages = if reclaims_alone t scan space then outside_old t pages else pages
 
 -- the machine represents some state of a world with this space, with a word for each register and all its regions
 pub record StandsIn (m : Store) (t : Table) (scan : Scan) (space : Space) : Type 0 where

@@ -7,7 +7,7 @@ ghost use Rattle.heap_state.specs.Views.{RepresentsAll, StepsTo};
 ghost use Rattle.lisp_graph.specs.declared.command.Command.TheVariants.{Flip as FlipCommand, Reclaim as ReclaimCommand};
 ghost use Rattle.store_word.specs.Words.{Parts};
 ghost use Rattle.area_space.specs.Flips.{Condemns};
-ghost use Rattle.area_space.specs.Frees.{Frees};
+ghost use Rattle.area_space.specs.Frees.{Frees, outside_old};
 ghost use Rattle.heap_state.specs.lisp_meaning.State.{Collection, Idle, Running, State};
 ghost use Rattle.heap_state.specs.lisp_meaning.Flip.{Settles, flipped};
 ghost use Rattle.heap_state.specs.lisp_meaning.Roles.{RoleMap};
@@ -77,9 +77,11 @@ pub fn reclaim<M: Memory>(ground: &mut Ground<M>, scan: &ScanSet) -> Reply
     // what is freed
     ensures freed { result ≡ Reply.Reclaimed → Frees ground.old.table ground.new.table }
     ensures frees { FreesAtMost (view ground.old) (view ground.new) }
+    ensures resident { result ≡ Reply.Reclaimed → M.resident ground.new.mem ≡ outside_old ground.old.table (M.resident ground.old.mem) }
     ensures rests { result ≡ Reply.Reclaimed → ground.new.table.aim ≡ None }
 
     // what is unchanged
+    ensures unchanged { result ≢ Reply.Reclaimed → ground.new ≡ ground.old }
     ensures regions { ground.new.table.regions ≡ ground.old.table.regions }
     ensures placed { ground.new.table.placed ≡ ground.old.table.placed }
     ensures faults { M.faults ground.new.mem ≡ M.faults ground.old.mem }
@@ -141,6 +143,7 @@ pub(crate) fn end_collection<M: Memory>(ground: &mut Ground<M>)
         → (map : RoleMap) × (new : State) × RepresentsAll (view ground.new) scan registers map new × Settles s c.aim new }
     ensures freed { Frees ground.old.table ground.new.table }
     ensures frees { FreesAtMost (view ground.old) (view ground.new) }
+    ensures resident { M.resident ground.new.mem ≡ outside_old ground.old.table (M.resident ground.old.mem) }
     ensures idle { ground.new.table.aim ≡ None }
     ensures placed { ground.new.table.placed ≡ ground.old.table.placed }
     ensures faults { M.faults ground.new.mem ≡ M.faults ground.old.mem }

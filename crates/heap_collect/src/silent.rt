@@ -6,11 +6,12 @@ ghost use Rattle.heap_collect.specs.Views.{FreesAtMost, PreparesTo, StandsIn};
 ghost use Rattle.heap_state.specs.Views.{RepresentsAll};
 ghost use Rattle.store_word.specs.Words.{Parts};
 ghost use Rattle.area_space.specs.Accounts.{level_total};
+ghost use Rattle.area_space.specs.Frees.{outside_old};
 ghost use Rattle.area_space.specs.Table.{levels_of, used_of, IsUnclassed};
 ghost use Rattle.heap_state.specs.lisp_meaning.Roles.{RoleMap};
 ghost use Rattle.heap_state.specs.lisp_meaning.Run.{SilentFlip, SilentReclaim};
 ghost use Rattle.heap_state.specs.lisp_meaning.State.{State};
-ghost use Rattle.heap_collect.specs.Silent.{collects_alone, done_from, flips_alone, flips_idle, full_levels_on, is_full_on, placed_from, reclaims_alone};
+ghost use Rattle.heap_collect.specs.Silent.{collects_alone, done_from, flips_alone, flips_idle, full_levels_on, is_full_on, placed_from, reclaims_alone, resident_from};
 
 use crate::collecting::{begin_collection, end_collection};
 use area_space::{Ground, RegionTable};
@@ -66,6 +67,7 @@ fn reclaim_alone<M: Memory>(ground: &mut Ground<M>, scan: &ScanSet, space: &Spac
         → (map : RoleMap) × (mid : State) × RepresentsAll (view ground.new) scan.now registers map mid × SilentReclaim s s.phase mid × (mid.space ≡ s.space) }
     ensures frees { FreesAtMost (view ground.old) (view ground.new) }
     ensures still { (scan.now.over && is_some ground.old.table.aim) ≡ false → ground.new ≡ ground.old }
+    ensures empties { (scan.now.over && is_some ground.old.table.aim) ≡ true → M.resident ground.new.mem ≡ outside_old ground.old.table (M.resident ground.old.mem) }
     ensures idle { scan.now.over ≡ true → ground.new.table.aim ≡ None }
     ensures going { scan.now.over ≡ false → ground.new.table.aim ≡ ground.old.table.aim }
     ensures totals { (level : ℕ) → level < levels_of ground.old.table → level_total ground.new.table level ≡ level_total ground.old.table level }
@@ -121,6 +123,7 @@ pub fn prepare<M: Memory>(ground: &mut Ground<M>, scan: &mut ScanSet, space: &Sp
     ensures frees { FreesAtMost (view ground.old) (view ground.new) }
     ensures quiet { collects_alone space.now ≡ false → (ground.new ≡ ground.old) × (scan.new ≡ scan.old) }
     ensures memory { reclaims_alone ground.old.table scan.old space.now ≡ false → ground.new.mem ≡ ground.old.mem }
+    ensures resident { M.resident ground.new.mem ≡ resident_from ground.old.table scan.old space.now (M.resident ground.old.mem) }
     ensures rests { reclaims_alone ground.old.table scan.old space.now ≡ false → flips_alone ground.old.table scan.old space.now ≡ false → ground.new ≡ ground.old }
     ensures done { scan.new.done ≡ done_from ground.old.table scan.old space.now }
     ensures placed { ground.new.table.placed ≡ placed_from ground.old.table scan.old space.now }

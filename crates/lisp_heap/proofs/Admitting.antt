@@ -43,11 +43,11 @@ pub record Allocated (old new : Contents) (before after charge words read : ℕ)
   pub order : r ≡ R.Fine → ScansFirst old new charge words read
 
 module _ {M : Type 0} {g : Ghosts M} (ground : Ground M g) {scan : Scan} {registers : List Parts} {space : Space} {area : ℕ} where
-  pub prepared_parts : (p : Prepares (view ground) scan space) → IsSound (contents_at ground scan registers space) → area < length ground.table.kinds
+  pub prepared_parts : (p : Prepares (view ground) scan space (g.resident ground.mem)) → IsSound (contents_at ground scan registers space) → area < length ground.table.kinds
       → Prepared (g.seen ground.mem) p.ground.mem.store ground.table p.ground.table scan p.begun registers space (g.faults ground.mem) (g.resident ground.mem) (counted g ground.mem) area
   prepared_parts p sound area_in = record { sound = sound; silent = p.silent; done = p.done; placed = p.placed; regions = p.regions; frees = p.frees; area_in = area_in }
 
-  module _ (ground2 : Ground M g) {scan2 : Scan} {registers2 : List Parts} {charge before mid level : ℕ} (a : Admits (view ground) (view ground2) scan scan2 registers registers2 space area charge before mid level) where
+  module _ (ground2 : Ground M g) {scan2 : Scan} {registers2 : List Parts} {charge before mid level : ℕ} (a : Admits (view ground) (view ground2) scan scan2 registers registers2 space (g.resident ground.mem) area charge before mid level) where
     pub admitted_parts : Admitted a.first.ground.mem.store (g.seen ground2.mem) a.first.ground.table ground2.table a.first.begun scan2 registers registers2 space.rate area charge
     admitted_parts = record { ahead = a.ahead; left = a.left; preserved = a.preserved; regions = a.table.form.regions; some = a.on.some; grows = a.table.placed; table = a.table; marks = a.on.marks }
 

@@ -31,9 +31,9 @@ some_then None f x = tt
 some_then (Some a) f x = f a x
 
 -- after the silent steps
-pub ready_there : {M : Type 0} {g : Ghosts M} (ground : Ground M g) {scan : Scan} {registers : List Parts} {space : Space} (x : Prepares (view ground) scan space) → IsStanding x.ground.mem.store x.ground.table x.begun registers
+pub ready_there : {M : Type 0} {g : Ghosts M} (ground : Ground M g) {scan : Scan} {registers : List Parts} {space : Space} {pages : List ℕ} (x : Prepares (view ground) scan space pages) → IsStanding x.ground.mem.store x.ground.table x.begun registers
     → IsReady (contents_at ground scan registers space) (moment (lists_of x.ground.mem.store) x.ground.table x.begun registers)
-ready_there ground {scan} {registers} {space} x standing = record {
+ready_there ground {scan} {registers} {space} {pages} x standing = record {
   registers = refl;
   memory = λ never. ap lists_of (x.memory never);
   scan = x.still;
@@ -42,7 +42,7 @@ ready_there ground {scan} {registers} {space} x standing = record {
 }
 
 -- a block was looked at, units were scanned, and it grew
-pub growth_order : {M : Type 0} {g : Ghosts M} (ground ground3 : Ground M g) {scan scan3 : Scan} {registers registers3 : List Parts} {space : Space} (charge : ℕ) (x : Prepares (view ground) scan space) → IsStanding x.ground.mem.store x.ground.table x.begun registers
+pub growth_order : {M : Type 0} {g : Ghosts M} (ground ground3 : Ground M g) {scan scan3 : Scan} {registers registers3 : List Parts} {space : Space} (charge : ℕ) (x : Prepares (view ground) scan space (g.resident ground.mem)) → IsStanding x.ground.mem.store x.ground.table x.begun registers
     → LooksAndWidens x.ground (view ground3) x.begun scan3 registers registers3 charge (space.rate * charge) → ScansBeforeGrowth (contents_at ground scan registers space) (contents_at ground3 scan3 registers3 space) charge
 growth_order ground ground3 {scan} {scan3} {registers} {registers3} {space} charge x standing y =
     let w = y.widens in

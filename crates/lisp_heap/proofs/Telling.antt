@@ -1,20 +1,25 @@
 -- What commands report of the memory.
-use Rattle.std.proofs.Common.{◌≡◌, ◌≢◌, ℕ, ◌+◌, ◌-◌, ◌*◌, ◌≤◌, refl, sym, ◌∙◌, ap, arith, Bool, true, false, length}
-use Rattle.std.specs.Prelude.{Result, Ok, Err, IfOk, OnOk}
+use Rattle.std.proofs.Common.{◌≡◌, ◌≢◌, ℕ, ◌+◌, ◌-◌, ◌*◌, ◌≤◌, inl, inr, refl, sym, ◌∙◌, ap, arith, Bool, true, false, List, [], ◌∷◌, filter, length, if◌then◌else◌}
+use Rattle.std.specs.Prelude.{Result, Ok, Err, IfOk, OnErr, OnOk}
+use Rattle.std.proofs.lemmas.Bool.{cases_Bool, cond-true, cond-false}
 use Rattle.store_word.specs.Faults.{TellsFaults}
 use Rattle.store_word.specs.declared.faults.SwapFault.{SwapFault}
+use Rattle.store_word.specs.declared.space.Space.{Space}
 use Rattle.lisp_graph.specs.declared.command.Command.{Command}
 use Rattle.lisp_graph.specs.declared.command.Command.TheVariants as C
 use Rattle.lisp_graph.specs.declared.reply.Reply.{Reply}
 use Rattle.lisp_graph.specs.declared.reply.Reply.TheVariants as R
 use Rattle.mem_port.specs.Store.{Store}
 use Rattle.mem_port.specs.View.{MemoryView, TellsIf}
+use Rattle.area_space.specs.Frees.{outside_old}
+use Rattle.area_space.specs.Table.{Table}
 use Rattle.word_graph.specs.lisp_meaning.Run.{allocates}
+use Rattle.scavenger.specs.Scan.{Scan}
 use Rattle.heap_state.specs.Reads.{is_fault, reply_of}
-use Rattle.heap_collect.specs.Silent.{reclaims_alone}
+use Rattle.heap_collect.specs.Silent.{reclaims_alone, resident_from}
 use Rattle.lisp_heap.specs.Contents.{Contents}
 use Rattle.lisp_heap.specs.Costs.{Takes}
-use Rattle.lisp_heap.specs.Stands.{Told, frees_pages}
+use Rattle.lisp_heap.specs.Stands.{Told, frees_pages, resident_before}
 use Rattle.lisp_heap.specs.Words.{paged}
 
 -- a heap's memory, as a call shows it
@@ -26,14 +31,38 @@ pub not_fault : (r : Reply) → r ≢ R.Fault → is_fault r ≡ false
 not_fault R.Fault other = absurd (other refl)
 not_fault r other = refl
 
+-- Resident pages
+
+filter_short : (f : ℕ → Bool) (xs : List ℕ) → length (filter f xs) ≤ length xs
+filter_short f [] = omega arith
+filter_short f (x ∷ xs) =
+    let rest = filter_short f xs in
+    elim (cases_Bool (f x)) [
+      | inl on ↦ (let e = ap length (cond-true (f x) (x ∷ filter f xs) (filter f xs) on) in omega arith)
+      | inr off ↦ (let e = ap length (cond-false (f x) (x ∷ filter f xs) (filter f xs) off) in omega arith)
+    ]
+
+either_short : (b : Bool) (xs ys : List ℕ) → length xs ≤ length ys → length (if b then xs else ys) ≤ length ys
+either_short true xs ys short = short
+either_short false xs ys short = omega arith
+
+from_short : (t : Table) (scan : Scan) (space : Space) (pages : List ℕ) → length (resident_from t scan space pages) ≤ length pages
+from_short t scan space pages = either_short (reclaims_alone t scan space) (outside_old t pages) pages (filter_short _ pages)
+
+-- no page becomes resident by the silent steps
+pub before_short : (c : Command) (heap : Contents) → length (resident_before c heap) ≤ length heap.resident
+before_short c heap = either_short (allocates c) (resident_from heap.table heap.scan heap.space heap.resident) heap.resident (from_short heap.table heap.scan heap.space heap.resident)
+
+-- Reports
+
 pub told_by : {store store' : Store} (old new : Contents) (before after : ℕ) (c : Command) (r : Reply) → TellsIf (memory_of store old) (memory_of store' new) before after (is_fault r) → Told old new before after c r
 told_by old new before after c r x = record {
   later = x.later;
   fault = λ e. x.failed (ap is_fault e);
   sure = λ other. x.quiet (not_fault r other);
   honest = x.honest;
-  room = λ other frees. x.room (not_fault r other);
-  gone = λ frees. x.gone;
+  room = λ other frees. (let a = x.room (not_fault r other) in let b = before_short c old in omega arith);
+  gone = λ frees. (let a = x.gone in let b = before_short c old in omega arith);
 }
 
 -- the memory wasn't used
@@ -48,14 +77,14 @@ nothing_asked v steps faulted none = record {
 }
 
 -- the memory counted nothing
-pub told_still : (old new : Contents) (steps : ℕ) (c : Command) (r : Reply) → new.faults ≡ old.faults → new.counts.taken ≡ old.counts.taken → is_fault r ≡ false → (frees_pages c old ≡ false → length new.resident ≡ length old.resident) → Told old new steps steps c r
+pub told_still : (old new : Contents) (steps : ℕ) (c : Command) (r : Reply) → new.faults ≡ old.faults → new.counts.taken ≡ old.counts.taken → is_fault r ≡ false → (frees_pages c ≡ false → length new.resident ≡ length old.resident) → Told old new steps steps c r
 told_still old new steps c r faults taken none resident = record {
   later = omega arith;
   fault = λ e. let bad : true ≡ false = sym (ap is_fault e) ∙ none in absurd (cc);
   sure = λ _. faults;
   honest = omega arith;
-  room = λ other frees. (let a = resident frees in omega arith);
-  gone = λ frees. (let a = resident frees in omega arith);
+  room = λ other frees. (let a = resident frees in let b = before_short c old in omega arith);
+  gone = λ frees. (let a = resident frees in let b = before_short c old in omega arith);
 }
 
 -- pages were evicted
@@ -92,23 +121,18 @@ tells_then x y =
     }
 
 -- an allocation, after its silent steps
-pub told_behind : {store' : Store} (old new : Contents) (v : MemoryView) (before after : ℕ) (c : Command) (r : Reply) → allocates c ≡ true → v.faults ≡ old.faults → v.taken ≡ old.counts.taken → (reclaims_alone old.table old.scan old.space ≡ false → v.resident ≡ length old.resident)
+pub told_behind : {store' : Store} (old new : Contents) (v : MemoryView) (before after : ℕ) (c : Command) (r : Reply) → allocates c ≡ true → v.faults ≡ old.faults → v.taken ≡ old.counts.taken → v.resident ≡ length (resident_from old.table old.scan old.space old.resident)
     → TellsIf v (memory_of store' new) before after (is_fault r) → Told old new before after c r
-told_behind old new v before after c r all faults taken quiet x = record {
-  later = (let a = x.later in omega arith);
-  fault = λ e. (let a = x.failed (ap is_fault e) in omega arith);
-  sure = λ other. x.quiet (not_fault r other) ∙ faults;
-  honest = (let a = x.honest in omega arith);
-  room = λ other frees. (let a = x.room (not_fault r other) in let b = quiet (alone c all frees) in omega arith);
-  gone = λ frees. (let a = x.gone in let b = quiet (alone c all frees) in omega arith);
-}
-  where
-    alone : (c : Command) → allocates c ≡ true → frees_pages c old ≡ false → reclaims_alone old.table old.scan old.space ≡ false
-    alone (C.Cons to area car cdr) all frees = frees
-    alone (C.List to area items) all frees = frees
-    alone (C.Make to area code length) all frees = frees
-    alone (C.Grow target length) all frees = frees
-    alone c all frees = absurd (cc)
+told_behind old new v before after c r all faults taken resident x =
+    let ready : length (resident_before c old) ≡ v.resident = ap length (cond-true (allocates c) (resident_from old.table old.scan old.space old.resident) old.resident all) ∙ sym resident in
+    record {
+      later = (let a = x.later in omega arith);
+      fault = λ e. (let a = x.failed (ap is_fault e) in omega arith);
+      sure = λ other. x.quiet (not_fault r other) ∙ faults;
+      honest = (let a = x.honest in omega arith);
+      room = λ other frees. (let a = x.room (not_fault r other) in omega arith);
+      gone = λ frees. (let a = x.gone in omega arith);
+    }
 
 -- the memory accesses of a command, if it returned a reply
 pub cost_of : {A : Type 0} (answer : Result Reply SwapFault) → OnOk answer A → reply_of answer ≢ R.Fault → A
@@ -126,3 +150,8 @@ made_sure answer fine fault = let bad : R.Fine ≡ R.Fault = sym fine ∙ fault 
 pub made_fine : (answer : Result Reply SwapFault) → IfOk answer (λ reply. reply ≡ R.Fine) → reply_of answer ≢ R.Fault → reply_of answer ≡ R.Fine
 made_fine (Ok reply) fine other = fine
 made_fine (Err fault) fine other = absurd (other refl)
+
+-- the reply to an eviction is `fault` only if it met a swap error
+pub paged_fault : {A : Type 0} (evicted : Result ℕ SwapFault) → OnErr evicted A → paged evicted ≡ R.Fault → A
+paged_fault (Ok count) stops fault = absurd (cc)
+paged_fault (Err error) stops fault = stops

@@ -53,6 +53,7 @@ opens_listed {m} {m'} {t} {t'} {region} {area} {level} x = record {
   chain = x.chain;
   region_level = levels region x.region_level;
   free = x.free;
+  lowest = x.lowest;
   ground = record { size = x.ground.size; levels_size = x.ground.levels_size; top = x.ground.top; level_live = x.ground.level_live; level_old = x.ground.level_old; blank = x.ground.blank };
   named = x.named;
   sound = x.sound;

@@ -21,14 +21,14 @@ use Rattle.heap_state.specs.transporter.LiveSame.{OnlyGrows}
 use Rattle.heap_state.specs.transporter.Preserving.{RegistersPreserved}
 use Rattle.heap_collect.specs.Admitting.{HasLeft, Wants}
 use Rattle.heap_collect.specs.Amounts.{Amount}
-use Rattle.heap_collect.specs.Silent.{done_from, flips_alone, full_levels_on, placed_from, reclaims_alone}
+use Rattle.heap_collect.specs.Silent.{done_from, flips_alone, full_levels_on, placed_from, reclaims_alone, resident_from}
 use Rattle.heap_collect.specs.Views.{FreesAtMost, PreparesTo, ScansOn}
 use Rattle.lisp_heap.specs.Contents.{Contents}
 use Rattle.lisp_heap.specs.Costs.{CostsNothing, IsRefused}
 use Rattle.lisp_heap.specs.Stands.{IsSound, Runs}
 
--- the silent steps were taken: the ground and the scan after them
-pub record Prepares (v : GroundView) (scan : Scan) (space : Space) : Type 0 where
+-- the silent steps were taken, with these resident pages before them: the ground and the scan after them
+pub record Prepares (v : GroundView) (scan : Scan) (space : Space) (pages : List ℕ) : Type 0 where
   pub ground : GroundView
   pub begun : Scan
   pub silent : (registers : List Parts) (k : RoleMap) (s : State) → RepresentsAll v scan registers k s → s.space ≡ space → length registers ≡ space.registers → PreparesTo ground begun registers s
@@ -42,11 +42,11 @@ pub record Prepares (v : GroundView) (scan : Scan) (space : Space) : Type 0 wher
   pub memory : reclaims_alone v.table scan space ≡ false → ground.mem.store ≡ v.mem.store
   pub rests : reclaims_alone v.table scan space ≡ false → flips_alone v.table scan space ≡ false → ground.table ≡ v.table
   pub begins : flips_alone v.table scan space ≡ true → IfSome (full_levels_on v.table space) (λ levels. Begins ground (Chosen levels) scan begun)
-  pub resident : reclaims_alone v.table scan space ≡ false → ground.mem.resident ≡ v.mem.resident
+  pub resident : ground.mem.resident ≡ length (resident_from v.table scan space pages)
 
 -- After the silent steps a charge was admitted, and units were scanned for it; a new object is made at this level.
-pub record Admits (v v' : GroundView) (scan scan' : Scan) (registers registers' : List Parts) (space : Space) (area charge before after level : ℕ) : Type 0 where
-  pub first : Prepares v scan space
+pub record Admits (v v' : GroundView) (scan scan' : Scan) (registers registers' : List Parts) (space : Space) (pages : List ℕ) (area charge before after level : ℕ) : Type 0 where
+  pub first : Prepares v scan space pages
   pub ahead : (k : RoleMap) (s : State) → RepresentsAll first.ground first.begun registers k s → HasScannedAhead first.ground v' scan' registers' k s (space.rate * charge)
   pub left : HasLeft v'.table area charge
   pub level_is : (s : State) → v.table.kinds ≡ kinds_in s.areas → level ≡ new_level (rule_of s.areas area).kind

@@ -1,5 +1,5 @@
 -- What it means that a heap represents a state.
-use Rattle.std.specs.Prelude.{◌≡◌, ◌≢◌, ◌+◌, ◌≤◌, ◌<◌, ℕ, Bool, true, false, ◌&&◌, if◌then◌else◌, length, IsTrue}
+use Rattle.std.specs.Prelude.{◌≡◌, ◌≢◌, ◌+◌, ◌≤◌, ◌<◌, ℕ, Bool, true, false, if◌then◌else◌, List, length, IsTrue}
 use Rattle.lisp_graph.specs.declared.command.Command.{Command}
 use Rattle.lisp_graph.specs.declared.command.Command.TheVariants as C
 use Rattle.lisp_graph.specs.declared.reply.Reply.{Reply}
@@ -16,7 +16,7 @@ use Rattle.scavenger.specs.Left.{rest_of}
 use Rattle.heap_state.specs.RepresentsAll.{RepresentsAll}
 use Rattle.heap_state.specs.Reads.{reads, IsDone}
 use Rattle.heap_state.specs.Settled.{IsSettled}
-use Rattle.heap_collect.specs.Silent.{reclaims_alone}
+use Rattle.heap_collect.specs.Silent.{resident_from}
 use Rattle.lisp_heap.specs.Contents.{Contents, SameWorld, store_of}
 use Rattle.lisp_heap.specs.Costs.{done_at, placed_at}
 use Rattle.lisp_heap.specs.Marked.{MarksPages}
@@ -58,20 +58,24 @@ scans_for (C.Flip what) = true
 scans_for (C.Scavenge count) = true
 scans_for c = allocates c
 
--- a command may make pages empty or evict them: it does so itself, or a silent reclaim may precede it
-abbrev pub frees_pages : Command → Contents → Bool
-frees_pages (C.PageOut count) heap = true
-frees_pages C.Reclaim heap = true
-frees_pages c heap = allocates c && reclaims_alone heap.table heap.scan heap.space
+-- a command evicts pages, or makes pages empty
+abbrev pub frees_pages : Command → Bool
+frees_pages (C.PageOut count) = true
+frees_pages C.Reclaim = true
+frees_pages c = false
 
--- What a command, with these counts of memory accesses before and after it, reports of the memory: each swap error is in its count, each access too, and no page left its frame except for another one, or, if the reply is `fault`, one for a page that wasn't read.
+-- the pages that are resident when a command begins, in order of use: after the silent steps before it those outside the regions that were freed
+abbrev pub resident_before : Command → Contents → List ℕ
+resident_before c heap = if allocates c then resident_from heap.table heap.scan heap.space heap.resident else heap.resident
+
+-- What a command, with these counts of memory accesses before and after it, reports of the memory: each swap error is in its count, each access too, and after the silent steps no page left its frame except for another one, or, if the reply is `fault`, one for a page that wasn't read.
 pub record Told (old new : Contents) (before after : ℕ) (c : Command) (r : Reply) : Type 0 where
   pub later : old.faults ≤ new.faults
   pub fault : r ≡ R.Fault → old.faults < new.faults
   pub sure : r ≢ R.Fault → new.faults ≡ old.faults
   pub honest : new.counts.taken + before ≡ old.counts.taken + after
-  pub room : r ≢ R.Fault → frees_pages c old ≡ false → length old.resident ≤ length new.resident
-  pub gone : frees_pages c old ≡ false → length old.resident ≤ length new.resident + 1
+  pub room : r ≢ R.Fault → frees_pages c ≡ false → length (resident_before c old) ≤ length new.resident
+  pub gone : frees_pages c ≡ false → length (resident_before c old) ≤ length new.resident + 1
 
 -- A command ran with this reply: from each state that the heap represented the definition does it, and the heap represents what follows. The world is the same, and what it met is reported; a swap error undoes nothing. A register that was read is settled, if the command was done. No page got marks without a word that may give them. A command that neither pays for units nor begins a scan leaves the scan as it is.
 pub record Runs (old new : Contents) (before after : ℕ) (c : Command) (r : Reply) : Type 0 where

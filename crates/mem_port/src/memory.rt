@@ -5,7 +5,7 @@ ghost use Rattle.mem_port.specs.Swaps.{Swaps};
 ghost use Rattle.store_word.specs.Sets.{HasLevel, Meets};
 ghost use Rattle.store_word.specs.Words.{Parts, null_word};
 ghost use Rattle.store_word.specs.Faults.{TellsFaults};
-ghost use Rattle.mem_port.specs.Frames.{LeavesRoom};
+ghost use Rattle.mem_port.specs.Frames.{EvictsFewer, LeavesRoom, outside};
 
 use std::sync::ledger::Ledger;
 use store_word::{Levels, Steps, SwapFault, Word};
@@ -131,11 +131,12 @@ pub trait Memory {
         ensures taken { taken self.new ≡ taken self.old + count }
         ensures cost { steps.new ≡ steps.old + count };
 
-    /// Makes the words of a region NULL, and drops the marks of its pages. Held pages of other
-    /// regions stay held; those of this one have to be held again.
+    /// Makes the words of a region NULL, and drops the marks of its pages, which are no longer resident. Held
+    /// pages of other regions stay held; those of this one have to be held again.
     fn clear(&mut self, region: u32)
         requires { region < length (seen self.old).levels }
         ensures cleared { Clears (seen self.old) (seen self.new) region }
+        ensures resident { resident self.new ≡ outside region (resident self.old) }
         ensures kept { (page : ℕ) → page / 16 ≢ region → held self.old page → held self.new page }
         ensures faults { faults self.new ≡ faults self.old }
         ensures taken { taken self.new ≡ taken self.old };
@@ -181,10 +182,11 @@ pub trait Memory {
 
     /// Evicts this many resident pages, or all if there are fewer, the least recently used
     /// first, and returns how many. Afterwards a page that was held may no longer be. If it fails, which raises
-    /// the count of swap errors, some of these pages may be evicted.
+    /// the count of swap errors, it has evicted fewer, the least recently used first.
     fn evict_oldest(&mut self, count: u32) -> Result<u32, SwapFault>
         ensures evicted { OnOk result (resident self.new ≡ drop (min count (length (resident self.old))) (resident self.old)) }
         ensures count { IfOk result (λ evicted. evicted ≡ min count (length (resident self.old))) }
+        ensures stops { OnErr result (EvictsFewer (resident self.old) (resident self.new) count) }
         ensures stays { StoresNothing (seen self.old) (seen self.new) }
         ensures cause { TellsFaults (faults self.old) (faults self.new) result }
         ensures taken { taken self.new ≡ taken self.old };

@@ -4,6 +4,7 @@ use Rattle.std.specs.Prelude.{Contains, OnErr, Result, Ok, Err, slice_index}
 use Rattle.frame_pool.specs.index_lists.Chains.{first_of}
 use Rattle.frame_pool.proofs.index_lists.Members.{has_from_contains, contains_from_has}
 use Rattle.frame_pool.proofs.index_lists.Callers.{Contains-first}
+use Rattle.mem_port.specs.Frames.{EvictsFewer}
 use Rattle.store_word.specs.Words.{Parts}
 use Rattle.page_map.specs.Map.{place_at}
 use Rattle.paged_memory.specs.Paging.{Paging, resident_of, IsPaged}
@@ -66,6 +67,10 @@ pub writes_more : (n : ℕ) (before mid now : Calls) → mid ≡ with_writes n b
 writes_more n before mid now some one = let e : n + 1 ≡ suc n = omega arith in one ∙ ap with_write some ∙ ap (λ k. with_writes k before) (sym e)
 
 -- an eviction fails after some
+pub evicts_fewer : {A E : Type 0} (r : Result A E) (order left : List ℕ) (n count : ℕ) → n < count → left ≡ drop n order → OnErr r (EvictsFewer order left count)
+evicts_fewer (Ok x) order left n count low is = tt
+evicts_fewer (Err e) order left n count low is = record { gone = n; fewer = low; order = is }
+
 pub stops_evicting : {A E : Type 0} (r : Result A E) (order left : List ℕ) (before mid now : Calls) (n count : ℕ) → n < count → left ≡ drop n order → mid ≡ with_writes n before → now ≡ with_write mid
     → OnErr r ((gone : ℕ) × (gone < count) × (left ≡ drop gone order) × (now ≡ with_writes (gone + 1) before))
 stops_evicting (Ok x) order left before mid now n count low is some one = tt

@@ -1,7 +1,7 @@
 //! The contract of a memory, and also what each call does to the order of use, to the places and to the marks.
-ghost use Rattle.std.specs.Prelude.{◌≡◌, ◌≢◌, ◌==◌, ◌+◌, ◌*◌, ◌/◌, ◌<◌, ◌≤◌, ℕ, length, false, filter, not, nat_lt, drop, min, slice_get, slice_set, Some, All, Contains, IsOk, IfOk, OnOk, OnErr, ◌⊎◌, ◌%◌, slice_index_or};
+ghost use Rattle.std.specs.Prelude.{◌≡◌, ◌≢◌, ◌+◌, ◌*◌, ◌/◌, ◌<◌, ◌≤◌, ℕ, length, false, nat_lt, drop, min, slice_get, slice_set, Some, All, Contains, IsOk, IfOk, OnOk, OnErr, ◌⊎◌, ◌%◌, slice_index_or};
 ghost use Rattle.store_word.specs.Faults.{TellsFaults};
-ghost use Rattle.mem_port.specs.Frames.{LeavesRoom};
+ghost use Rattle.mem_port.specs.Frames.{EvictsFewer, LeavesRoom, outside};
 ghost use Rattle.mem_port.specs.Store.{IsSound, IsClean, IsUnused, StoresNothing, Stores, Clears, Remarks, level_of_word, Covers};
 ghost use Rattle.store_word.specs.Words.{null_word};
 ghost use Rattle.page_map.specs.Map.{place_at};
@@ -198,7 +198,7 @@ impl<D: Swap> Memory for PagedMemory<D> {
     fn clear(&mut self, region: u32)
         requires { region < length self.old.0.levels }
         ensures cleared { Clears (store_of self.old.0 (D.stored self.old.1)) (store_of self.new.0 (D.stored self.new.1)) region }
-        ensures resident { resident_of self.new.0 ≡ filter (λ page. not (page / 16 == region)) (resident_of self.old.0) }
+        ensures resident { resident_of self.new.0 ≡ outside region (resident_of self.old.0) }
         ensures kept { (page : ℕ) → page / 16 ≢ region → Contains (resident_of self.old.0) page → Contains (resident_of self.new.0) page }
         ensures frames { frames_of self.new.0.pool ≡ frames_of self.old.0.pool }
         ensures device { self.new.1 ≡ self.old.1 }
@@ -280,7 +280,8 @@ impl<D: Swap> Memory for PagedMemory<D> {
         ensures evicted { OnOk result (resident_of self.new.0 ≡ drop (min count (length (resident_of self.old.0))) (resident_of self.old.0)) }
         ensures count { IfOk result (λ evicted. evicted ≡ min count (length (resident_of self.old.0))) }
         ensures out { Evicts self.old.0 self.new.0 }
-        ensures stops { OnErr result ((gone : ℕ) × (gone < count) × (resident_of self.new.0 ≡ drop gone (resident_of self.old.0)) × (D.calls self.new.1 ≡ with_writes (gone + 1) (D.calls self.old.1))) }
+        ensures stops { OnErr result (EvictsFewer (resident_of self.old.0) (resident_of self.new.0) count) }
+        ensures stopped { OnErr result ((gone : ℕ) × (gone < count) × (resident_of self.new.0 ≡ drop gone (resident_of self.old.0)) × (D.calls self.new.1 ≡ with_writes (gone + 1) (D.calls self.old.1))) }
         ensures stays { StoresNothing (store_of self.old.0 (D.stored self.old.1)) (store_of self.new.0 (D.stored self.new.1)) }
         ensures cause { TellsFaults (D.faults self.old.1) (D.faults self.new.1) result }
         ensures taken { self.new.2 ≡ self.old.2 }

@@ -13,7 +13,7 @@ use Rattle.transporter.proofs.Landing.{opened-form}
 
 pub opens-or-stays : {m m' : Store} {t t' : Table} {area level : ℕ} (region : Option ℕ) → area < areas_of t → level < levels_of t → Opens m t m' t' region area level → OpensOrStays t t'
 opens-or-stays None area_in level_in o = inl o.same
-opens-or-stays {m} {m'} {t} {t'} {area} {level} (Some r) area_in level_in o = inr (record { area = area; level = level; area_in = area_in; level_in = level_in; region = r; free = o.free; table = o.chain })
+opens-or-stays {m} {m'} {t} {t'} {area} {level} (Some r) area_in level_in o = inr (record { area = area; level = level; area_in = area_in; level_in = level_in; region = r; free = o.free; lowest = o.lowest; table = o.chain })
 
 pub grows-moved : {m m' : Store} {t t' : Table} {here : ℕ} (to : ℕ) → MovesHere m t m' t' here to → Grows t t'
 grows-moved {m} {m'} {t} {t'} {here} to moved =

@@ -51,7 +51,7 @@ module _ (m : Memory.Store) (t : Table) (k : RoleMap) (top : ℕ) (areas : List 
     where
       go : (r : Option ℕ) → Opens m t m1 t1 r area level → OpensOrStays t t1
       go None o = inl o.same
-      go (Some r) o = inr (record { area = area; level = level; area_in = area_in; level_in = level_in; region = r; free = o.free; table = o.chain })
+      go (Some r) o = inr (record { area = area; level = level; area_in = area_in; level_in = level_in; region = r; free = o.free; lowest = o.lowest; table = o.chain })
 
   module _ (at words : ℕ) (end : IsEnd t1 (slot_of t area level) at words) where
     pub end_there : IsEnd t1 (slot_of t1 area level) at words

@@ -25,7 +25,7 @@ pub is_place : (m : Store) (t : Table) (area level words : ℕ) (region : Option
     → IfSome region (λ r. (other : ℕ) → other < r → IsUnclassed t other → ⊥)
     → IsTable t1 → IsGround m1 t1 → NamesNoFree m1 t1 → IsPlace m t m1 t1 area level words at region
 is_place m t area level words region end same behind table region_level full free lowest sound ground named = record {
-  opens = record { same = same; behind = behind; chain = table; region_level = region_level; free = free; ground = ground; named = named; sound = sound };
+  opens = record { same = same; behind = behind; chain = table; region_level = region_level; free = free; lowest = lowest; ground = ground; named = named; sound = sound };
   end = end;
   needed = record { full = full; lowest = lowest };
 }

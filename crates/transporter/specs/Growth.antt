@@ -4,7 +4,7 @@ use Rattle.area_space.specs.Table.{Table, areas_of, levels_of, slot_of, live, Is
 use Rattle.area_space.specs.Places.{IsEnd, opened}
 use Rattle.transporter.specs.Relocations.{Commits}
 
--- a region that was free is opened for a live class
+-- the free region with the lowest number is opened for a live class
 pub record OpensRegion (t t' : Table) : Type 0 where
   pub area : ℕ
   pub level : ℕ
@@ -12,6 +12,7 @@ pub record OpensRegion (t t' : Table) : Type 0 where
   pub level_in : level < levels_of t
   pub region : ℕ
   pub free : IsUnclassed t region
+  pub lowest : (other : ℕ) → other < region → IsUnclassed t other → ⊥
   pub table : t' ≡ opened t (live (slot_of t area level)) region
 
 abbrev pub OpensOrStays : Table → Table → Type 0

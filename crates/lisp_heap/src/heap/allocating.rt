@@ -31,7 +31,7 @@ pub(super) fn admitted<M: Memory, L: Ledger>(
     requires area { area < length ground.old.table.kinds }
 
     // what is admitted, and what is refused
-    ensures admits { IfOk result (λ level. Admits (view ground.old) (view ground.new) scan.old scan.new registers.old registers.new space.now area charge steps.old steps.new level) }
+    ensures admits { IfOk result (λ level. Admits (view ground.old) (view ground.new) scan.old scan.new registers.old registers.new space.now (M.resident ground.old.mem) area charge steps.old steps.new level) }
     ensures refuses { IfErr result (λ reply. Refuses (contents_at ground.old scan.old registers.old space.now) (contents_at ground.new scan.new registers.new space.now) area charge steps.old steps.new reply) }
 
     // where the new object may be placed, and that to make it is a transition

@@ -1,6 +1,7 @@
 //! Commands on collections.
 ghost use Rattle.std.specs.Prelude.{◌≡◌, ◌≢◌, ◌+◌, ◌-◌, ◌*◌, ◌≤◌, ℕ, [], None};
 ghost use Rattle.area_space.specs.Flips.{Condemns};
+ghost use Rattle.area_space.specs.Frees.{outside_old};
 ghost use Rattle.scavenger.specs.Starting.{Begins, base_pages};
 ghost use Rattle.heap_collect.specs.Amounts.{CountsPlaced};
 ghost use Rattle.word_graph.specs.lisp_meaning.State.{State};
@@ -67,13 +68,16 @@ impl<M: Memory> Heap<M> {
     }
 
     /// `reclaim`: ends the collection that runs, if no unit remains to be scanned: what was condemned and
-    /// not copied is gone, and no longer charged. It replies `NotDone` if a unit remains, and
+    /// not copied is gone, and no longer charged. The pages of the regions that it frees are no longer
+    /// resident, and no other page leaves its frame. It replies `NotDone` if a unit remains, and
     /// `NotFlipped` if no collection runs. It takes no memory access, and the swap can't fail in it.
     pub fn reclaim(&mut self) -> Reply
         ensures runs { Runs self.old self.new 0 0 Command.Reclaim result }
         ensures left { result ≡ Reply.NotDone → IsUnfinished self.new }
         ensures none { result ≡ Reply.Reclaimed → left_in self.old ≡ 0 }
         ensures freed { result ≡ Reply.Reclaimed → (s : State) → Stands self.old s → Reclaimed self.new s }
+        ensures resident { result ≡ Reply.Reclaimed → self.new.resident ≡ outside_old self.old.table self.old.resident }
+        ensures unchanged { result ≢ Reply.Reclaimed → self.new.resident ≡ self.old.resident }
         ensures faults { self.new.faults ≡ self.old.faults }
     {
         let reply = reclaim(&mut self.ground, &self.scan);

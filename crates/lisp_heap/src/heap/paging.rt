@@ -1,5 +1,6 @@
 //! The command on pages.
 ghost use Rattle.std.specs.Prelude.{◌≡◌, drop, length, min};
+ghost use Rattle.mem_port.specs.Frames.{EvictsFewer};
 ghost use Rattle.lisp_heap.specs.Stands.{Runs};
 ghost use Rattle.lisp_heap.specs.Words.{paged};
 
@@ -10,11 +11,12 @@ use mem_port::{Memory, known};
 use store_word::SwapFault;
 
 impl<M: Memory> Heap<M> {
-    /// `page-out`: evicts this many resident pages, or all if there are fewer, the least recently used first. A swap error may
-    /// occur after some of them were evicted.
+    /// `page-out`: evicts this many resident pages, or all if there are fewer, the least recently used first. If a swap error
+    /// occurs, fewer were evicted before it, the least recently used first.
     pub fn page_out(&mut self, count: u32) -> Reply
         ensures runs { Runs self.old self.new 0 0 (Command.PageOut count) result }
         ensures resident { result ≡ Reply.Fine → self.new.resident ≡ drop (min count (length self.old.resident)) self.old.resident }
+        ensures stops { result ≡ Reply.Fault → EvictsFewer self.old.resident self.new.resident count }
     {
         let evicted = self.ground.mem.evict_oldest(count);
         known(&self.ground.mem);

@@ -1,6 +1,6 @@
 use Rattle.std.proofs.Common.{ap, sym, ◌∙◌}
 use Rattle.heap_collect.proofs.Freed.{frees_nothing, frees_then}
-use Rattle.heap_collect.proofs.SilentSteps.{comes_alone, done_quiet, done_then, full_again, low_levels, never_alone, not_due, placed_quiet, placed_then, prepares, same_full, stands_after}
+use Rattle.heap_collect.proofs.SilentSteps.{comes_alone, done_quiet, done_then, full_again, low_levels, never_alone, not_due, placed_quiet, placed_then, prepares, resident_quiet, resident_then, same_full, stands_after}
 use Rattle.heap_collect.proofs.silent.prepare.Goals as goal
 
 pub flip_alone-requires : goal.flip_alone-requires
@@ -69,3 +69,12 @@ returns-then-has_capacity-clause-frees g c =
 
 pub returns-else-has_capacity-clause-frees : goal.returns-else-has_capacity-clause-frees
 returns-else-has_capacity-clause-frees g c = frees_nothing (g.M.Memory.seen c.args.ground.now.mem) c.args.ground.now.table
+
+pub returns-then-has_capacity-clause-resident : goal.returns-then-has_capacity-clause-resident
+returns-then-has_capacity-clause-resident g c =
+    let flipped = ap g.M.Memory.resident c.flip_alone.ensures.memory in
+    resident_then c.args.ground.now.table c.args.scan.now c.args.space.now (g.M.Memory.resident c.args.ground.now.mem) (g.M.Memory.resident c.flip_alone.new.ground.mem) (sym c.has_capacity.ensures ∙ c.if-has_capacity.true)
+    (λ due. flipped ∙ c.reclaim_alone.ensures.empties due) (λ never. flipped ∙ ap (λ ground. g.M.Memory.resident ground.mem) (c.reclaim_alone.ensures.still never))
+
+pub returns-else-has_capacity-clause-resident : goal.returns-else-has_capacity-clause-resident
+returns-else-has_capacity-clause-resident g c = resident_quiet c.args.ground.now.table c.args.scan.now c.args.space.now (g.M.Memory.resident c.args.ground.now.mem) (sym c.has_capacity.ensures ∙ c.if-has_capacity.false)

@@ -1,6 +1,6 @@
 use Rattle.std.proofs.Common.{inl, inr, refl, sym, ◌∙◌}
 use Rattle.heap_collect.proofs.Freed.{frees_nothing}
-use Rattle.heap_collect.proofs.SilentSteps.{aim_gone, aim_none, aim_some, done_here, no_reclaim, reclaim_silent, same_totals}
+use Rattle.heap_collect.proofs.SilentSteps.{aim_gone, aim_none, aim_some, done_here, due_over, due_some, no_reclaim, reclaim_silent, same_totals}
 use Rattle.heap_collect.proofs.silent.reclaim_alone.Goals as goal
 use Rattle.heap_collect.proofs.silent.reclaim_alone.Goals.{else-is_over-via-then-is_over+else-is_some, else-is_over-via-else-is_over}
 
@@ -36,3 +36,10 @@ returns-else-is_over-clause-reclaims g c registers k s x = elim c.else-is_over.b
 
 pub returns-else-is_over-clause-frees : goal.returns-else-is_over-clause-frees
 returns-else-is_over-clause-frees g c = frees_nothing (g.M.Memory.seen c.args.ground.now.mem) c.args.ground.now.table
+
+pub returns-else-is_over-clause-empties : goal.returns-else-is_over-clause-empties
+returns-else-is_over-clause-empties g c due = elim c.else-is_over.branch [
+  | else-is_over-via-then-is_over+else-is_some w ↦
+      absurd (due_some c.args.scan.now.over c.args.ground.now.table.aim due (aim_none c.args.ground.now.table.aim w.condemned.result w.is_some.result w.condemned.ensures w.is_some.ensures w.if-is_some.false))
+  | else-is_over-via-else-is_over w ↦ absurd (due_over c.args.scan.now.over c.args.ground.now.table.aim due (sym c.is_over.ensures ∙ w.if-is_over.false))
+]

@@ -1,10 +1,10 @@
-use Rattle.std.proofs.Common.{refl}
+use Rattle.std.proofs.Common.{refl, sym, ◌∙◌}
 use Rattle.lisp_graph.specs.declared.command.Command.TheVariants as C
 use Rattle.lisp_heap.specs.Words.{paged}
 use Rattle.lisp_heap.proofs.Collections.{page_steps}
 use Rattle.lisp_heap.proofs.Marked.{pages_unmarked}
 use Rattle.lisp_heap.proofs.Running.{not_less, step_runs}
-use Rattle.lisp_heap.proofs.Telling.{told_paged}
+use Rattle.lisp_heap.proofs.Telling.{paged_fault, told_paged}
 use Rattle.lisp_heap.proofs.heap.Heap.page_out.Goals as goal
 
 pub invariant_of-self : goal.invariant_of-self
@@ -23,3 +23,6 @@ returns-clause-runs g c =
     c.self.invariant c.known.ensures.1.marked tt refl
     (λ k s b same. page_steps c.commands_are_steps.ensures.performs _ _ _ _ _ c.args.count c.evict_oldest-evicted.result read.stays c.known.ensures.1.marked k s b)
     refl refl (told_paged _ _ c.args.count c.evict_oldest-evicted.result read.cause read.taken) (λ e. (not_less c.self.inside.scan.done, not_less c.self.inside.ground.table.placed)) (λ done i is. absurd (cc (is))) (pages_unmarked _ _ (C.PageOut c.args.count) read.stays.unmarked) (λ _. refl)).1)
+
+pub returns-clause-stops : goal.returns-clause-stops
+returns-clause-stops g c fault = rw (← c.self.view_is) (paged_fault c.evict_oldest-evicted.result c.evict_oldest-evicted.ensures.stops (sym c.paged.ensures ∙ fault))

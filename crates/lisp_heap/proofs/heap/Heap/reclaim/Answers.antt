@@ -1,4 +1,4 @@
-use Rattle.std.proofs.Common.{◌≢◌, refl, sym, subst}
+use Rattle.std.proofs.Common.{◌≢◌, ap, refl, sym, subst}
 use Rattle.lisp_graph.specs.declared.command.Command.TheVariants as C
 use Rattle.lisp_graph.specs.declared.reply.Reply.TheVariants as R
 use Rattle.heap_collect.proofs.Phases.{stands_for_some}
@@ -62,3 +62,9 @@ returns-clause-freed g c is s st =
 
 pub returns-clause-faults : goal.returns-clause-faults
 returns-clause-faults g c = rw (← c.self.view_is) c.reclaim-reply.ensures.faults
+
+pub returns-clause-resident : goal.returns-clause-resident
+returns-clause-resident g c is = rw (← c.self.view_is) (c.reclaim-reply.ensures.resident is)
+
+pub returns-clause-unchanged : goal.returns-clause-unchanged
+returns-clause-unchanged g c other = rw (← c.self.view_is) (ap (λ ground. g.M.Memory.resident ground.mem) (c.reclaim-reply.ensures.unchanged other))

@@ -13,7 +13,7 @@ use Rattle.lisp_heap.proofs.heap.allocating.admitted.Goals.{After-prepare, In-Ok
 use Rattle.lisp_heap.proofs.heap.allocating.admitted.Goals as goal
 
 -- the silent steps
-abbrev silent : (g : Over) (c : After-prepare g) → Prepares (view c.args.ground.now) c.args.scan.now c.args.space.now
+abbrev silent : (g : Over) (c : After-prepare g) → Prepares (view c.args.ground.now) c.args.scan.now c.args.space.now (g.M.Memory.resident c.args.ground.now.mem)
 silent g c =
     let x = c.prepare.ensures in
     record {
@@ -30,11 +30,11 @@ silent g c =
       memory = λ never. ap g.M.Memory.seen (x.memory never);
       rests = λ never still. ap (λ ground. ground.table) (x.rests never still);
       begins = x.begins;
-      resident = λ alone. ap (λ mem. length (g.M.Memory.resident mem)) (x.memory alone);
+      resident = ap length x.resident;
     }
 
 -- the room for the new object
-there : (g : Over) (c : In-Ok g) → Admits (view c.args.ground.now) (view c.admit.new.ground) c.args.scan.now c.admit.new.scan c.args.registers.now c.admit.new.registers c.args.space.now c.args.area c.args.charge c.args.steps.now c.admit.new.steps c.new_level-level.result
+there : (g : Over) (c : In-Ok g) → Admits (view c.args.ground.now) (view c.admit.new.ground) c.args.scan.now c.admit.new.scan c.args.registers.now c.admit.new.registers c.args.space.now (g.M.Memory.resident c.args.ground.now.mem) c.args.area c.args.charge c.args.steps.now c.admit.new.steps c.new_level-level.result
 there g c =
     let x = c.in-Ok.ensures in
     record {

@@ -1,7 +1,7 @@
 use Rattle.std.proofs.Common.{sym, ap, ◌∙◌, arith, drop}
 use Rattle.paged_memory.specs.Paging.{resident_of}
 use Rattle.paged_memory.specs.Moves.{paging_of}
-use Rattle.paged_memory.proofs.Chains.{evicts_then, drop_more, one_gone, stops_evicting, writes_more}
+use Rattle.paged_memory.proofs.Chains.{evicts_fewer, evicts_then, drop_more, one_gone, stops_evicting, writes_more}
 use Rattle.paged_memory.proofs.Uses.{out_evicts}
 use Rattle.paged_memory.proofs.memory.PagedMemoryMemory.evict_oldest.Goals as goal
 
@@ -24,7 +24,12 @@ loop-evicted-preserved g c =
       out = evicts_then c.args.self.now.0 (paging_of c.loop-evicted.self-inside.pager) (paging_of c.evict.new.self) _ c.loop-evicted.evicted _ v.out v.order k.paged out (out_evicts _ _ _ _ _ k out);
     }
 
+pub returns-in_err-evict-clause-stopped : goal.returns-in_err-evict-clause-stopped
+returns-in_err-evict-clause-stopped g c =
+    let v = c.loop-evicted.invariant in
+    stops_evicting c.from_residual.result _ _ _ _ _ c.loop-evicted.evicted c.args.count (omega arith) (ap resident_of c.in_err-evict.ensures.stays ∙ v.order) v.calls c.in_err-evict.ensures.calls
+
 pub returns-in_err-evict-clause-stops : goal.returns-in_err-evict-clause-stops
 returns-in_err-evict-clause-stops g c =
     let v = c.loop-evicted.invariant in
-    stops_evicting c.from_residual.result _ _ _ _ _ c.loop-evicted.evicted c.args.count (omega arith) (ap resident_of c.in_err-evict.ensures.stays ∙ v.order) v.calls c.in_err-evict.ensures.calls
+    evicts_fewer c.from_residual.result _ _ c.loop-evicted.evicted c.args.count (omega arith) (ap resident_of c.in_err-evict.ensures.stays ∙ v.order)

@@ -22,6 +22,7 @@ returns g c =
         chain = e.table;
         region_level = e.level;
         free = e.free;
+        lowest = e.lowest;
         ground = e.ground;
         named = e.named;
         sound = c.known.ensures;
