@@ -148,7 +148,7 @@ laid_grows m mid m' t c t' here at code wanted area level fields l more few k to
     (makes m mid m' t c t' here at code (length fields) wanted area level l (omega arith))
 
 -- a husk leaves the rest of the table alone
-husked-extends : {t c t' : Table} {slot at words : ℕ} (class husk : ℕ) → t' ≡ husked c class husk → Extends t c slot at words → Extends t t' slot at words
+pub husked-extends : {t c t' : Table} {slot at words : ℕ} (class husk : ℕ) → t' ≡ husked c class husk → Extends t c slot at words → Extends t t' slot at words
 husked-extends {t} {c} {t'} {slot} {at} {words} class husk is e = subst (λ (u : Table). Extends t u slot at words) (sym is) (record {
   end = e.end;
   form = record { regions = e.form.regions; top = e.form.top; quotas = e.form.quotas; kinds = e.form.kinds };

@@ -5,6 +5,7 @@ pub mod Made
 pub mod Stored
 pub mod LiveFields
 pub mod Marked
+pub mod NewMarks
 pub mod FieldsMoved
 pub mod FieldsRead
 pub mod Joining

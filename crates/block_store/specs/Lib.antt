@@ -4,6 +4,7 @@ pub mod Growing
 pub mod Headers
 pub mod Looks
 pub mod Making
+pub mod Marks
 pub mod Opening
 pub mod Views
 pub use Rattle.transporter.specs.lisp_ground

@@ -9,6 +9,7 @@ use Rattle.block_store.specs.Fields as fields
 use Rattle.block_store.specs.Growing as growing
 use Rattle.block_store.specs.Headers as headers
 use Rattle.block_store.specs.Making as making
+use Rattle.block_store.specs.Marks as marks
 use Rattle.block_store.specs.Opening as opening
 
 abbrev pub CanGrow : GroundView → Parts → ℕ → Type 0
@@ -37,6 +38,9 @@ KeepsBlock v v' = fields.KeepsBlock v.mem.store v.table v'.mem.store v'.table
 
 abbrev pub MarksField : GroundView → GroundView → Content → ℕ → Type 0
 MarksField v v' = fields.MarksField v.mem.store v.table v'.mem.store v'.table
+
+abbrev pub MarksGrown : GroundView → GroundView → Content → ℕ → ℕ → ℕ → Type 0
+MarksGrown v v' = marks.MarksGrown v.mem.store v.table v'.mem.store
 
 abbrev pub MakesBlock : GroundView → GroundView → ℕ → ℕ → ℕ → ℕ → ℕ → Type 0
 MakesBlock v v' = making.MakesBlock v.mem.store v.table v'.mem.store v'.table

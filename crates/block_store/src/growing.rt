@@ -3,7 +3,7 @@ ghost use Rattle.std.specs.Prelude.{◌≡◌, ◌≢◌, ◌↔◌, ℕ, ◌+�
 ghost use Rattle.mem_port.specs.View.{TellsIf};
 ghost use Rattle.area_space.specs.View.{view};
 ghost use Rattle.block_store.specs.Faults.{is_fault};
-ghost use Rattle.block_store.specs.Views.{CanGrow, GrowsBlock, GrowsWithin, OpensForGrown, PlacesGrown};
+ghost use Rattle.block_store.specs.Views.{CanGrow, GrowsBlock, GrowsWithin, MarksGrown, OpensForGrown, PlacesGrown};
 ghost use Rattle.transporter.specs.Views.{AllFresh, MarksFollow, StaysOn, PreservesScanned};
 ghost use Rattle.store_word.specs.Words.{tag_of};
 ghost use Rattle.store_word.specs.declared.word.Content.TheVariants.{Struct as StructAt};
@@ -58,6 +58,8 @@ pub fn grow<M: Memory, L: Ledger>(
         → IsHusk (view ground.old).mem.store (view ground.new).mem.store here at wanted) }
     ensures placed { IfOk result (λ at. (reference here : ℕ) → of.content ≡ StructAt reference → Final (view ground.old).mem.store.words reference here
         → PlacesGrown (view ground.old) ground.new.table here at wanted) }
+    ensures unmarked { IfOk result (λ at. (reference here : ℕ) → of.content ≡ StructAt reference → Final (view ground.old).mem.store.words reference here
+        → MarksGrown (view ground.old) (view ground.new) of.content here at wanted) }
     ensures needed { OpensForGrown (view ground.old) ground.new.table of.content wanted }
 
     // What is refused.

@@ -12,6 +12,7 @@ ghost use Rattle.transporter.specs.Growth.{OpensOrStays};
 ghost use Rattle.transporter.specs.Making.{PlacesNew};
 ghost use Rattle.transporter.specs.Writes.{Writes};
 ghost use Rattle.block_store.specs.Making.{block_word};
+ghost use Rattle.block_store.specs.Marks.{MarksByWords};
 ghost use Rattle.block_store.specs.Opening.{OpensAsNeeded};
 ghost use Rattle.area_space.specs.Table.{slot_of};
 
@@ -92,6 +93,7 @@ pub fn make_block<M: Memory, L: Ledger>(
     ensures below { IfOk result (λ at. at < 2 ^ 28) }
     ensures words { IfOk result (λ at. (i : ℕ) → i < length + 1 → word_at (view ground.new).mem.store.words (at + i) ≡ block_word code length i) }
     ensures placed { IfOk result (λ at. PlacesNew ground.old.table ground.new.table area level at (length + 1) (length + 1)) }
+    ensures unmarked { IfOk result (λ at. MarksByWords (view ground.old).mem.store (view ground.new).mem.store at (length + 1)) }
     ensures needed { OpensAsNeeded ground.old.table ground.new.table (slot_of ground.old.table area level) (length + 1) }
 
     // What is unchanged in the ground.

@@ -2,6 +2,7 @@
 ghost use Rattle.std.specs.Prelude.{ℕ, ◌≡◌, ◌+◌, ◌*◌, ◌<◌, ◌≤◌, ◌^◌, length, IsOk, IfOk, OnOk, OnErr};
 ghost use Rattle.mem_port.specs.View.{Quiet, Tells, shown};
 ghost use Rattle.area_space.specs.View.{view};
+ghost use Rattle.cdr_lists.specs.Marks.{MarksByWords};
 ghost use Rattle.cdr_lists.specs.Opening.{OpensIfNeeded};
 ghost use Rattle.cdr_lists.specs.Views.{CanList, ListedOn};
 ghost use Rattle.transporter.specs.Views.{AllFresh, LiveSame, MarksFollow, StaysOn, PreservesScanned};
@@ -103,6 +104,7 @@ pub fn make_list<M: Memory, L: Ledger>(
     ensures below { IfOk result (λ at. at < 2 ^ 28) }
     ensures words { IfOk result (λ at. (i : ℕ) → i < length items.now → word_at (view ground.new).mem.store.words (at + i) ≡ cell_word registers.now items.now i) }
     ensures placed { IfOk result (λ at. PlacesNew ground.old.table ground.new.table area level at (length items.now) (3 * length items.now)) }
+    ensures unmarked { IfOk result (λ at. MarksByWords (view ground.old).mem.store (view ground.new).mem.store at (length items.now)) }
     ensures needed { OpensIfNeeded ground.old.table ground.new.table area level (length items.now) }
 
     // What is unchanged in the ground.

@@ -2,6 +2,7 @@
 ghost use Rattle.std.specs.Prelude.{◌≡◌, ◌+◌, ◌/◌, ◌<◌, ◌≤◌, ◌^◌, length, slice_get, Some, IfOk, OnOk, OnErr};
 ghost use Rattle.mem_port.specs.View.{Tells, shown};
 ghost use Rattle.area_space.specs.View.{view};
+ghost use Rattle.cdr_lists.specs.Marks.{MarksByWords};
 ghost use Rattle.cdr_lists.specs.Opening.{OpensIfNeeded};
 ghost use Rattle.cdr_lists.specs.Views.{CanPair, PairedOn};
 ghost use Rattle.transporter.specs.Views.{AllFresh, LiveSame, MarksFollow, StaysOn, PreservesScanned};
@@ -98,6 +99,7 @@ pub fn make_pair<M: Memory, L: Ledger>(
     ensures below { IfOk result (λ at. at < 2 ^ 28) }
     ensures words { IfOk result (λ at. (word_at (view ground.new).mem.store.words at ≡ first_word car) × (word_at (view ground.new).mem.store.words (at + 1) ≡ second_word 2 cdr)) }
     ensures placed { IfOk result (λ at. PlacesNew ground.old.table ground.new.table area level at 2 2) }
+    ensures unmarked { IfOk result (λ at. MarksByWords (view ground.old).mem.store (view ground.new).mem.store at 2) }
     ensures needed { OpensIfNeeded ground.old.table ground.new.table area level 2 }
 
     // What is unchanged in the ground.
@@ -134,6 +136,7 @@ pub fn make_pair_of<M: Memory, L: Ledger>(
     ensures below { IfOk result (λ at. at < 2 ^ 28) }
     ensures words { IfOk result (λ at. (word_at (view ground.new).mem.store.words at ≡ first_word car) × (word_at (view ground.new).mem.store.words (at + 1) ≡ second_word charge cdr)) }
     ensures placed { IfOk result (λ at. PlacesNew ground.old.table ground.new.table area level at 2 charge) }
+    ensures unmarked { IfOk result (λ at. MarksByWords (view ground.old).mem.store (view ground.new).mem.store at 2) }
     ensures needed { OpensIfNeeded ground.old.table ground.new.table area level 2 }
 
     // What is unchanged in the ground.

@@ -1,7 +1,7 @@
 -- A block in a register grows.
-use Rattle.std.specs.Prelude.{if◌then◌else◌}
-use Rattle.std.proofs.Common.{◌≡◌, ◌≢◌, ℕ, suc, ◌+◌, ◌<◌, ◌≤◌, inr, Bool, true, false, refl, sym, ◌∙◌, ap, subst, List, length, get_or, Some, arith}
-use Rattle.std.proofs.lemmas.Bool.{eqb-true, le-leb, lt-leb}
+use Rattle.std.specs.Prelude.{IsSome, if◌then◌else◌}
+use Rattle.std.proofs.Common.{◌≡◌, ◌≢◌, ◌⊎◌, ℕ, suc, ◌+◌, ◌/◌, ◌<◌, ◌≤◌, inl, inr, Bool, true, false, refl, sym, ◌∙◌, ap, subst, List, length, get_or, Some, arith}
+use Rattle.std.proofs.lemmas.Bool.{cases_eq, eqb-true, le-leb, lt-leb}
 use Rattle.std.proofs.lemmas.List.{get_or_read}
 use Rattle.store_word.specs.Words.{Parts, null_word, tag_of}
 use Rattle.store_word.specs.declared.word.Content.{Content}
@@ -15,8 +15,8 @@ use Rattle.lisp_graph.specs.declared.reply.Reply.TheVariants as R
 use Rattle.lisp_graph.specs.declared.world.AreaRule.{AreaRule}
 use Rattle.lisp_graph.specs.Graph.{value_at}
 use Rattle.lisp_graph.specs.Effect.{Effect, answered, effect, grown, grown_block, grown_length, with_object}
-use Rattle.mem_port.specs.Store.{Store, StoresNothing}
-use Rattle.area_space.specs.Table.{Table, areas_of, quota_of}
+use Rattle.mem_port.specs.Store.{Store, StoresNothing, level_of_word}
+use Rattle.area_space.specs.Table.{Table, areas_of, live, quota_of, slot_of}
 use Rattle.area_space.specs.Accounts.{account_of}
 use Rattle.area_space.proofs.GroundLaws.{ground_same, named_same}
 use Rattle.block_store.specs.lisp_meaning.State.{Condemned, State, aim_of, object, rule_of}
@@ -32,14 +32,20 @@ use Rattle.block_store.proofs.lisp_meaning.Rewriting.{grown_store, live_level_is
 use Rattle.block_store.specs.lisp_ground.Image.{ground_image, no_rest}
 use Rattle.block_store.specs.lisp_ground.GroundInvariant.{GroundInvariant}
 use Rattle.block_store.proofs.lisp_ground.Accounts.{account_agrees, areas_agree, quota_agrees}
-use Rattle.block_store.proofs.lisp_ground.Finals.{name_in_use}
+use Rattle.block_store.proofs.lisp_ground.Finals.{final_is_place, final_place, name_in_use}
 use Rattle.block_store.proofs.lisp_ground.Standings.{live_standing}
-use Rattle.block_store.specs.transporter.Settling.{HasOld}
-use Rattle.block_store.specs.transporter.Marking.{MarksFollow}
+use Rattle.block_store.specs.obj_layout.Forwards as F
+use Rattle.block_store.specs.obj_layout.Forwards.{word_at, forward_of, Final}
+use Rattle.block_store.specs.transporter.Settling.{HasOld, reference_of}
+use Rattle.block_store.specs.transporter.Marking.{IsForward, IsPlaced, MarksFollow, placed, forwarded}
 use Rattle.block_store.specs.transporter.Preserving.{AllFresh, PreservesScanned}
 use Rattle.block_store.specs.transporter.Transports.{StaysOn}
 use Rattle.block_store.specs.Headers.{TellsArea, TellsLength}
-use Rattle.block_store.specs.Growing.{CanGrow, GrowsBlock, GrowsWithin}
+use Rattle.block_store.specs.Growing.{CanGrow, GrowsBlock, GrowsWithin, IsHusk, LaidOn, PlacesGrown}
+use Rattle.block_store.specs.Marks.{MarksGrown}
+use Rattle.block_store.proofs.Grown.{husked-extends}
+use Rattle.block_store.proofs.transporter.Extended.{new-extends}
+use Rattle.block_store.proofs.transporter.Marked.{within-placed}
 use Rattle.block_store.proofs.Finding.{head_role, ref_named}
 use Rattle.block_store.proofs.LiveFields.{live_word, place_fresh}
 use Rattle.heap_state.specs.Represents.{Represents}
@@ -53,6 +59,8 @@ use Rattle.heap_commands.specs.declared.blocks.growing.Growing.{Growing}
 use Rattle.heap_commands.specs.declared.blocks.growing.Growing.TheVariants.{Answered, Wants}
 use Rattle.heap_commands.specs.Growth.{CanGrowIn, Finds, IsAnswered, IsBlock, IsGrowing, PlacesGrowth, WantsGrowth}
 use Rattle.heap_state.proofs.Allocating.{allocation_answers, fits_quota, quota_left}
+use Rattle.heap_commands.specs.NewMarks.{GivesMarks, MarksGrowth, MarksMade}
+use Rattle.heap_commands.proofs.NewMarks.{level_cases, placed_after}
 use Rattle.heap_commands.proofs.Answering.{leaves_there, performs_same}
 use Rattle.heap_commands.proofs.Referring.{other_word, register_means, struct_block, with_block}
 use Rattle.heap_commands.proofs.Sizes.{told_length}
@@ -302,6 +310,98 @@ module _ (m : Store) (t : Table) (registers : List Parts) (r wanted : ℕ) (word
         let named = register_means m t k s registers b r word is low ∙ ap (λ (v : Value). Some v) g.block.value in
         let laid = grows k s.space.levels s.areas s.store (aim_of s.phase) g.block.name g.block.code _ g.block.fields b.kept named g.block.body refl in
         laid.placed ∙ ap (λ (n : ℕ). t.placed + n) (sym g.charge_is)
+
+    -- pages get marks by the words of the wider block, and by the forward at its old place
+    module _ (husk : (reference here : ℕ) → word.content ≡ StructAt reference → Final m.words reference here → IsHusk m m' here at wanted) (places : (reference here : ℕ) → word.content ≡ StructAt reference → Final m.words reference here → PlacesGrown m t t' here at wanted)
+        (marked : (reference here : ℕ) → word.content ≡ StructAt reference → Final m.words reference here → MarksGrown m t m' word.content here at wanted) (k : RoleMap) (s : State) (b : Represents m t registers k s) (g : IsBlock s (value_at s.registers r)) where
+      means_there : value_of k.role word.content ≡ Some (V.Ref g.name)
+      means_there = register_means m t k s registers b r word is low ∙ ap (λ (v : Value). Some v) g.value
+
+      struct_there : (a : ℕ) × (word.content ≡ StructAt a)
+      struct_there = struct_at word.content struct
+
+      names_there : names_as AsBlock (k.role struct_there.0) ≡ Some g.name
+      names_there = ref_named k word.content struct_there.0 g.name struct_there.1 means_there
+
+      final_there : Final m.words struct_there.0 (k.at g.name)
+      final_there = final_place m t k s.space.levels s.areas s.store (aim_of s.phase) b.kept AsBlock struct_there.0 g.name names_there
+
+      abbrev husk_there : IsHusk m m' (k.at g.name) at wanted
+      husk_there = husk struct_there.0 (k.at g.name) struct_there.1 final_there
+
+      abbrev place_there : PlacesGrown m t t' (k.at g.name) at wanted
+      place_there = places struct_there.0 (k.at g.name) struct_there.1 final_there
+
+      abbrev marks_there : MarksGrown m t m' word.content (k.at g.name) at wanted
+      marks_there = marked struct_there.0 (k.at g.name) struct_there.1 final_there
+
+      abbrev later : LaidOn m t m' t' k s.space.levels s.areas s.store (with_grown s.store g.name (grown_block (object s.store g.name).area g.code g.fields (grown_length (length g.fields) wanted)) (object s.store g.name).area (region (ground_image m t) (k.at g.name)).level (suc (length g.fields))) (aim_of s.phase) AsBlock at g.name (suc (grown_length (length g.fields) wanted))
+      later = grows k s.space.levels s.areas s.store (aim_of s.phase) g.name g.code (region (ground_image m t) (k.at g.name)).level g.fields b.kept means_there g.body refl
+
+      first_word : (word_at m'.words at).content ≡ Header husk_there.code (grown_length husk_there.count wanted)
+      first_word = ap (λ (a : ℕ). (word_at m'.words a).content) (let e : at ≡ at + 0 = omega arith in e) ∙ ap (λ (w : Parts). w.content) (husk_there.grown 0 (omega arith))
+
+      final_here : Final m'.words at at
+      final_here = (0, omega arith, F.here (ap forward_of first_word))
+
+      place_is : at ≡ later.map.at g.name
+      place_is = final_is_place m' t' later.map s.space.levels s.areas _ (aim_of s.phase) later.kept AsBlock at g.name later.there at final_here
+
+      final_after : Final m'.words struct_there.0 at
+      final_after = subst (λ (a : ℕ). Final m'.words struct_there.0 a) (sym place_is) (final_place m' t' later.map s.space.levels s.areas _ (aim_of s.phase) later.kept AsBlock struct_there.0 g.name (later.refines AsBlock struct_there.0 g.name names_there))
+
+      same_count : (code code' count count' : ℕ) → Header code count ≡ Header code' count' → count ≡ count'
+      same_count code code' count count' e = cc
+
+      placed_count : place_there.count ≡ marks_there.count
+      placed_count = same_count place_there.code marks_there.code place_there.count marks_there.count (sym place_there.header ∙ marks_there.header)
+
+      placed_there : (a : ℕ) → at ≤ a → a < at + (grown_length marks_there.count wanted + 1) → IsPlaced t t' a
+      placed_there a from to =
+          let p = place_there.placed in
+          let wide = ap (λ (n : ℕ). grown_length n wanted) placed_count in
+          placed_after t p.room t' a p.opens
+          (within-placed p.room t' (slot_of p.room place_there.area place_there.level) at (grown_length place_there.count wanted + 1) later.kept.table
+          (husked-extends (live (slot_of t place_there.area place_there.level)) (place_there.count + 1) place_there.husk (new-extends p)) a (from, omega arith))
+
+      old_plain : IsForward (word_at m.words (k.at g.name)) → ⊥
+      old_plain f = let z : false ≡ true = subst (λ (c : Content). IsSome (forward_of c)) husk_there.header f in cc
+
+      now_forward : IsForward (word_at m'.words (k.at g.name))
+      now_forward = subst IsForward (sym (ap (λ (a : ℕ). word_at m'.words a) (let e : k.at g.name ≡ k.at g.name + 0 = omega arith in e) ∙ husk_there.husk 0 (omega arith))) refl
+
+      unmarked_there : (page : ℕ) → m.marks page ≡ 0 → (m'.marks page ≡ 0) ⊎ ((a : ℕ) × (a / 256 ≡ page) × GivesMarks m t m' t' at (grown_length marks_there.count wanted + 1) a)
+      unmarked_there page clean = elim (level_cases m' at (grown_length marks_there.count wanted + 1) page) [
+        | inr x ↦ (let less = x.1 in inr (at + x.0, x.2, record { may = placed (placed_there (at + x.0) (omega arith) (omega arith)); young = λ from to. x.3 }))
+        | inl few ↦ elim (cases_eq (k.at g.name / 256) page) [
+          | inr off ↦ inl (marks_there.unmarked page clean (λ on. absurd (off on)) few)
+          | inl on ↦ elim (cases_eq (level_of_word m'.levels (word_at m'.words (k.at g.name))) 0) [
+            | inl none ↦ inl (marks_there.unmarked page clean (λ same. none) few)
+            | inr some ↦ inr (k.at g.name, on, record { may = forwarded old_plain now_forward; young = λ from to. omega arith })
+          ]
+        ]
+      ]
+
+      marks_made : MarksMade m t m' t' (get_or registers r null_word) (grown_length marks_there.count wanted + 1)
+      marks_made = record {
+        address = struct_there.0;
+        refers = ap (λ (w : Parts). reference_of w.content) (sym (get_or_read registers r word low is null_word)) ∙ ap reference_of struct_there.1;
+        at = at;
+        final = final_after;
+        placed = placed_there;
+        unmarked = unmarked_there;
+      }
+
+      charged : marks_there.count ≡ length g.fields
+      charged = told_length m t registers k s b r marks_there.count word is low marks_there.length_is g
+
+    pub grow_marked : ((reference here : ℕ) → word.content ≡ StructAt reference → Final m.words reference here → IsHusk m m' here at wanted) → ((reference here : ℕ) → word.content ≡ StructAt reference → Final m.words reference here → PlacesGrown m t t' here at wanted)
+        → ((reference here : ℕ) → word.content ≡ StructAt reference → Final m.words reference here → MarksGrown m t m' word.content here at wanted) → MarksGrowth m t registers m' t' r wanted
+    grow_marked husk places marked k s _ charge b g =
+        let same = charged husk places marked k s b g.block in
+        let wide = ap (λ (n : ℕ). grown_length n wanted) same in
+        let is_charge = g.charge_is in
+        subst (MarksMade m t m' t' (get_or registers r null_word)) (let e : grown_length (marks_there husk places marked k s b g.block).count wanted + 1 ≡ charge = omega arith in e) (marks_made husk places marked k s b g.block)
 
     pub grow_performs : Performs m t registers m' t' registers (C.Grow r wanted) R.Fine
     grow_performs = record {

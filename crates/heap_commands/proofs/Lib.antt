@@ -12,4 +12,5 @@ pub mod Grows
 pub mod Makes
 pub mod Marked
 pub mod Moves
+pub mod NewMarks
 pub mod Settling

@@ -1,9 +1,9 @@
 -- An allocation on a heap: what was admitted and then made, and what was refused.
-use Rattle.std.proofs.Common.{◌≡◌, ◌≢◌, ℕ, ◌+◌, ◌-◌, ◌*◌, ◌<◌, ◌≤◌, refl, sym, ◌∙◌, ap, subst, arith, true, List, length, Some}
+use Rattle.std.proofs.Common.{◌≡◌, ◌≢◌, ℕ, ◌+◌, ◌-◌, ◌*◌, ◌<◌, ◌≤◌, refl, sym, ◌∙◌, ap, subst, arith, true, List, length, get_or, Some}
 use Rattle.std.specs.Prelude.{Vec}
 use Rattle.std.specs.Vec.{with_items}
 use Rattle.std.proofs.lemmas.List.{with_items_is}
-use Rattle.store_word.specs.Words.{Parts}
+use Rattle.store_word.specs.Words.{Parts, null_word}
 use Rattle.store_word.specs.declared.space.Space.{Space}
 use Rattle.lisp_graph.specs.declared.command.Command.{Command}
 use Rattle.lisp_graph.specs.declared.reply.Reply.{Reply}
@@ -21,6 +21,7 @@ use Rattle.word_graph.specs.lisp_meaning.Sound.{IsAllowed}
 use Rattle.scavenger.specs.Scan.{Scan}
 use Rattle.heap_state.specs.Performs.{PerformsAt}
 use Rattle.heap_state.specs.Reads.{is_fault}
+use Rattle.heap_commands.specs.NewMarks as made
 use Rattle.heap_collect.specs.Admitting.{Wants}
 use Rattle.heap_collect.specs.Laws.{AdmittedIsStep}
 use Rattle.heap_collect.proofs.Admitted.{prepared_goes}
@@ -28,19 +29,21 @@ use Rattle.lisp_heap.specs.Admits.{Admits, Prepares, Unmade}
 use Rattle.lisp_heap.specs.Contents.{Contents, contents_at, counted, lists_of}
 use Rattle.lisp_heap.specs.Costs.{Makes}
 use Rattle.lisp_heap.specs.Making.{ScansFirst}
+use Rattle.lisp_heap.specs.NewMarks.{MarksMade}
 use Rattle.lisp_heap.specs.Stands.{IsSound, Runs}
-use Rattle.lisp_heap.proofs.Allocating.{Admitted, Made, Prepared, costs_made, made, none_refused, standing_prepared}
+use Rattle.lisp_heap.proofs.Allocating.{Admitted, Made, Prepared, costs_made, made as made_there, none_refused, object_marked, standing_prepared}
 use Rattle.lisp_heap.proofs.Making.{moment, moment_same, ready_there}
 use Rattle.lisp_heap.proofs.Ordered.{up_to_listed}
 use Rattle.lisp_heap.proofs.Telling.{tells_then, told_behind}
 use Rattle.lisp_heap.proofs.Units.{allocated_some}
 
--- an allocation was made or refused: the heap is sound, the command ran, and it took what it may
-pub record Allocated (old new : Contents) (before after charge words read : ℕ) (c : Command) (r : Reply) : Type 0 where
+-- an allocation was made or refused: the heap is sound, the command ran, it took what it may, and marked what it may
+pub record Allocated (old new : Contents) (before after charge words read to : ℕ) (c : Command) (r : Reply) : Type 0 where
   pub sound : IsSound new
   pub runs : Runs old new before after c r
   pub makes : Makes old new before after charge words read r
   pub order : r ≡ R.Fine → ScansFirst old new charge words read
+  pub unmarked : r ≡ R.Fine → MarksMade c old new (get_or new.registers to null_word) words
 
 module _ {M : Type 0} {g : Ghosts M} (ground : Ground M g) {scan : Scan} {registers : List Parts} {space : Space} {area : ℕ} where
   pub prepared_parts : (p : Prepares (view ground) scan space (g.resident ground.mem)) → IsSound (contents_at ground scan registers space) → area < length ground.table.kinds
@@ -52,20 +55,21 @@ module _ {M : Type 0} {g : Ghosts M} (ground : Ground M g) {scan : Scan} {regist
     admitted_parts = record { ahead = a.ahead; left = a.left; preserved = a.preserved; regions = a.table.form.regions; some = a.on.some; grows = a.table.placed; table = a.table; marks = a.on.marks }
 
     -- it was made
-    module _ (ground3 : Ground M g) (registers3 : List Parts) (after words read fixed : ℕ) (c : Command) (r : Reply) (sound : IsSound (contents_at ground scan registers space)) (area_in : area < length ground.table.kinds)
+    module _ (ground3 : Ground M g) (registers3 : List Parts) (after words read fixed to : ℕ) (c : Command) (r : Reply) (sound : IsSound (contents_at ground scan registers space)) (area_in : area < length ground.table.kinds)
         (all : allocates c ≡ true) (allowed : IsAllowed c) (wants : (s : State) → Wants s c area charge) (fine : (s : State) (e : Effect) → effect (graph_of s) c ≡ Some e → e.reply ≡ R.Fine)
         (law : AdmittedIsStep) (marks : MarksHold (g.seen ground3.mem)) (performs : PerformsAt (g.seen ground2.mem) ground2.table registers2 (g.seen ground3.mem) ground3.table registers3 c r area level) (tells : TellsIf (view ground2).mem (view ground3).mem mid after (is_fault r))
-        (few : r ≢ R.Fault → ground3.table.placed ≤ ground2.table.placed + (words + 2048 * read)) (cost : r ≢ R.Fault → after ≤ mid + 4 * (ground3.table.placed - ground2.table.placed) + fixed) (bound : fixed + 4 * words ≤ 128 * charge) where
+        (few : r ≢ R.Fault → ground3.table.placed ≤ ground2.table.placed + (words + 2048 * read)) (cost : r ≢ R.Fault → after ≤ mid + 4 * (ground3.table.placed - ground2.table.placed) + fixed) (bound : fixed + 4 * words ≤ 128 * charge)
+        (object : r ≡ R.Fine → made.MarksMade (g.seen ground2.mem) ground2.table (g.seen ground3.mem) ground3.table (get_or registers3 to null_word) words) where
       there : Made (contents_at ground scan registers space) (contents_at ground3 scan2 registers3 space) before after c r ground2.table.placed
       there =
-          made (prepared_parts a.first sound area_in) admitted_parts (g.seen ground3.mem) ground3.table registers3 before after c r level (g.faults ground3.mem) (g.resident ground3.mem) (counted g ground3.mem)
+          made_there (prepared_parts a.first sound area_in) admitted_parts (g.seen ground3.mem) ground3.table registers3 before after c r level (g.faults ground3.mem) (g.resident ground3.mem) (counted g ground3.mem)
           a.level_is all allowed wants performs law prepared_goes marks
           (told_behind (contents_at ground scan registers space) (contents_at ground3 scan2 registers3 space) a.first.ground.mem before after c r all a.first.faults a.first.taken a.first.resident (tells_then a.tells tells)) fine
 
       sure : r ≡ R.Fine → r ≢ R.Fault
       sure is fault = let bad : R.Fine ≡ R.Fault = sym is ∙ fault in absurd (cc)
 
-      pub allocated_parts : Allocated (contents_at ground scan registers space) (contents_at ground3 scan2 registers3 space) before after charge words read c r
+      pub allocated_parts : Allocated (contents_at ground scan registers space) (contents_at ground3 scan2 registers3 space) before after charge words read to c r
       allocated_parts =
           let z = there in
           record {
@@ -89,16 +93,18 @@ module _ {M : Type 0} {g : Ghosts M} (ground : Ground M g) {scan : Scan} {regist
                 few = (let low = few (sure is) in omega arith);
               };
             };
+            unmarked = λ is. object_marked (prepared_parts a.first sound area_in) admitted_parts (g.seen ground3.mem) ground3.table registers3 before after c r level (g.faults ground3.mem) (g.resident ground3.mem) (counted g ground3.mem)
+                a.level_is all allowed wants performs z.sound (get_or registers3 to null_word) words (object is);
           }
 
 -- a vector lent the words of the registers
 module _ {M Z : Type 0} {g : Ghosts M} (ground ground3 : Ground M g) (v : Vec Parts Z) {registers registers3 : List Parts} (is : registers ≡ v.items) (count : length registers ≡ v.len) {scan scan3 : Scan} {space : Space} {before after charge words read : ℕ} {c : Command} {r : Reply} where
-  pub allocated_lent : Allocated (contents_at ground scan registers space) (contents_at ground3 scan3 registers3 space) before after charge words read c r
-      → Allocated (contents_at ground scan v.items space) (contents_at ground3 scan3 (with_items v registers3).items space) before after charge words read c r
-  allocated_lent x =
-      subst (λ (ws : List Parts). Allocated (contents_at ground scan v.items space) (contents_at ground3 scan3 ws space) before after charge words read c r) (sym (with_items_is v registers3 (x.runs.world.registers ∙ count)))
-      (subst (λ (ws : List Parts). Allocated (contents_at ground scan ws space) (contents_at ground3 scan3 registers3 space) before after charge words read c r) is x)
+  pub allocated_lent : (to : ℕ) → Allocated (contents_at ground scan registers space) (contents_at ground3 scan3 registers3 space) before after charge words read to c r
+      → Allocated (contents_at ground scan v.items space) (contents_at ground3 scan3 (with_items v registers3).items space) before after charge words read to c r
+  allocated_lent to x =
+      subst (λ (ws : List Parts). Allocated (contents_at ground scan v.items space) (contents_at ground3 scan3 ws space) before after charge words read to c r) (sym (with_items_is v registers3 (x.runs.world.registers ∙ count)))
+      (subst (λ (ws : List Parts). Allocated (contents_at ground scan ws space) (contents_at ground3 scan3 registers3 space) before after charge words read to c r) is x)
 
 -- it was refused
-pub allocated_none : {old new : Contents} {before after charge words read : ℕ} {c : Command} {r : Reply} → Unmade old new before after c r → Allocated old new before after charge words read c r
-allocated_none x = record { sound = x.sound; runs = x.runs; makes = record { costs = λ fine. absurd (x.unmade fine); refused = x.refused }; order = λ fine. absurd (x.unmade fine) }
+pub allocated_none : {old new : Contents} {before after charge words read to : ℕ} {c : Command} {r : Reply} → Unmade old new before after c r → Allocated old new before after charge words read to c r
+allocated_none x = record { sound = x.sound; runs = x.runs; makes = record { costs = λ fine. absurd (x.unmade fine); refused = x.refused }; order = λ fine. absurd (x.unmade fine); unmarked = λ fine. absurd (x.unmade fine) }

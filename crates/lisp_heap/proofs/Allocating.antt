@@ -33,6 +33,9 @@ use Rattle.heap_state.specs.Reads.{reads, IsDone}
 use Rattle.heap_state.specs.Settled.{IsSettled}
 use Rattle.heap_state.specs.StepsTo.{StepsTo}
 use Rattle.heap_state.proofs.Allocating.{fits_quota, quota_left}
+use Rattle.heap_state.proofs.transporter.Alive.{grows-then}
+use Rattle.heap_commands.specs.NewMarks as made_words
+use Rattle.heap_commands.proofs.NewMarks.{made_after}
 use Rattle.heap_collect.specs.Admitting.{HasLeft, Wants}
 use Rattle.heap_collect.specs.Laws.{AdmittedIsStep, GoesTo, PreparedGoes}
 use Rattle.heap_collect.specs.Amounts.{Amount}
@@ -42,9 +45,10 @@ use Rattle.heap_collect.specs.Silent.{PreparesTo, StandsIn, done_from, placed_fr
 use Rattle.lisp_heap.specs.Contents.{Contents, Counts, contents_of}
 use Rattle.lisp_heap.specs.Costs.{Costs, CostsNothing, IsRefused, ScansSome, done_at, left_at, placed_at}
 use Rattle.lisp_heap.specs.Marked.{MarksPages}
+use Rattle.lisp_heap.specs.NewMarks.{MarksMade}
 use Rattle.lisp_heap.specs.Stands.{Told, IsSound, Runs}
 use Rattle.lisp_heap.proofs.Listed.{unlisted}
-use Rattle.lisp_heap.proofs.Marked.{pages_made, pages_scanned}
+use Rattle.lisp_heap.proofs.Marked.{made_marked, pages_made, pages_scanned, turns_of}
 use Rattle.lisp_heap.proofs.Running.{goes_runs, keeps_allocating, pays_scan}
 
 level_low : (kind : AreaKind) → new_level kind ≤ 1
@@ -293,3 +297,13 @@ module _ {m0 m1 : Store} {t0 t1 : Table} {scan0 scan1 : Scan} {registers0 : List
           let sooner = a.grows in
           let run = parts_run m3 t3 scan2 registers3 before after c r faults3 resident3 counts3 all (goes admitted prepared marks) (x.others.count ∙ a.preserved.count) (x.preserves.grows.form.regions ∙ a.regions) told a.some (omega arith) x.settled (pages_made m0 m1 m2 m3 t0 t1 t2 t3 c r p.frees a.table a.marks x.preserves.grows x.marks) in
           record { sound = run.0; runs = run.1; grows = grown; answer = answer fine }
+
+      -- the pages that the new object marks
+      pub object_marked : IsSound (contents_of m3 t3 scan2 registers3 space faults3 resident3 counts3) → (word : Parts) (count : ℕ) → made_words.MarksMade m2 t2 m3 t3 word count
+          → MarksMade c (contents_of m0 t0 scan0 registers0 space faults0 resident0 counts0) (contents_of m3 t3 scan2 registers3 space faults3 resident3 counts3) word count
+      object_marked after_sound word count x =
+          let y = performed in
+          let size : length m3.levels ≡ length m0.levels =
+          after_sound.stands.1.represents.represents.kept.ground.levels_size ∙ y.preserves.grows.form.regions ∙ a.regions ∙ p.regions ∙ sym p.sound.stands.1.represents.represents.kept.ground.levels_size in
+          made_marked (contents_of m0 t0 scan0 registers0 space faults0 resident0 counts0) (contents_of m3 t3 scan2 registers3 space faults3 resident3 counts3) m0 m1 m3 t1 c refl refl size p.frees (grows-then a.table y.preserves.grows) word count
+          (made_after m1 m2 m3 t1 t2 t3 standing_prepared.represents.represents.kept.ground consistent_ahead.represents.kept.ground a.marks (turns_of c r y.marks) word count x)

@@ -2,6 +2,7 @@ pub mod Form
 pub mod Words
 pub mod Contents
 pub mod Marked
+pub mod NewMarks
 pub mod Stands
 pub mod Loaded
 pub mod Costs

@@ -3,7 +3,7 @@ ghost use Rattle.std.specs.Prelude.{◌≡◌, ◌≢◌, ◌+◌, ◌-◌, ◌*
 ghost use Rattle.mem_port.specs.View.{TellsIf};
 ghost use Rattle.area_space.specs.View.{view};
 ghost use Rattle.heap_commands.specs.Growth.{is_found_fault};
-ghost use Rattle.heap_commands.specs.Views.{CanGrowIn, Finds, PlacesGrowth};
+ghost use Rattle.heap_commands.specs.Views.{CanGrowIn, Finds, MarksGrowth, PlacesGrowth};
 ghost use Rattle.heap_state.specs.Reads.{is_fault, reply_of};
 ghost use Rattle.heap_state.specs.Views.{RepresentsSame, IsConsistent, Performs};
 ghost use Rattle.block_store.specs.transporter.Views.{AllFresh, MarksFollow, PreservesScanned};
@@ -89,6 +89,7 @@ pub fn grow<M: Memory, L: Ledger>(
 
     // what is performed
     ensures performs { Performs (view ground.old) registers.now (view ground.new) registers.now (Command.Grow target wanted) (reply_of result) }
+    ensures unmarked { OnOk result (MarksGrowth (view ground.old) registers.now (view ground.new) target wanted) }
 
     // swap errors
     ensures tells { TellsIf (view ground.old).mem (view ground.new).mem steps.old steps.new (is_fault (reply_of result)) }

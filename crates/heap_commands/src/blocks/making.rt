@@ -1,7 +1,9 @@
 //! Makes new blocks, with a register for each.
-ghost use Rattle.std.specs.Prelude.{◌+◌, ◌<◌, ◌≤◌, length as list_length, OnOk};
+ghost use Rattle.std.specs.Prelude.{◌+◌, ◌<◌, ◌≤◌, get_or, length as list_length, OnOk};
 ghost use Rattle.mem_port.specs.View.{TellsIf};
 ghost use Rattle.area_space.specs.View.{view};
+ghost use Rattle.store_word.specs.Words.{null_word};
+ghost use Rattle.heap_commands.specs.Views.{MarksMade};
 ghost use Rattle.heap_state.specs.Reads.{is_fault, reply_of};
 ghost use Rattle.heap_state.specs.Views.{IsConsistent, PerformsAt};
 ghost use Rattle.area_space.specs.Accounts.{account_of};
@@ -37,6 +39,7 @@ pub fn make<M: Memory, L: Ledger>(
 
     // what is performed
     ensures performs { PerformsAt (view ground.old) registers.old (view ground.new) registers.new (Command.Make to area code length) (reply_of result) area level }
+    ensures unmarked { OnOk result (MarksMade (view ground.old) (view ground.new) (get_or registers.new to null_word) (length + 1)) }
 
     // costs and swap errors
     ensures few { OnOk result (ground.new.table.placed ≤ ground.old.table.placed + (length + 1)) }

@@ -5,6 +5,7 @@ ghost use Rattle.heap_commands.specs.Costs.{CommandCosts};
 ghost use Rattle.store_word.specs.Words.{null_word};
 ghost use Rattle.heap_commands.specs.Listing.{RefersToCells};
 ghost use Rattle.heap_state.specs.Reads.{reply_of};
+ghost use Rattle.heap_commands.specs.Views.{MarksMade};
 ghost use Rattle.heap_state.specs.Views.{IsConsistent, PerformsAt};
 ghost use Rattle.std.specs.List.{All};
 ghost use Rattle.area_space.specs.Accounts.{account_of};
@@ -41,6 +42,7 @@ pub fn cons<M: Memory, L: Ledger>(
 
     // what is performed
     ensures performs { PerformsAt (view ground.old) registers.old (view ground.new) registers.new (Command.Cons to area car cdr) (reply_of result) area level }
+    ensures unmarked { OnOk result (MarksMade (view ground.old) (view ground.new) (get_or registers.new to null_word) 2) }
 
     // costs and swap errors
     ensures costs { CommandCosts (view ground.old) (view ground.new) steps.old steps.new result 4098 96 }
@@ -77,6 +79,7 @@ pub fn list<M: Memory, L: Ledger>(
     // what is performed, and that the list is one of cells
     ensures performs { PerformsAt (view ground.old) registers.old (view ground.new) registers.new (Command.List to area items.now) (reply_of result) area level }
     ensures cells { OnOk result (RefersToCells (view ground.new).mem.store.words (get_or registers.new to null_word) (length items.now)) }
+    ensures unmarked { OnOk result (MarksMade (view ground.old) (view ground.new) (get_or registers.new to null_word) (length items.now)) }
 
     // costs and swap errors
     ensures costs { CommandCosts (view ground.old) (view ground.new) steps.old steps.new result (2049 * length items.now) (47 * length items.now + 5) }

@@ -1,8 +1,10 @@
 //! Commands on blocks.
-ghost use Rattle.std.specs.Prelude.{◌≡◌, ◌+◌, ◌<◌, ◌≤◌, length};
+ghost use Rattle.std.specs.Prelude.{◌≡◌, ◌+◌, ◌<◌, ◌≤◌, get_or, length};
 ghost use Rattle.lisp_heap.specs.Costs.{Makes, Takes};
 ghost use Rattle.lisp_heap.specs.Making.{ScansFirst};
 ghost use Rattle.lisp_heap.specs.Moves.{MovesAtMost};
+ghost use Rattle.lisp_heap.specs.NewMarks.{MarksMade};
+ghost use Rattle.store_word.specs.Words.{null_word};
 ghost use Rattle.lisp_heap.specs.Stands.{Runs};
 
 use crate::heap::allocating::admitted;
@@ -29,6 +31,7 @@ impl<M: Memory> Heap<M> {
         ensures runs { Runs self.old self.new steps.old steps.new (Command.Make to area code count) result }
         ensures makes { Makes self.old self.new steps.old steps.new (count + 1) (count + 1) 0 result }
         ensures order { result ≡ Reply.Fine → ScansFirst self.old self.new (count + 1) (count + 1) 0 }
+        ensures unmarked { result ≡ Reply.Fine → MarksMade (Command.Make to area code count) self.old self.new (get_or self.new.registers to null_word) (count + 1) }
     {
         let registers = self.registers.as_mut_slice();
         match admitted(

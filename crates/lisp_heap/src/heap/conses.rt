@@ -6,6 +6,7 @@ ghost use Rattle.heap_commands.specs.Listing.{RefersToCells};
 ghost use Rattle.lisp_heap.specs.Costs.{Makes, Takes};
 ghost use Rattle.lisp_heap.specs.Making.{ScansFirst};
 ghost use Rattle.lisp_heap.specs.Moves.{MovesAtMost, MovesOrLays};
+ghost use Rattle.lisp_heap.specs.NewMarks.{MarksMade};
 ghost use Rattle.lisp_heap.specs.Stands.{Runs};
 
 use crate::heap::allocating::admitted;
@@ -40,6 +41,7 @@ impl<M: Memory> Heap<M> {
         ensures runs { Runs self.old self.new steps.old steps.new (Command.Cons to area car cdr) result }
         ensures makes { Makes self.old self.new steps.old steps.new 2 2 2 result }
         ensures order { result ≡ Reply.Fine → ScansFirst self.old self.new 2 2 2 }
+        ensures unmarked { result ≡ Reply.Fine → MarksMade (Command.Cons to area car cdr) self.old self.new (get_or self.new.registers to null_word) 2 }
     {
         let registers = self.registers.as_mut_slice();
         match admitted(
@@ -85,6 +87,7 @@ impl<M: Memory> Heap<M> {
         ensures cells { result ≡ Reply.Fine → RefersToCells self.new.memory.words (get_or self.new.registers to null_word) (length items.now) }
         ensures makes { Makes self.old self.new steps.old steps.new (3 * length items.now) (length items.now) (length items.now) result }
         ensures order { result ≡ Reply.Fine → ScansFirst self.old self.new (3 * length items.now) (length items.now) (length items.now) }
+        ensures unmarked { result ≡ Reply.Fine → MarksMade (Command.List to area items.now) self.old self.new (get_or self.new.registers to null_word) (length items.now) }
     {
         let charge = list_charge(items);
         let registers = self.registers.as_mut_slice();

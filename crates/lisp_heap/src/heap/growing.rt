@@ -1,9 +1,9 @@
 //! The command by which a block grows.
-ghost use Rattle.std.specs.Prelude.{◌≡◌, ◌≢◌, ℕ, ◌-◌, ◌*◌, ◌<◌, ◌≤◌, length, IsTrue, None, Some};
+ghost use Rattle.std.specs.Prelude.{◌≡◌, ◌≢◌, ℕ, ◌-◌, ◌*◌, ◌<◌, ◌≤◌, get_or, length, IsTrue, None, Some};
 ghost use Rattle.mem_port.specs.View.{TellsIf};
 ghost use Rattle.area_space.specs.View.{view};
 ghost use Rattle.heap_collect.specs.Views.{IsStanding};
-ghost use Rattle.heap_commands.specs.Views.{WantsGrowth};
+ghost use Rattle.heap_commands.specs.Views.{MarksMade as MarksOnGround, WantsGrowth};
 ghost use Rattle.heap_state.specs.Views.{RepresentsAll, StepsTo};
 ghost use Rattle.mem_port.specs.Store.{MarksHold};
 ghost use Rattle.area_space.specs.Table.{areas_of};
@@ -13,8 +13,10 @@ ghost use Rattle.heap_state.specs.Reads.{is_fault, reads, IsDone};
 ghost use Rattle.heap_state.specs.Settled.{IsSettled};
 ghost use Rattle.heap_collect.specs.Laws.{StandsAfterLook, UnaskedIsStep};
 ghost use Rattle.lisp_heap.specs.Costs.{Costs, CostsLook, IsRefused, LookCosts, ScanGoesOn, Spends, wants_in};
+ghost use Rattle.store_word.specs.Words.{null_word};
 ghost use Rattle.lisp_heap.specs.Growth.{LooksAndWidens, ScansAndWidens};
 ghost use Rattle.lisp_heap.specs.Making.{ScansBeforeGrowth};
+ghost use Rattle.lisp_heap.specs.NewMarks.{MarksMade};
 ghost use Rattle.heap_state.specs.transporter.LiveSame.{OnlyGrows};
 ghost use Rattle.heap_state.specs.transporter.Views.{MarksFollow};
 ghost use Rattle.lisp_heap.specs.Stands.{Runs, Stands};
@@ -46,6 +48,8 @@ impl<M: Memory> Heap<M> {
             → Costs self.old self.new steps.old steps.new charge charge 1 }
         ensures order { result ≡ Reply.Fine → (s : State) → Stands self.old s → (area charge : ℕ) → wants_in s (Command.Grow target wanted) ≡ Some (record { area = area; charge = charge })
             → ScansBeforeGrowth self.old self.new charge }
+        ensures unmarked { result ≡ Reply.Fine → (s : State) → Stands self.old s → (area charge : ℕ) → wants_in s (Command.Grow target wanted) ≡ Some (record { area = area; charge = charge })
+            → MarksMade (Command.Grow target wanted) self.old self.new (get_or self.new.registers target null_word) charge }
         ensures looks { result ≢ Reply.Fault → (s : State) → Stands self.old s → wants_in s (Command.Grow target wanted) ≡ None → CostsLook self.old self.new steps.old steps.new }
         ensures refused { IsRefused result → CostsLook self.old self.new steps.old steps.new }
     {
@@ -91,6 +95,9 @@ fn grow_register<M: Memory, L: Ledger>(
     ensures order { result ≡ Reply.Fine → (k : RoleMap) (s : State) → RepresentsAll (view ground.old) scan.old registers.old k s
         → (area charge : ℕ) → wants_in s (Command.Grow target wanted) ≡ Some (record { area = area; charge = charge })
         → LooksAndWidens (view ground.old) (view ground.new) scan.old scan.new registers.old registers.new charge (rate * charge) }
+    ensures unmarked { result ≡ Reply.Fine → (k : RoleMap) (s : State) → RepresentsAll (view ground.old) scan.old registers.old k s
+        → (area charge : ℕ) → wants_in s (Command.Grow target wanted) ≡ Some (record { area = area; charge = charge })
+        → MarksOnGround (view ground.old) (view ground.new) (get_or registers.new target null_word) charge }
     ensures looks { result ≢ Reply.Fault → (k : RoleMap) (s : State) → RepresentsAll (view ground.old) scan.old registers.old k s
         → wants_in s (Command.Grow target wanted) ≡ None → LookCosts scan.old scan.new ground.old.table ground.new.table steps.old steps.new }
     ensures refused { IsRefused result → LookCosts scan.old scan.new ground.old.table ground.new.table steps.old steps.new }
@@ -131,6 +138,7 @@ fn grow_charged<M: Memory, L: Ledger>(
     ensures marks { MarksFollow (view ground.old) (view ground.new) }
     ensures spends { result ≡ Reply.Fine → Spends scan.old scan.new ground.old.table ground.new.table rate charge 40 0 steps.old steps.new }
     ensures order { result ≡ Reply.Fine → ScansAndWidens (view ground.old) (view ground.new) scan.old scan.new registers.old registers.new charge (rate * charge) }
+    ensures unmarked { result ≡ Reply.Fine → MarksOnGround (view ground.old) (view ground.new) (get_or registers.new target null_word) charge }
     ensures refused { IsRefused result → (scan.new ≡ scan.old) × (ground.new.table ≡ ground.old.table) × (steps.new ≡ steps.old) }
     ensures scan { ScanGoesOn scan.old scan.new ground.old.table ground.new.table result }
     ensures tells { TellsIf (view ground.old).mem (view ground.new).mem steps.old steps.new (is_fault result) }

@@ -10,6 +10,8 @@ use Rattle.block_store.proofs.Grown.{LeavesGrown, faulted_marks, faulted_preserv
 use Rattle.mem_port.proofs.Telling.{answered, answered-if, answers, quiet-then_fault, quiet-twice}
 use Rattle.mem_port.specs.View.{Quiet, TellsIf, shown}
 use Rattle.block_store.specs.Faults.{is_fault}
+use Rattle.block_store.specs.Marks.{MarksGrown}
+use Rattle.block_store.proofs.NewMarks.{block_marks_grown}
 use Rattle.block_store.proofs.Opening.{grown-needed, needed-after, place-needed}
 use Rattle.block_store.specs.Opening.{OpensAsNeeded}
 use Rattle.area_space.specs.Table.{Table, slot_of}
@@ -218,3 +220,11 @@ returns-in_err-lay_anew-clause-marks g c =
 
 pub returns-clause-marks : goal.returns-clause-marks
 returns-clause-marks g c = (has_grown g (goal.at.returns-clause-marks g c).After-known-2).marks
+
+pub returns-clause-unmarked : goal.returns-clause-unmarked
+returns-clause-unmarked g c = λ reference here refers final.
+    let head = c.in_ok-head.ensures in
+    let p = c.place_for-placed.ensures in
+    let apart = new_apart _ _ c.args.of c.args.wanted c.requires.can c.requires.few c.in_ok-head.head head.head _ head.stays c.class_of_live-class.result c.class_of_live-class.ensures _ _ _ p.opens c.grown_length-wide.result c.grown_length-wide.ensures c.place_for-placed.result.at p.end in
+    subst (λ (m : Store). MarksGrown (g.M.Memory.seen c.args.ground.now.mem) c.args.ground.now.table m c.args.of.content here c.place_for-placed.result.at c.args.wanted) (sym (ap g.M.Memory.seen (c.note_husk.ensures.memory ∙ c.commit.ensures.memory)))
+    (block_marks_grown c.args.of c.args.wanted c.grown_length-wide.result c.place_for-placed.result.at head.head c.grown_length-wide.ensures c.place_for-placed.result.opened head.stays p.opens c.in_ok-lay_anew.ensures.ok apart reference here refers final)

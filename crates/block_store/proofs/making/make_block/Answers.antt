@@ -3,6 +3,8 @@ use Rattle.mem_port.specs.Store.{Store}
 use Rattle.area_space.specs.Table.{Table}
 use Rattle.transporter.specs.LiveSame.{LiveSame}
 use Rattle.block_store.specs.Making.{MakesBlock, block_word}
+use Rattle.block_store.specs.Marks.{MarksByWords}
+use Rattle.block_store.proofs.NewMarks.{marks_by_words}
 use Rattle.obj_layout.specs.Forwards.{word_at}
 use Rattle.transporter.proofs.Places.{on-err}
 use Rattle.transporter.proofs.Preserved.{made-preserves, opened-preserves}
@@ -136,3 +138,8 @@ returns-clause-marks g c =
     (c.commit.ensures.table _ end) c.commit.ensures.pages c.commit.ensures.sound in
     let memory = ap g.M.Memory.seen c.commit.ensures.memory in
     subst (λ (m : Store). MarksFollow (g.M.Memory.seen c.args.ground.now.mem) c.args.ground.now.table m c.commit.new.self.table) (sym memory) marks
+
+pub returns-clause-unmarked : goal.returns-clause-unmarked
+returns-clause-unmarked g c =
+    subst (λ (m : Store). MarksByWords (g.M.Memory.seen c.args.ground.now.mem) m c.place_for-placed.result.at (c.args.length + 1)) (sym (ap g.M.Memory.seen c.commit.ensures.memory))
+    (marks_by_words c.place_for-placed.result.opened c.place_for-placed.ensures.opens c.in_ok-hold_and_write.ensures.ok)

@@ -7,7 +7,9 @@ use Rattle.transporter.proofs.Preserved.{made-stays_fresh, made-preserves, opene
 use Rattle.transporter.specs.Making.{PlacesNew}
 use Rattle.transporter.specs.Preserving.{AllFresh, FreshOn}
 use Rattle.cdr_lists.specs.Lists.{ListedOn, cell_word, item_word}
+use Rattle.cdr_lists.specs.Marks.{MarksByWords}
 use Rattle.cdr_lists.specs.Opening.{OpensIfNeeded}
+use Rattle.cdr_lists.proofs.NewMarks.{marks_by_words}
 use Rattle.cdr_lists.proofs.NewPlaces.{end_there, opened_stays_fresh, opened_live, opened_marks, opened_or_same, opened_stays, opens_if_needed, needed_then, words_inside, words_low}
 use Rattle.cdr_lists.proofs.PartsSet.{on_err}
 use Rattle.cdr_lists.proofs.Listing.{cells_fresh, same_items, list_area, list_level, list_room, list_allowed, list_live, list_marks, list_placed, listed_on}
@@ -156,3 +158,9 @@ returns-clause-marks g c =
     let marks = list_marks _ _ _ _ _ _ can _ _ _ p.opens c.place_for-placed.result.at p.end (g.M.Memory.seen c.lay_cells.new.mem) c.commit.new.self.table c.in_ok-lay_cells.ensures.cells (c.commit.ensures.table _ end) c.commit.ensures.pages c.commit.ensures.sound in
     let memory = ap g.M.Memory.seen c.commit.ensures.memory in
     subst (λ (m : Store). MarksFollow (g.M.Memory.seen c.args.ground.now.mem) c.args.ground.now.table m c.commit.new.self.table) (sym memory) marks
+
+pub returns-clause-unmarked : goal.returns-clause-unmarked
+returns-clause-unmarked g c =
+    let marks = marks_by_words c.place_for-placed.result.opened c.place_for-placed.ensures.opens c.in_ok-lay_cells.ensures.cells in
+    subst (λ (m : Store). MarksByWords (g.M.Memory.seen c.args.ground.now.mem) m c.place_for-placed.result.at (length c.args.items.now)) (sym (ap g.M.Memory.seen c.commit.ensures.memory))
+    (subst (λ (xs : List ℕ). MarksByWords (g.M.Memory.seen c.args.ground.now.mem) (g.M.Memory.seen c.lay_cells.new.mem) c.place_for-placed.result.at (length xs)) c.as_slice-numbers.ensures.is marks)

@@ -5,7 +5,9 @@ use Rattle.area_space.specs.Table.{Table}
 use Rattle.obj_layout.proofs.Following.{word_at-read}
 use Rattle.transporter.specs.LiveSame.{LiveSame}
 use Rattle.transporter.proofs.Preserved.{made-stays_fresh, made-preserves, opened-preserves}
+use Rattle.cdr_lists.specs.Marks.{MarksByWords}
 use Rattle.cdr_lists.specs.Pairs.{PairedOn}
+use Rattle.cdr_lists.proofs.NewMarks.{marks_by_words}
 use Rattle.cdr_lists.proofs.NewPlaces.{end_there, opened_stays_fresh, opened_live, opened_marks, opened_or_same, opened_stays, opens_if_needed, needed_then, words_inside, words_low}
 use Rattle.cdr_lists.proofs.PartsSet.{on_err}
 use Rattle.cdr_lists.proofs.Pairing.{area_inside, level_inside, pair_allowed, pair_fresh, pair_live, pair_marks, pair_placed, paired_on, room_for_pair}
@@ -167,3 +169,9 @@ returns-clause-marks g c =
     let marks = pair_marks _ _ _ _ _ _ _ c.requires _ _ _ p.opens c.place-placed.result.at p.end (g.M.Memory.seen c.write_pair.new.mem) c.commit.new.self.table (within-written pair) (c.commit.ensures.table _ end) c.commit.ensures.pages c.commit.ensures.sound pair in
     let memory = ap g.M.Memory.seen c.commit.ensures.memory in
     subst (λ (m : Store). MarksFollow (g.M.Memory.seen c.args.ground.now.mem) c.args.ground.now.table m c.commit.new.self.table) (sym memory) marks
+
+pub returns-clause-unmarked : goal.returns-clause-unmarked
+returns-clause-unmarked g c =
+    let q = c.place-placed.ensures in
+    let p = is_place (g.M.Memory.seen c.args.ground.now.mem) c.args.ground.now.table c.args.area c.args.level 2 c.place-placed.result.opened q.end q.same q.behind q.table q.level q.needed q.free q.lowest q.sound q.ground q.named in
+    subst (λ (m : Store). MarksByWords (g.M.Memory.seen c.args.ground.now.mem) m c.place-placed.result.at 2) (sym (ap g.M.Memory.seen c.commit.ensures.memory)) (marks_by_words c.place-placed.result.opened p.opens c.in_ok-write_pair.ensures.pair)

@@ -1,5 +1,5 @@
 use Rattle.std.proofs.Common.{ap, ◌∙◌, Err}
-use Rattle.heap_commands.proofs.Grows.{can_grow, grow_faulted, grow_places, grow_performs, is_struct}
+use Rattle.heap_commands.proofs.Grows.{can_grow, grow_faulted, grow_marked, grow_places, grow_performs, is_struct}
 use Rattle.heap_commands.proofs.blocks.growing.grow.Goals as goal
 
 pub grow-requires-clause-can : goal.grow-requires-clause-can
@@ -22,3 +22,8 @@ pub returns-in-Ok-clause-placed : goal.returns-in-Ok-clause-placed
 returns-in-Ok-clause-placed g c =
     let grew = c.in-Ok.ensures in
     grow_places _ _ c.args.registers.now c.args.target c.args.wanted c.index-registers-target.result c.index-registers-target.is c.requires.target c.requires.settled _ _ _ (λ ne. let e = grew.not_a_block.1 ne in cc) grew.grown grew.within grew.preserves grew.stays_fresh grew.marks
+
+pub returns-in-Ok-clause-unmarked : goal.returns-in-Ok-clause-unmarked
+returns-in-Ok-clause-unmarked g c =
+    let grew = c.in-Ok.ensures in
+    grow_marked _ _ c.args.registers.now c.args.target c.args.wanted c.index-registers-target.result c.index-registers-target.is c.requires.target c.requires.settled _ _ _ (λ ne. let e = grew.not_a_block.1 ne in cc) grew.grown grew.within grew.preserves grew.stays_fresh grew.marks grew.husk grew.placed grew.unmarked

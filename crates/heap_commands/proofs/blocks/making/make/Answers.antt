@@ -1,7 +1,9 @@
 use Rattle.std.proofs.Common.{ap, ◌+◌, arith}
+use Rattle.std.proofs.lemmas.List.{get_or-set_same}
 use Rattle.std.proofs.lemmas.Result.{err_from_is_err_and}
-use Rattle.store_word.specs.Words.{Parts}
+use Rattle.store_word.specs.Words.{Parts, null_word}
 use Rattle.heap_state.proofs.Allocating.{placed_more}
+use Rattle.heap_commands.proofs.NewMarks.{block_marked}
 use Rattle.heap_commands.proofs.Makes.{can_make, make_faulted, make_performs}
 use Rattle.heap_commands.proofs.blocks.making.make.Goals as goal
 
@@ -23,3 +25,10 @@ pub returns-clause-few : goal.returns-clause-few
 returns-clause-few g c =
     let more = placed_more c.args.ground.now.table c.make_block.new.ground.table c.args.area c.args.level c.in_ok-at.at (c.args.length + 1) (c.args.length + 1) c.in_ok-at.ensures.placed in
     omega arith
+
+pub returns-clause-unmarked : goal.returns-clause-unmarked
+returns-clause-unmarked g c =
+    let new = c.in_ok-at.ensures in
+    rw (get_or-set_same c.args.registers.now c.args.to c.struct_at.result null_word c.requires.to)
+    (block_marked (g.M.Memory.seen c.args.ground.now.mem) (g.M.Memory.seen c.make_block.new.ground.mem) c.args.ground.now.table c.make_block.new.ground.table c.args.area c.args.level c.args.code c.args.length c.in_ok-at.at c.struct_at.result c.known.ensures
+    new.placed (ap (λ (w : Parts). w.content) c.struct_at.ensures) new.words new.unmarked)

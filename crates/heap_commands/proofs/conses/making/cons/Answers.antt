@@ -1,10 +1,12 @@
 use Rattle.std.proofs.Common.{refl, ap, arith, rules}
+use Rattle.std.proofs.lemmas.List.{get_or-set_same}
 use Rattle.std.proofs.lemmas.Result.{err_from_is_err_and}
-use Rattle.store_word.specs.Words.{Parts}
+use Rattle.store_word.specs.Words.{Parts, null_word}
 use Rattle.mem_port.proofs.Telling.{answered, answers, quiet-twice}
 use Rattle.heap_state.proofs.Allocating.{performs_at, performs_at_after, placed_more}
 use Rattle.heap_state.proofs.Playing.{performs_fault}
 use Rattle.heap_commands.proofs.NewConses.{can_pair, pair_stays_fresh, pair_performs, stays_leaves_at}
+use Rattle.heap_commands.proofs.NewMarks.{made_after, pair_marked}
 use Rattle.heap_commands.proofs.Settling.{settles_two, still_allocates}
 use Rattle.heap_commands.proofs.conses.making.cons.Goals as goal
 
@@ -48,3 +50,16 @@ returns-in_err-settle_items-clause-performs g c =
     let x = c.in_err-settle_items.ensures in
     rw p.1 (performs_at _ _ _ _ c.args.registers.now c.settle_items.new.registers _ _ c.args.area c.args.level
     (performs_fault _ _ _ _ c.args.registers.now c.settle_items.new.registers _ refl (record { represented = x.represented; preserves = x.preserves; others = x.others; stays_fresh = x.stays_fresh; marks = x.marks })))
+
+pub returns-clause-unmarked : goal.returns-clause-unmarked
+returns-clause-unmarked g c =
+    let x = c.in_ok-settle_items.ensures in
+    let s = settles_two _ _ _ _ _ _ c.requires.consistent x.represented x.preserves x.others x.stays_fresh x.marks c.args.car c.args.cdr x.fresh in
+    let a = still_allocates _ _ _ _ _ _ c.requires.consistent x.represented x.preserves c.args.area c.args.level 2 c.requires.area c.requires.level c.requires.quota in
+    let can = can_pair _ _ c.settle_items.new.registers c.args.area c.args.level c.args.car c.args.cdr (s.inside _ c.requires.car) (s.inside _ c.requires.cdr) c.index-registers-car.result c.index-registers-cdr.result c.index-registers-car.is c.index-registers-cdr.is a.area_in a.level_in a.fits s.consistent in
+    let got = c.in_ok-at.ensures in
+    rw (get_or-set_same c.settle_items.new.registers c.args.to c.list_at.result null_word (s.inside _ c.requires.to))
+    (made_after (g.M.Memory.seen c.args.ground.now.mem) (g.M.Memory.seen c.settle_items.new.ground.mem) (g.M.Memory.seen c.make_pair_of.new.ground.mem) c.args.ground.now.table c.settle_items.new.ground.table c.make_pair_of.new.ground.table
+    c.requires.consistent.represents.kept.ground s.consistent.represents.kept.ground x.marks got.marks.turns c.list_at.result 2
+    (pair_marked (g.M.Memory.seen c.settle_items.new.ground.mem) (g.M.Memory.seen c.make_pair_of.new.ground.mem) c.settle_items.new.ground.table c.make_pair_of.new.ground.table c.args.area c.args.level
+    c.index-registers-car.result c.index-registers-cdr.result c.in_ok-at.at c.list_at.result can got.made got.placed (ap (λ (w : Parts). w.content) c.list_at.ensures) got.words.0 got.unmarked))

@@ -6,6 +6,7 @@ use Rattle.mem_port.proofs.Telling.{answered, answers, quiet-twice}
 use Rattle.heap_state.proofs.Allocating.{performs_at, performs_at_after, placed_more}
 use Rattle.heap_state.proofs.Playing.{performs_fault}
 use Rattle.heap_commands.proofs.NewConses.{can_list, list_stays_fresh, list_performs, stays_leaves_at}
+use Rattle.heap_commands.proofs.NewMarks.{list_marked, made_after}
 use Rattle.heap_commands.proofs.Settling.{all_inside, few_items, settles_all, still_allocates}
 use Rattle.heap_commands.proofs.conses.making.list.Goals as goal
 
@@ -67,3 +68,18 @@ returns-in_err-settle_items-clause-performs g c =
     let x = c.in_err-settle_items.ensures in
     rw p.1 (performs_at _ _ _ _ c.args.registers.now c.settle_items.new.registers _ _ c.args.area c.args.level
     (performs_fault _ _ _ _ c.args.registers.now c.settle_items.new.registers _ refl (record { represented = x.represented; preserves = x.preserves; others = x.others; stays_fresh = x.stays_fresh; marks = x.marks })))
+
+pub returns-clause-unmarked : goal.returns-clause-unmarked
+returns-clause-unmarked g c =
+    let x = c.in_ok-settle_items.ensures in
+    let s = settles_all _ _ _ _ _ _ c.requires.consistent x.represented x.preserves x.others x.stays_fresh x.marks c.args.items.now c.as_slice.result.now c.as_slice.ensures.is x.fresh in
+    let a = still_allocates _ _ _ _ _ _ c.requires.consistent x.represented x.preserves c.args.area c.args.level (3 * length c.args.items.now) c.requires.area c.requires.level c.requires.quota in
+    let few = few_items _ _ c.as_slice.ensures.is c.as_slice.ensures.few in
+    let inside = all_inside _ _ s.inside c.args.items.now c.requires.inside in
+    let can = can_list _ _ c.settle_items.new.registers c.args.area c.args.level c.args.items.now c.requires.some few inside a.area_in a.level_in a.fits s.consistent in
+    let got = c.in_ok-at.ensures in
+    rw (get_or-set_same c.settle_items.new.registers c.args.to c.list_at.result null_word (s.inside _ c.requires.to))
+    (made_after (g.M.Memory.seen c.args.ground.now.mem) (g.M.Memory.seen c.settle_items.new.ground.mem) (g.M.Memory.seen c.make_list.new.ground.mem) c.args.ground.now.table c.settle_items.new.ground.table c.make_list.new.ground.table
+    c.requires.consistent.represents.kept.ground s.consistent.represents.kept.ground x.marks got.marks.turns c.list_at.result (length c.args.items.now)
+    (list_marked (g.M.Memory.seen c.settle_items.new.ground.mem) (g.M.Memory.seen c.make_list.new.ground.mem) c.settle_items.new.ground.table c.make_list.new.ground.table c.args.area c.args.level
+    c.settle_items.new.registers c.args.items.now c.in_ok-at.at c.list_at.result can got.made got.placed (ap (λ (w : Parts). w.content) c.list_at.ensures) got.words got.unmarked))

@@ -1,4 +1,5 @@
-use Rattle.std.proofs.Common.{◌*◌, ◌∙◌, refl, ap, length, subst, sym}
+use Rattle.std.proofs.Common.{◌≡◌, ◌*◌, ◌∙◌, refl, ap, length, get_or, subst, sym}
+use Rattle.store_word.specs.Words.{null_word}
 use Rattle.lisp_graph.specs.declared.command.Command.TheVariants as C
 use Rattle.mem_port.specs.View.{shown}
 use Rattle.area_space.specs.View.{view}
@@ -6,11 +7,12 @@ use Rattle.heap_collect.proofs.Admitted.{prepared_goes}
 use Rattle.lisp_heap.specs.Admits.{Prepares}
 use Rattle.lisp_heap.specs.Contents.{Contents, contents_at, contents_of, counted}
 use Rattle.lisp_heap.specs.Making.{ScansBeforeGrowth}
+use Rattle.lisp_heap.specs.NewMarks.{MarksMade}
 use Rattle.lisp_heap.specs.Stands.{IsSound, Stands}
 use Rattle.lisp_heap.proofs.Allocating.{stands_in, standing_ready}
 use Rattle.lisp_heap.proofs.Growing.{costs_grown, costs_looked, lent_words, ready_for, some_areas, stepped_runs}
 use Rattle.lisp_heap.proofs.Making.{growth_order}
-use Rattle.lisp_heap.proofs.Marked.{pages_scanned}
+use Rattle.lisp_heap.proofs.Marked.{made_marked, pages_scanned}
 use Rattle.lisp_heap.proofs.Telling.{told_behind}
 use Rattle.lisp_heap.proofs.Units.{allocated_some}
 use Rattle.lisp_heap.proofs.heap.Heap.grow.Goals as goal
@@ -110,3 +112,25 @@ returns-clause-order g c fine s stands area charge some =
     (growth_order c.self.inside.ground c.grow_register-reply.new.ground charge first
     (standing_ready (g.M.Memory.seen c.self.inside.ground.mem) c.self.inside.ground.table c.self.inside.scan c.as_mut_slice-registers.result.now c.self.inside.space (g.M.Memory.faults c.self.inside.ground.mem) (g.M.Memory.resident c.self.inside.ground.mem) (counted g.M.Memory c.self.inside.ground.mem) sound (g.M.Memory.seen c.prepare.new.ground.mem) c.prepare.new.ground.table c.prepare.new.scan c.prepare.ensures.silent)
     (c.grow_register-reply.ensures.order fine ready.0 ready.1 ready.2 area charge (ready.3 (C.Grow c.args.target c.args.wanted) ∙ some))))
+
+pub returns-clause-unmarked : goal.returns-clause-unmarked
+returns-clause-unmarked g c fine s stands area charge some =
+    let sound : IsSound (contents_of (g.M.Memory.seen c.self.inside.ground.mem) c.self.inside.ground.table c.self.inside.scan c.as_mut_slice-registers.result.now c.self.inside.space (g.M.Memory.faults c.self.inside.ground.mem) (g.M.Memory.resident c.self.inside.ground.mem) (counted g.M.Memory c.self.inside.ground.mem)) = rw (c.as_mut_slice-registers.ensures.value) c.self.invariant in
+    let x = c.grow_register-reply.ensures in
+    let told = told_behind (contents_of (g.M.Memory.seen c.self.inside.ground.mem) c.self.inside.ground.table c.self.inside.scan c.as_mut_slice-registers.result.now c.self.inside.space (g.M.Memory.faults c.self.inside.ground.mem) (g.M.Memory.resident c.self.inside.ground.mem) (counted g.M.Memory c.self.inside.ground.mem))
+    (contents_of (g.M.Memory.seen c.grow_register-reply.new.ground.mem) c.grow_register-reply.new.ground.table c.grow_register-reply.new.scan c.grow_register-reply.new.registers c.self.inside.space (g.M.Memory.faults c.grow_register-reply.new.ground.mem) (g.M.Memory.resident c.grow_register-reply.new.ground.mem) (counted g.M.Memory c.grow_register-reply.new.ground.mem))
+    (shown g.M.Memory c.prepare.new.ground.mem) c.args.steps.now c.grow_register-reply.new.steps (C.Grow c.args.target c.args.wanted) c.grow_register-reply.result refl c.prepare.ensures.faults c.prepare.ensures.taken (λ alone. ap (λ mem. length (g.M.Memory.resident mem)) (c.prepare.ensures.memory alone)) x.tells in
+    let sound_after = (stepped_runs (g.M.Memory.seen c.self.inside.ground.mem) c.self.inside.ground.table c.self.inside.scan c.as_mut_slice-registers.result.now c.self.inside.space (g.M.Memory.faults c.self.inside.ground.mem) (g.M.Memory.resident c.self.inside.ground.mem) (counted g.M.Memory c.self.inside.ground.mem) sound (g.M.Memory.seen c.prepare.new.ground.mem) c.prepare.new.ground.table c.prepare.new.scan c.prepare.ensures.silent
+    (g.M.Memory.seen c.grow_register-reply.new.ground.mem) c.grow_register-reply.new.ground.table c.grow_register-reply.new.scan c.grow_register-reply.new.registers c.self.inside.registers c.args.steps.now c.grow_register-reply.new.steps (C.Grow c.args.target c.args.wanted) c.grow_register-reply.result (g.M.Memory.faults c.grow_register-reply.new.ground.mem) (g.M.Memory.resident c.grow_register-reply.new.ground.mem) (counted g.M.Memory c.grow_register-reply.new.ground.mem)
+    refl tt x.steps prepared_goes c.known.ensures.1.marked c.as_mut_slice-registers.ensures.value c.as_mut_slice-registers.ensures.len x.registers x.table.form.regions c.prepare.ensures.regions told c.prepare.ensures.done c.prepare.ensures.placed x.scan.some x.scan.grows x.settled
+    (pages_scanned (g.M.Memory.seen c.self.inside.ground.mem) (g.M.Memory.seen c.prepare.new.ground.mem) (g.M.Memory.seen c.grow_register-reply.new.ground.mem) c.self.inside.ground.table c.prepare.new.ground.table c.grow_register-reply.new.ground.table (C.Grow c.args.target c.args.wanted) c.grow_register-reply.result c.prepare.ensures.frees x.table x.marks)).0 in
+    let st : Stands (contents_of (g.M.Memory.seen c.self.inside.ground.mem) c.self.inside.ground.table c.self.inside.scan c.as_mut_slice-registers.result.now c.self.inside.space (g.M.Memory.faults c.self.inside.ground.mem) (g.M.Memory.resident c.self.inside.ground.mem) (counted g.M.Memory c.self.inside.ground.mem)) s = rw (c.as_mut_slice-registers.ensures.value) (subst (λ (h : Contents). Stands h s) (sym c.self.view_is) stands) in
+    let ready = ready_for (g.M.Memory.seen c.self.inside.ground.mem) c.self.inside.ground.table c.self.inside.scan c.as_mut_slice-registers.result.now c.self.inside.space (g.M.Memory.faults c.self.inside.ground.mem) (g.M.Memory.resident c.self.inside.ground.mem) (counted g.M.Memory c.self.inside.ground.mem) sound (g.M.Memory.seen c.prepare.new.ground.mem) c.prepare.new.ground.table c.prepare.new.scan c.prepare.ensures.silent s st in
+    let size : length (g.M.Memory.seen c.grow_register-reply.new.ground.mem).levels ≡ length (g.M.Memory.seen c.self.inside.ground.mem).levels =
+    sound_after.stands.1.represents.represents.kept.ground.levels_size ∙ x.table.form.regions ∙ c.prepare.ensures.regions ∙ sym sound.stands.1.represents.represents.kept.ground.levels_size in
+    rw (← c.self.view_is) (lent_words c.self.inside.registers c.as_mut_slice-registers.result.now c.grow_register-reply.new.registers
+    (λ ws ws3. MarksMade (C.Grow c.args.target c.args.wanted) (contents_at c.self.inside.ground c.self.inside.scan ws c.self.inside.space) (contents_at c.grow_register-reply.new.ground c.grow_register-reply.new.scan ws3 c.self.inside.space) (get_or ws3 c.args.target null_word) charge)
+    c.as_mut_slice-registers.ensures.value (c.grow_register-reply.ensures.registers ∙ c.as_mut_slice-registers.ensures.len)
+    (made_marked (contents_at c.self.inside.ground c.self.inside.scan c.as_mut_slice-registers.result.now c.self.inside.space) (contents_at c.grow_register-reply.new.ground c.grow_register-reply.new.scan c.grow_register-reply.new.registers c.self.inside.space)
+    (g.M.Memory.seen c.self.inside.ground.mem) (g.M.Memory.seen c.prepare.new.ground.mem) (g.M.Memory.seen c.grow_register-reply.new.ground.mem) c.prepare.new.ground.table (C.Grow c.args.target c.args.wanted) refl refl size c.prepare.ensures.frees x.table
+    (get_or c.grow_register-reply.new.registers c.args.target null_word) charge (x.unmarked fine ready.0 ready.1 ready.2 area charge (ready.3 (C.Grow c.args.target c.args.wanted) ∙ some))))

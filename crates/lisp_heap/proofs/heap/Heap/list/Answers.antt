@@ -21,16 +21,17 @@ admitted-requires g c = let fits = lent g (goal.at.admitted-requires g c).After-
 -- it was made
 made : (g : Over) (c : After-replied g) → Allocated (contents_at c.self.inside.ground c.self.inside.scan c.self.inside.registers.items c.self.inside.space)
     (contents_at c.list-answer.new.ground c.admitted.new.scan (with_items c.self.inside.registers c.list-answer.new.registers).items c.self.inside.space)
-    c.args.steps.now c.list-answer.new.steps c.list_charge-charge.result (length c.args.items.now) (length c.args.items.now) (C.List c.args.to c.args.area c.args.items.now) (reply_of c.list-answer.result)
+    c.args.steps.now c.list-answer.new.steps c.list_charge-charge.result (length c.args.items.now) (length c.args.items.now) c.args.to (C.List c.args.to c.args.area c.args.items.now) (reply_of c.list-answer.result)
 made g c =
     let fits = lent g (goal.at.After-replied g c).After-as_mut_slice-registers in
     let words = c.as_mut_slice-registers.ensures in
     let x = c.in-Ok.ensures in
     let y = c.list-answer.ensures in
-    allocated_lent c.self.inside.ground c.list-answer.new.ground c.self.inside.registers words.value words.len
-    (allocated_parts c.self.inside.ground c.admitted.new.ground x.admits c.list-answer.new.ground c.list-answer.new.registers c.list-answer.new.steps (length c.args.items.now) (length c.args.items.now) (47 * length c.args.items.now + 5) (C.List c.args.to c.args.area c.args.items.now) (reply_of c.list-answer.result)
+    allocated_lent c.self.inside.ground c.list-answer.new.ground c.self.inside.registers words.value words.len c.args.to
+    (allocated_parts c.self.inside.ground c.admitted.new.ground x.admits c.list-answer.new.ground c.list-answer.new.registers c.list-answer.new.steps (length c.args.items.now) (length c.args.items.now) (47 * length c.args.items.now + 5) c.args.to (C.List c.args.to c.args.area c.args.items.now) (reply_of c.list-answer.result)
     fits.0 fits.1 refl c.requires.some (λ s. record { effect_of = _; is = refl; wanted = ap (λ (n : ℕ). Some (record { area = c.args.area; charge = n })) (sym c.list_charge-charge.ensures) }) (λ s e is. cc) x.step c.replied.ensures.marks y.performs y.costs.tells
-    (λ _. let few = y.costs.few in omega arith) (λ sure. let cost = cost_of c.list-answer.result y.costs.cost sure in omega arith) (let some = c.requires.some in let few = c.list_charge-charge.ensures in omega arith))
+    (λ _. let few = y.costs.few in omega arith) (λ sure. let cost = cost_of c.list-answer.result y.costs.cost sure in omega arith) (let some = c.requires.some in let few = c.list_charge-charge.ensures in omega arith)
+    (λ fine. cost_of c.list-answer.result y.unmarked (made_sure c.list-answer.result fine)))
 
 pub invariant_of-self : goal.invariant_of-self
 invariant_of-self g c = (made g (goal.at.invariant_of-self g c).After-replied).sound
@@ -52,10 +53,10 @@ returns-in-Ok-clause-order g c = rw (c.replied.ensures.is, ← c.self.view_is, �
 
 -- it was refused
 refused : (g : Over) (c : In-Err g) → Allocated (contents_at c.self.inside.ground c.self.inside.scan c.self.inside.registers.items c.self.inside.space)
-    (contents_at c.admitted.new.ground c.admitted.new.scan (with_items c.self.inside.registers c.admitted.new.registers).items c.self.inside.space) c.args.steps.now c.admitted.new.steps c.list_charge-charge.result (length c.args.items.now) (length c.args.items.now) (C.List c.args.to c.args.area c.args.items.now) c.in-Err.reply
+    (contents_at c.admitted.new.ground c.admitted.new.scan (with_items c.self.inside.registers c.admitted.new.registers).items c.self.inside.space) c.args.steps.now c.admitted.new.steps c.list_charge-charge.result (length c.args.items.now) (length c.args.items.now) c.args.to (C.List c.args.to c.args.area c.args.items.now) c.in-Err.reply
 refused g c =
     let words = c.as_mut_slice-registers.ensures in
-    allocated_lent c.self.inside.ground c.admitted.new.ground c.self.inside.registers words.value words.len
+    allocated_lent c.self.inside.ground c.admitted.new.ground c.self.inside.registers words.value words.len c.args.to
     (allocated_none (c.in-Err.ensures.refuses (C.List c.args.to c.args.area c.args.items.now) refl c.requires.some refl (λ s. record { effect_of = _; is = refl; wanted = ap (λ (n : ℕ). Some (record { area = c.args.area; charge = n })) (sym c.list_charge-charge.ensures) })))
 
 pub invariant_of-self-in-Err : goal.invariant_of-self-in-Err
@@ -74,3 +75,9 @@ returns-in-Err-clause-cells g c fine =
 
 pub returns-in-Err-clause-order : goal.returns-in-Err-clause-order
 returns-in-Err-clause-order g c = rw (← c.self.view_is, ← c.list_charge-charge.ensures) (refused g (goal.at.returns-in-Err-clause-order g c).In-Err).order
+
+pub returns-in-Ok-clause-unmarked : goal.returns-in-Ok-clause-unmarked
+returns-in-Ok-clause-unmarked g c = rw (c.replied.ensures.is, ← c.self.view_is) (made g (goal.at.returns-in-Ok-clause-unmarked g c).After-replied).unmarked
+
+pub returns-in-Err-clause-unmarked : goal.returns-in-Err-clause-unmarked
+returns-in-Err-clause-unmarked g c = rw (← c.self.view_is) (refused g (goal.at.returns-in-Err-clause-unmarked g c).In-Err).unmarked

@@ -6,7 +6,7 @@ use Rattle.lisp_heap.specs.Contents.{Contents, contents_at}
 use Rattle.lisp_heap.specs.Stands.{IsSound}
 use Rattle.lisp_heap.proofs.Admitting.{Allocated, allocated_lent, allocated_none, allocated_parts}
 use Rattle.lisp_heap.proofs.Allocating.{one_more}
-use Rattle.lisp_heap.proofs.Telling.{cost_of}
+use Rattle.lisp_heap.proofs.Telling.{cost_of, made_sure}
 use Rattle.lisp_heap.proofs.heap.Heap.make.Given.{Over}
 use Rattle.lisp_heap.proofs.heap.Heap.make.Goals.{After-as_mut_slice-registers, After-replied, In-Err}
 use Rattle.lisp_heap.proofs.heap.Heap.make.Goals as goal
@@ -21,16 +21,17 @@ admitted-requires g c = let fits = lent g (goal.at.admitted-requires g c).After-
 -- it was made
 made : (g : Over) (c : After-replied g) → Allocated (contents_at c.self.inside.ground c.self.inside.scan c.self.inside.registers.items c.self.inside.space)
     (contents_at c.make-answer.new.ground c.admitted.new.scan (with_items c.self.inside.registers c.make-answer.new.registers).items c.self.inside.space)
-    c.args.steps.now c.make-answer.new.steps (c.args.count + 1) (c.args.count + 1) 0 (C.Make c.args.to c.args.area c.args.code c.args.count) (reply_of c.make-answer.result)
+    c.args.steps.now c.make-answer.new.steps (c.args.count + 1) (c.args.count + 1) 0 c.args.to (C.Make c.args.to c.args.area c.args.code c.args.count) (reply_of c.make-answer.result)
 made g c =
     let fits = lent g (goal.at.After-replied g c).After-as_mut_slice-registers in
     let words = c.as_mut_slice-registers.ensures in
     let x = c.in-Ok.ensures in
     let y = c.make-answer.ensures in
-    allocated_lent c.self.inside.ground c.make-answer.new.ground c.self.inside.registers words.value words.len
-    (allocated_parts c.self.inside.ground c.admitted.new.ground x.admits c.make-answer.new.ground c.make-answer.new.registers c.make-answer.new.steps (c.args.count + 1) 0 (c.args.count + 10) (C.Make c.args.to c.args.area c.args.code c.args.count) (reply_of c.make-answer.result)
+    allocated_lent c.self.inside.ground c.make-answer.new.ground c.self.inside.registers words.value words.len c.args.to
+    (allocated_parts c.self.inside.ground c.admitted.new.ground x.admits c.make-answer.new.ground c.make-answer.new.registers c.make-answer.new.steps (c.args.count + 1) 0 (c.args.count + 10) c.args.to (C.Make c.args.to c.args.area c.args.code c.args.count) (reply_of c.make-answer.result)
     fits.0 fits.1 refl tt (λ s. record { effect_of = _; is = refl; wanted = ap (λ (n : ℕ). Some (record { area = c.args.area; charge = n })) (one_more c.args.count) }) (λ s e is. cc) x.step c.replied.ensures.marks y.performs y.tells
-    (λ sure. let few = cost_of c.make-answer.result y.few sure in omega arith) (λ _. let cost = y.cost in omega arith) (omega arith))
+    (λ sure. let few = cost_of c.make-answer.result y.few sure in omega arith) (λ _. let cost = y.cost in omega arith) (omega arith)
+    (λ fine. cost_of c.make-answer.result y.unmarked (made_sure c.make-answer.result fine)))
 
 pub invariant_of-self : goal.invariant_of-self
 invariant_of-self g c = (made g (goal.at.invariant_of-self g c).After-replied).sound
@@ -46,10 +47,10 @@ returns-in-Ok-clause-order g c = rw (c.replied.ensures.is, ← c.self.view_is) (
 
 -- it was refused
 refused : (g : Over) (c : In-Err g) → Allocated (contents_at c.self.inside.ground c.self.inside.scan c.self.inside.registers.items c.self.inside.space)
-    (contents_at c.admitted.new.ground c.admitted.new.scan (with_items c.self.inside.registers c.admitted.new.registers).items c.self.inside.space) c.args.steps.now c.admitted.new.steps (c.args.count + 1) (c.args.count + 1) 0 (C.Make c.args.to c.args.area c.args.code c.args.count) c.in-Err.reply
+    (contents_at c.admitted.new.ground c.admitted.new.scan (with_items c.self.inside.registers c.admitted.new.registers).items c.self.inside.space) c.args.steps.now c.admitted.new.steps (c.args.count + 1) (c.args.count + 1) 0 c.args.to (C.Make c.args.to c.args.area c.args.code c.args.count) c.in-Err.reply
 refused g c =
     let words = c.as_mut_slice-registers.ensures in
-    allocated_lent c.self.inside.ground c.admitted.new.ground c.self.inside.registers words.value words.len
+    allocated_lent c.self.inside.ground c.admitted.new.ground c.self.inside.registers words.value words.len c.args.to
     (allocated_none (c.in-Err.ensures.refuses (C.Make c.args.to c.args.area c.args.code c.args.count) refl tt refl (λ s. record { effect_of = _; is = refl; wanted = ap (λ (n : ℕ). Some (record { area = c.args.area; charge = n })) (one_more c.args.count) })))
 
 pub invariant_of-self-in-Err : goal.invariant_of-self-in-Err
@@ -63,3 +64,9 @@ returns-in-Err-clause-makes g c = rw (← c.self.view_is) (refused g (goal.at.re
 
 pub returns-in-Err-clause-order : goal.returns-in-Err-clause-order
 returns-in-Err-clause-order g c = rw (← c.self.view_is) (refused g (goal.at.returns-in-Err-clause-order g c).In-Err).order
+
+pub returns-in-Ok-clause-unmarked : goal.returns-in-Ok-clause-unmarked
+returns-in-Ok-clause-unmarked g c = rw (c.replied.ensures.is, ← c.self.view_is) (made g (goal.at.returns-in-Ok-clause-unmarked g c).After-replied).unmarked
+
+pub returns-in-Err-clause-unmarked : goal.returns-in-Err-clause-unmarked
+returns-in-Err-clause-unmarked g c = rw (← c.self.view_is) (refused g (goal.at.returns-in-Err-clause-unmarked g c).In-Err).unmarked

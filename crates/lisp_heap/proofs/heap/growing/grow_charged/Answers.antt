@@ -1,13 +1,16 @@
-use Rattle.std.proofs.Common.{refl, sym, ◌∙◌, ap, subst, arith}
+use Rattle.std.proofs.Common.{refl, sym, ◌∙◌, ap, subst, get_or, arith}
+use Rattle.store_word.specs.Words.{null_word}
 use Rattle.lisp_graph.specs.declared.command.Command.TheVariants as C
 use Rattle.area_space.specs.View.{view}
 use Rattle.heap_state.specs.Reads.{reply_of}
 use Rattle.heap_state.proofs.transporter.Alive.{grows-then}
 use Rattle.heap_state.proofs.transporter.Marked.{marks-then}
 use Rattle.heap_state.proofs.OneSettled.{settled_on}
+use Rattle.heap_commands.proofs.NewMarks.{made_after}
 use Rattle.lisp_heap.specs.Costs.{IsRefused}
 use Rattle.lisp_heap.proofs.Allocating.{refused_undone, refused_unmade}
 use Rattle.lisp_heap.proofs.Growing.{can_grow_there, fields_charged, grow_wants, grown_steps, unrefused, spends_charged}
+use Rattle.lisp_heap.proofs.Marked.{turns_of}
 use Rattle.lisp_heap.proofs.Telling.{cost_of, made_fine, made_sure, tells_then}
 use Rattle.lisp_heap.proofs.heap.growing.grow_charged.Goals as goal
 
@@ -101,3 +104,15 @@ returns-in-Ok-clause-order g c fine =
 
 pub returns-in-Err-clause-order : goal.returns-in-Err-clause-order
 returns-in-Err-clause-order g c fine = absurd (refused_unmade c.in-Err.reply _ _ _ _ (λ e. (c.in-Err.ensures.exhausted e).0) fine)
+
+pub returns-in-Ok-clause-unmarked : goal.returns-in-Ok-clause-unmarked
+returns-in-Ok-clause-unmarked g c fine =
+    let x = c.requires.standing in
+    let y = c.in-Ok.ensures in
+    let ahead = y.ahead x.map x.state x.represents in
+    made_after (g.M.Memory.seen c.args.ground.now.mem) (g.M.Memory.seen c.admit.new.ground.mem) (g.M.Memory.seen c.grow.new.ground.mem) c.args.ground.now.table c.admit.new.ground.table c.grow.new.ground.table
+    x.represents.represents.kept.ground ahead.represented.represents.kept.ground y.on.marks (turns_of (C.Grow c.args.target c.args.wanted) (reply_of c.grow.result) c.grow.ensures.performs.marks) (get_or c.admit.new.registers c.args.target null_word) c.args.charge
+    (cost_of c.grow.result c.grow.ensures.unmarked (made_sure c.grow.result (sym c.reply_of.ensures ∙ fine)) ahead.represented.map x.state c.args.area c.args.charge ahead.represented.represents (c.requires.wants.grows x.map x.state x.represents.represents))
+
+pub returns-in-Err-clause-unmarked : goal.returns-in-Err-clause-unmarked
+returns-in-Err-clause-unmarked g c fine = absurd (refused_unmade c.in-Err.reply _ _ _ _ (λ e. (c.in-Err.ensures.exhausted e).0) fine)

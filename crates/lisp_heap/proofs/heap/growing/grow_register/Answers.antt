@@ -1,8 +1,11 @@
-use Rattle.std.proofs.Common.{◌*◌, refl, sym, ◌∙◌, subst, arith}
+use Rattle.std.proofs.Common.{◌*◌, refl, sym, ◌∙◌, subst, get_or, arith}
+use Rattle.store_word.specs.Words.{null_word}
 use Rattle.lisp_graph.specs.declared.command.Command.TheVariants as C
 use Rattle.area_space.specs.View.{view}
 use Rattle.heap_state.proofs.transporter.Alive.{grows-then}
 use Rattle.heap_state.proofs.transporter.Marked.{marks-then}
+use Rattle.heap_commands.specs.Views.{MarksMade}
+use Rattle.heap_commands.proofs.NewMarks.{made_after}
 use Rattle.lisp_heap.specs.Costs.{IsRefused, LookCosts, Spends}
 use Rattle.lisp_heap.specs.Growth.{LooksAndWidens}
 use Rattle.lisp_heap.proofs.Growing.{answered_sure, consistent_now, looked, looks_refused, none_wanted, same_charge, some_wanted, spends_looked, standing_looked}
@@ -110,3 +113,15 @@ returns-in-Wants-clause-order g c fine k s x area charge some =
     let same = same_charge s c.args.target c.args.wanted c.in-Wants.area c.in-Wants.charge area charge (c.in-Wants.ensures.finds.grows y.map s y.represents) some in
     subst (λ n. LooksAndWidens (view c.args.ground.now) (view c.grow_charged.new.ground) c.args.scan.now c.grow_charged.new.scan c.args.registers.now c.grow_charged.new.registers n (c.args.rate * n)) (sym same)
     (record { ground = view c.find_growing-found.new.ground; words = c.find_growing-found.new.registers; others = z.others; table = z.preserves.grows; few = z.few; widens = c.grow_charged.ensures.order fine })
+
+pub returns-in-Answered-clause-unmarked : goal.returns-in-Answered-clause-unmarked
+returns-in-Answered-clause-unmarked g c fine k s x area charge some = absurd (none_wanted _ _ (c.in-Answered.ensures.finds.unwanted (λ e. cc) k s x.represents x.reach) some)
+
+pub returns-in-Wants-clause-unmarked : goal.returns-in-Wants-clause-unmarked
+returns-in-Wants-clause-unmarked g c fine k s x area charge some =
+    let z = c.find_growing-found.ensures in
+    let y = z.represented k s x.represents x.reach in
+    let same = same_charge s c.args.target c.args.wanted c.in-Wants.area c.in-Wants.charge area charge (c.in-Wants.ensures.finds.grows y.map s y.represents) some in
+    subst (MarksMade (view c.args.ground.now) (view c.grow_charged.new.ground) (get_or c.grow_charged.new.registers c.args.target null_word)) (sym same)
+    (made_after (g.M.Memory.seen c.args.ground.now.mem) (g.M.Memory.seen c.find_growing-found.new.ground.mem) (g.M.Memory.seen c.grow_charged.new.ground.mem) c.args.ground.now.table c.find_growing-found.new.ground.table c.grow_charged.new.ground.table
+    x.represents.kept.ground y.represents.kept.ground z.marks c.grow_charged.ensures.marks.turns (get_or c.grow_charged.new.registers c.args.target null_word) c.in-Wants.charge (c.grow_charged.ensures.unmarked fine))

@@ -1,0 +1,23 @@
+-- Which pages get marks by the words of a block that is made, and of one that grows.
+use Rattle.std.specs.Prelude.{◌≡◌, ℕ, ◌+◌, ◌/◌, ◌<◌}
+use Rattle.store_word.specs.declared.word.Content.{Content}
+use Rattle.store_word.specs.declared.word.Content.TheVariants.{Header}
+use Rattle.area_space.specs.lisp_graph.Effect.{grown_length}
+use Rattle.mem_port.specs.Store.{Store, level_of_word}
+use Rattle.area_space.specs.Table.{Table}
+use Rattle.obj_layout.specs.Forwards.{word_at}
+use Rattle.block_store.specs.Headers.{TellsLength}
+
+-- a page without marks gets some only if one of these `count` words is on it and has an address of level 1 or more
+abbrev pub MarksByWords : Store → Store → ℕ → ℕ → Type 0
+MarksByWords old new at count =
+    (page : ℕ) → old.marks page ≡ 0 → ((i : ℕ) → i < count → (at + i) / 256 ≡ page → level_of_word new.levels (word_at new.words (at + i)) ≡ 0) → new.marks page ≡ 0
+
+-- For a block that grows these are the words of the wider one, and the first of its husk.
+pub record MarksGrown (old : Store) (t : Table) (new : Store) (content : Content) (here at wanted : ℕ) : Type 0 where
+  pub code : ℕ
+  pub count : ℕ
+  pub header : (word_at old.words here).content ≡ Header code count
+  pub length_is : TellsLength old t content count
+  pub unmarked : (page : ℕ) → old.marks page ≡ 0 → (here / 256 ≡ page → level_of_word new.levels (word_at new.words here) ≡ 0)
+      → ((i : ℕ) → i < grown_length count wanted + 1 → (at + i) / 256 ≡ page → level_of_word new.levels (word_at new.words (at + i)) ≡ 0) → new.marks page ≡ 0
