@@ -33,8 +33,8 @@ HasFail bytes fail = ((arguments : List (List ℕ)) × AreArguments bytes argume
 -- What the mode requires of the input and of what was written. The source gives the input and never fails; the sink contains what was written.
 abbrev pub Does : Option Mode → List ℕ → List ℕ → Status → Type 0
 Does (Some M.Replay) input written status =
-    (left : List ℕ) × (machine : Holding) × (rose : ℕ) × (i b w : List ℕ) × Ran (Some input) (Some left) (λ had. [] ≡ had) (λ had. written ≡ had)
-    (record { input = i; taken = b; written = w; stands = MeansFor machine.heap; loaded = is_some machine.heap; source_rose = Rose 0 0; swap_rose = rose }) status
+    (left : List ℕ) × (machine : Holding) × (rose : ℕ) × (last : ℕ) × (i b w : List ℕ) × Ran (Some input) (Some left) (λ had. [] ≡ had) (λ had. written ≡ had)
+    (record { input = i; taken = b; last = last; written = w; stands = MeansFor machine.heap; loaded = is_some machine.heap; source_rose = Rose 0 0; swap_rose = rose }) status
 Does (Some (M.Exercise number count)) input written status =
     (machine : Holding) × (rose : ℕ) × Exercised number count (λ had. [] ≡ had) (λ had. written ≡ had) (MeansFor machine.heap) (is_some machine.heap) rose status
 Does (Some (M.OfFile mode)) input written status = (left : List ℕ) × files.Ran mode (Some input) (Some left) (λ had. [] ≡ had) (λ had. written ≡ had) status
@@ -51,7 +51,7 @@ pub record IsAnswer (arguments input written : List ℕ) (number : ℕ) : Type 0
 -- what is written if this page call has to fail, or if the arguments are refused
 abbrev pub ShowsFor : Option ℕ → List ℕ → List ℕ → Status → Type 0
 ShowsFor (Some fail) input written status =
-    (left : List ℕ) × (machine : Holding) × (rose : ℕ) × Shows (Some input) (Some left) (λ had. [] ≡ had) (λ had. written ≡ had) machine.heap (Rose 0 0) rose status
+    (left : List ℕ) × (machine : Holding) × (rose last : ℕ) × Shows (Some input) (Some left) last (λ had. [] ≡ had) (λ had. written ≡ had) machine.heap (Rose 0 0) rose status
 ShowsFor None input written status = Refused (λ had. [] ≡ had) (λ had. written ≡ had) status
 
 -- For these arguments and this input `lispm_inside` writes this and ends with this status.

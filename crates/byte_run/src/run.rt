@@ -43,7 +43,10 @@ fn run_words(alloc: Global, words: &[String], input: &[u8], sink: &mut SinkVec) 
     requires { sink.old.bytes.items ≡ [] }
     ensures { (status : Status) × (result ≡ code status) × Does (mode_of words.now) input.now sink.new.bytes.items status }
 {
-    let mut source = SourceSlice { left: input };
+    let mut source = SourceSlice {
+        left: input,
+        last: 0,
+    };
     let mut machine = Machine::idle(SwapMemory::new(alloc, 0));
     run_lispm(alloc, words, &mut source, sink, &mut machine)
 }
@@ -53,7 +56,10 @@ fn run_inside_words(alloc: Global, words: &[String], input: &[u8], sink: &mut Si
     requires { sink.old.bytes.items ≡ [] }
     ensures { (status : Status) × (result ≡ code status) × ShowsFor (fail_of words.now) input.now sink.new.bytes.items status }
 {
-    let mut source = SourceSlice { left: input };
+    let mut source = SourceSlice {
+        left: input,
+        last: 0,
+    };
     let fail = fail_number(words).unwrap_or(0);
     let device = SwapMemory::new(alloc, fail);
     run_inside(alloc, words, &mut source, sink, device).status

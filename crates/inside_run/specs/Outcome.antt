@@ -42,7 +42,7 @@ Told held held' replies text ended status =
     ⊎ ((status ≡ WriteFailed) × ((front : List ℕ) × IsCut text front × Gained held held' (replies ++ front)))
 
 -- A run that shows its machine, and ended with this status. The input, what the source gave and the replies are as in a run that ended with the status `ended` and had this heap at its end: the heap has the meaning of its last state. If `ended` is `Done`, the heap is written after the replies; otherwise it isn't. The status is `ended`, or the sink failed in the heap's text.
-pub record Shows (left left' : Option (List ℕ)) (held held' : List ℕ → Type 0) (heap : Option Contents) (source_rose : Type 0) (rose : ℕ) (status : Status) : Type 0 where
+pub record Shows (left left' : Option (List ℕ)) (last : ℕ) (held held' : List ℕ → Type 0) (heap : Option Contents) (source_rose : Type 0) (rose : ℕ) (status : Status) : Type 0 where
   pub i : List ℕ
   pub b : List ℕ
   pub replies : List ℕ
@@ -50,5 +50,5 @@ pub record Shows (left left' : Option (List ℕ)) (held held' : List ℕ → Typ
   pub input : IfSome left (λ bytes. bytes ≡ i)
   pub gave : Gave left left' b
   pub rest : i ≡ b ++ unwrap_or left' []
-  pub wrote : Wrote ended (record { input = i; taken = b; written = replies; stands = MeansFor heap; loaded = is_some heap; source_rose = source_rose; swap_rose = rose })
+  pub wrote : Wrote ended (record { input = i; taken = b; last = last; written = replies; stands = MeansFor heap; loaded = is_some heap; source_rose = source_rose; swap_rose = rose })
   pub told : Told held held' replies (shown ended heap) ended status

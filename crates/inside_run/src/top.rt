@@ -35,7 +35,7 @@ fn answer_shown<S: Source, K: Sink, D: ShownSwap>(
     machine: &mut Machine<D>,
 ) -> Status
     requires { machine.old.idle ≡ true }
-    ensures ran { Shows (S.left source.old) (S.left source.new) (K.stands sink.old) (K.stands sink.new)
+    ensures ran { Shows (S.left source.old) (S.left source.new) (S.last source.new) (K.stands sink.old) (K.stands sink.new)
         machine.new.heap (Rose (S.faults source.old) (S.faults source.new)) (machine.new.faults - machine.old.faults) result }
     ensures read { result ≡ Status.ReadFailed → Rose (S.faults source.old) (S.faults source.new) }
     ensures write { result ≡ Status.WriteFailed → Rose (K.faults sink.old) (K.faults sink.new) }
@@ -79,7 +79,7 @@ pub fn run_inside<S: Source, K: Sink, D: ShownSwap>(
 
     // For an input, the replies are those of a run, as its status says, and the heap has the meaning of the state after its commands. That heap is written after them.
     ensures ran { (fail : ℕ) → fail_of words.now ≡ Some fail → ((status : Status) × (result.status ≡ code status)
-        × Shows (S.left source.old) (S.left source.new) (K.stands sink.old) (K.stands sink.new)
+        × Shows (S.left source.old) (S.left source.new) (S.last source.new) (K.stands sink.old) (K.stands sink.new)
         result.machine.heap (Rose (S.faults source.old) (S.faults source.new)) (result.machine.faults - D.faults device) status) }
 
     // All other arguments are refused, and no others.
@@ -101,7 +101,7 @@ pub fn run_inside<S: Source, K: Sink, D: ShownSwap>(
 
     // In an input without a dump, memory can run out only before the first command; so writing the machine allocates none.
     ensures early { (fail : ℕ) (i : List ℕ) → fail_of words.now ≡ Some fail → S.left source.old ≡ Some i → All (λ command. command ≢ Dump) (verdict i).read.commands
-        → result.status ≡ 5 → IsEarly i (S.left source.new) (K.stands sink.old) (K.stands sink.new) (is_some result.machine.heap) }
+        → result.status ≡ 5 → IsEarly i (S.left source.new) (S.last source.new) (K.stands sink.old) (K.stands sink.new) (is_some result.machine.heap) }
 
     // A device's failure is reported only if its count of failed calls rose.
     ensures read { result.status ≡ 3 → Rose (S.faults source.old) (S.faults source.new) }

@@ -1,15 +1,55 @@
 -- Line feeds in bytes, and parts of a buffer.
-use Rattle.std.proofs.Common.{◌≡◌, ℕ, suc, ◌+◌, ◌-◌, ◌<◌, ◌≤◌, List, [], ◌∷◌, ◌++◌, length, take, drop, set, get_or, true, ◌&&◌, Some, None, refl, sym, ap, ◌∙◌, arith}
-use Rattle.std.proofs.lemmas.List.{take_more, take_more_set, drop-take, drop-drop, get_or-drop, drop-set-lt, length-drop, length-take-le, length-take, drop_at, take-append-le, take_at, drop-append-le, take-append-drop, get_or-take}
-use Rattle.std.proofs.lemmas.Bool.{ne_eqb, eq-eqb, eqb-true}
+use Rattle.std.proofs.Common.{◌≡◌, ℕ, suc, ◌+◌, ◌-◌, ◌<◌, ◌≤◌, List, [], ◌∷◌, ◌++◌, length, take, drop, set, get_or, Bool, true, false, ◌&&◌, Some, None, inl, inr, refl, sym, ap, ◌∙◌, arith}
+use Rattle.std.proofs.lemmas.List.{drop_all, length-append, take_more, take_more_set, drop-take, drop-drop, get_or-drop, drop-set-lt, length-drop, length-take-le, length-take, drop_at, take-append-le, take_at, drop-append-le, take-append-drop, get_or-take}
+use Rattle.std.proofs.lemmas.Bool.{cases_lt, ne_eqb, eq-eqb, eqb-true}
 use Rattle.memchr.specs.Find.{IsFirstByte, is_byte}
 use Rattle.std.proofs.Math.Seq.{take-add}
 use Rattle.std.proofs.lemmas.Grind.{common_steps}
-use Rattle.line_input.specs.Reader.{no_feed}
+use Rattle.line_input.specs.Reader.{no_feed, without_latest}
 
 pub no_feed-append : (xs ys : List ℕ) → no_feed (xs ++ ys) ≡ no_feed xs && no_feed ys
 no_feed-append [] ys = refl
 no_feed-append (x ∷ xs) ys = grind (arith, common_steps, no_feed-append xs ys)
+
+-- a part of bytes without a line feed
+pub no_feed-take : (n : ℕ) (xs : List ℕ) → no_feed xs ≡ true → no_feed (take n xs) ≡ true
+no_feed-take n xs none = let both = sym (no_feed-append (take n xs) (drop n xs)) ∙ ap no_feed (take-append-drop n xs) ∙ none in first (no_feed (take n xs)) (no_feed (drop n xs)) both
+  where
+    first : (a b : Bool) → a && b ≡ true → a ≡ true
+    first true b is = refl
+    first false b is = cc (is)
+
+pub no_feed-drop : (n : ℕ) (xs : List ℕ) → no_feed xs ≡ true → no_feed (drop n xs) ≡ true
+no_feed-drop n xs none = let both = sym (no_feed-append (take n xs) (drop n xs)) ∙ ap no_feed (take-append-drop n xs) ∙ none in second (no_feed (take n xs)) (no_feed (drop n xs)) both
+  where
+    second : (a b : Bool) → a && b ≡ true → b ≡ true
+    second true b is = is
+    second false b is = cc (is)
+
+-- without the latest piece the bytes are those before it
+pub feedless_before : (old new piece : List ℕ) (last : ℕ) → no_feed old ≡ true → new ≡ old ++ piece → length piece ≡ last → no_feed (without_latest last new) ≡ true
+feedless_before old new piece last none more long =
+    let before : without_latest last new ≡ old =
+    ap (λ xs. take (length xs - last) xs) more ∙ ap (λ n. take n (old ++ piece)) (omega (arith, length-append old piece, long)) ∙ take_at old piece (length old) refl in
+    ap no_feed before ∙ none
+
+-- the first k elements without the first n
+drop_of_take : (n k : ℕ) (xs : List ℕ) → drop n (take k xs) ≡ take (k - n) (drop n xs)
+drop_of_take n k xs = elim (cases_lt k n) [
+  | inl less ↦
+      let few : k - n ≡ 0 = omega (arith, less) in
+      drop_all n (take k xs) (omega (arith, less, length-take k xs)) ∙ ap (λ j. take j (drop n xs)) (sym few)
+  | inr more ↦
+      let whole : k ≡ n + (k - n) = omega (arith, more) in
+      ap (λ j. drop n (take j xs)) whole ∙ drop-take n (k - n) xs
+]
+
+-- what follows the first n bytes, without the latest piece
+pub drop_latest : (n last : ℕ) (all rest : List ℕ) → drop n all ≡ rest → drop n (without_latest last all) ≡ without_latest last rest
+drop_latest n last all rest is =
+    let long : length rest ≡ length all - n = ap length (sym is) ∙ length-drop n all in
+    let size : (length all - last) - n ≡ length rest - last = omega (arith, long) in
+    drop_of_take n (length all - last) all ∙ ap (take ((length all - last) - n)) is ∙ ap (λ k. take k rest) size
 
 -- bytes without a line feed
 feedless : (xs : List ℕ) → ((k : ℕ) → k < length xs → get_or xs k 0 ≡ 10 → ⊥) → no_feed xs ≡ true

@@ -1,7 +1,7 @@
 -- What holds between two lines, and when the reading ends.
 use Rattle.std.proofs.Common.{◌≡◌, ◌⊎◌, inl, inr, ℕ, ◌+◌, ◌-◌, ◌<◌, ◌≤◌, ◌^◌, List, [], ◌∷◌, ◌++◌, length, take, drop, Bool, true, false, cond, Option, Some, None, Result, Ok, Err, refl, sym, ap, ◌∙◌, subst, arith, rules}
 use Rattle.std.specs.Prelude.{IfSome, unwrap_or}
-use Rattle.std.proofs.lemmas.List.{append-nil, append_assoc, length-append, length-drop, take_all}
+use Rattle.std.proofs.lemmas.List.{append-nil, append_assoc, drop-append-le, drop-drop, length-append, length-drop, take_all}
 use Rattle.outer_ports.specs.Ports.{Gave, IsAtEnd}
 use Rattle.outer_ports.proofs.Gains.{gave_nothing, gave_then}
 use Rattle.world_text.specs.declared.reading.reason.Reason.{Reason}
@@ -22,6 +22,7 @@ pub record Taken (left left' : Option (List ℕ)) (lines : List Line) (b : List 
   pub cuts : (more : List ℕ) → (reader.ended ≡ true → more ≡ []) → lines_of (b ++ more) ≡ lines ++ lines_of (reader.bytes ++ more)
   pub wholes : reader.ended ≡ false → whole_lines lines ≡ lines
   pub long : length b ≡ bytes + length reader.bytes
+  pub tail : drop bytes b ≡ reader.bytes
 
 -- The lines before the place were read, and the buffered bytes follow them.
 pub record Going {J W : Type 0} (by : Rules J W) (first : J) (left left' : Option (List ℕ)) (place : InputReader J) (reader : Buffered) : Type 0 where
@@ -69,6 +70,7 @@ taken_start {left} reader none = record {
   cuts = λ more _. ap (λ xs. lines_of (xs ++ more)) (sym none);
   wholes = λ _. refl;
   long = omega (arith, ap length none);
+  tail = sym none;
 }
 
 -- more bytes were taken
@@ -82,6 +84,7 @@ taken_more {left} {left'} {left''} {lines} {b} {bytes} {reader} reader' piece t 
       ∙ ap (λ xs. lines ++ lines_of xs) (sym (append_assoc reader.bytes piece more) ∙ ap (λ xs. xs ++ more) (sym more_bytes));
   wholes = λ is. t.wholes (not_ended reader.ended reader'.ended once is);
   long = omega (arith, length-append b piece, length-append reader.bytes piece, ap length more_bytes, t.long);
+  tail = drop-append-le bytes b piece (omega (arith, t.long)) ∙ ap (λ xs. xs ++ piece) t.tail ∙ sym more_bytes;
 }
 
 -- one more line was passed
@@ -97,6 +100,7 @@ taken_passed {left} {left'} {lines} {b} {bytes} {reader} bytes' reader' found t 
       let on : reader.ended ≡ false = sym same ∙ is in
       whole_lines-append lines (p.line ∷ []) ∙ rw (t.wholes on, p.whole on) refl;
   long = omega (arith, t.long, ap length rest, length-drop found.size reader.bytes, p.within, counted);
+  tail = ap (λ n. drop n b) counted ∙ sym (drop-drop found.size bytes b) ∙ ap (drop found.size) t.tail ∙ sym rest;
 }
 
 -- if the buffered bytes contain no line feed, the whole lines are those before them

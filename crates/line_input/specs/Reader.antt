@@ -1,5 +1,5 @@
 -- What a reader of lines buffers, and which line is next.
-use Rattle.std.specs.Prelude.{◌≡◌, ℕ, ◌+◌, ◌<◌, ◌≤◌, List, [], ◌∷◌, length, Bool, true, not, ◌==◌, ◌&&◌, ◌⊎◌, take, slice_index, Option, Some, None}
+use Rattle.std.specs.Prelude.{◌≡◌, ℕ, ◌+◌, ◌-◌, ◌<◌, ◌≤◌, List, [], ◌∷◌, length, Bool, true, not, ◌==◌, ◌&&◌, ◌⊎◌, take, slice_index, Option, Some, None}
 use Rattle.line_input.specs.declared.lines.found.Found.{Found}
 
 -- the bytes that were taken and not yet passed, and whether the source has reached its end
@@ -11,6 +11,10 @@ pub record Buffered : Type 0 where
 abbrev pub no_feed : List ℕ → Bool
 no_feed [] = true
 no_feed (byte ∷ bytes) = not (byte == 10) && no_feed bytes
+
+-- the bytes without the latest piece, which has this length
+abbrev pub without_latest : ℕ → List ℕ → List ℕ
+without_latest last bytes = take (length bytes - last) bytes
 
 -- a line with its line feed
 pub record IsWholeLine (buffered : Buffered) (found : Found) : Type 0 where

@@ -25,10 +25,11 @@ after_call plan failed = record plan {
   failed = failed;
 }
 
--- a source in memory: the bytes that remain, the most bytes that a call gives, and the plan
+-- a source in memory: the bytes that remain, the most bytes that a call gives, the length of the latest piece, and the plan
 pub record Served : Type 0 where
   pub left : List ℕ
   pub piece : ℕ
+  pub last : ℕ
   pub plan : Plan
 
 -- a sink in memory: the bytes that it contains, how many it has room for, the most bytes that a call takes, and the plan

@@ -1,5 +1,5 @@
 -- What the calls of a source and of a sink may do.
-use Rattle.std.specs.Prelude.{◌≡◌, ℕ, ◌+◌, ◌-◌, ◌^◌, ◌<◌, ◌≤◌, min, List, [], ◌++◌, length, Bool, true, Option, Result, OnOk, OnErr, IfSome, option_map}
+use Rattle.std.specs.Prelude.{◌≡◌, ℕ, ◌+◌, ◌-◌, ◌^◌, ◌<◌, ◌≤◌, min, List, [], ◌++◌, length, Bool, true, Option, Result, Ok, Err, OnOk, OnErr, IfSome, option_map}
 
 -- the next 64-bit count, which saturates
 abbrev pub next_count : ℕ → ℕ
@@ -22,6 +22,11 @@ FailedLast before now failed = (now ≡ next_count before) × (failed ≡ true)
 -- a source that reports what remains gave these bytes, and now reports the rest; a source that reported nothing still reports nothing
 abbrev pub Gave : Option (List ℕ) → Option (List ℕ) → List ℕ → Type 0
 Gave before now bytes = before ≡ option_map (λ rest. bytes ++ rest) now
+
+-- the length of the piece that a call of a source gave; a call that failed gave none
+abbrev pub piece_length : {E : Type 0} → Result ℕ E → ℕ
+piece_length (Ok n) = n
+piece_length (Err _) = 0
 
 -- if the source reports what remains, nothing does
 abbrev pub IsAtEnd : Option (List ℕ) → Type 0

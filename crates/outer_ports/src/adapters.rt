@@ -1,7 +1,7 @@
 //! Sources and sinks over std's readers and writers. As ports they report no content.
 ghost use Rattle.std.specs.Prelude.{◌≡◌, ◌<◌, ◌≤◌, false, None, length, is_err, IfOk, OnErr};
 ghost use Rattle.std.specs.Io.KnownBytes.{ReadConsumes, WriteAppends};
-ghost use Rattle.outer_ports.specs.Ports.{HasCause, next_count};
+ghost use Rattle.outer_ports.specs.Ports.{HasCause, next_count, piece_length};
 
 use crate::sinks::{Sink, SinkFault};
 use crate::sources::{Source, SourceFault};
@@ -14,6 +14,7 @@ use std::marker::Model;
 pub struct SourceRead<R: Read> {
     inner: R,
     faults: u64,
+    last: usize,
 }
 
 impl<R: Read> Model for SourceRead<R> {
@@ -21,15 +22,19 @@ impl<R: Read> Model for SourceRead<R> {
 
     ghost Value = { Adapted };
 
-    ghost view = { λ s. record { told = R.remaining s.inner; faults = s.faults } };
+    ghost view = { λ s. record { told = R.remaining s.inner; faults = s.faults; last = s.last } };
 }
 
 impl<R: Read> SourceRead<R> {
     /// A source over this reader. No call has failed yet.
     pub fn new(inner: R) -> SourceRead<R>
-        ensures { result ≡ record { told = R.remaining inner; faults = 0 } }
+        ensures { result ≡ record { told = R.remaining inner; faults = 0; last = 0 } }
     {
-        SourceRead { inner, faults: 0 }
+        SourceRead {
+            inner,
+            faults: 0,
+            last: 0,
+        }
     }
 }
 
@@ -38,13 +43,18 @@ impl<R: Read> Source for SourceRead<R> {
 
     ghost faults = { λ s. s.faults };
 
+    ghost last = { λ s. s.last };
+
     fn take(&mut self, into: &mut [u8]) -> Result<usize, SourceFault>
         ensures fits { IfOk result (λ n. n ≤ length into.new) }
         ensures read { ReadConsumes self.old.told self.new.told result into.new }
         ensures cause { HasCause self.old.faults self.new.faults result }
+        ensures last { self.new.last ≡ piece_length result }
     {
         let outcome = self.inner.read(into);
-        counted(outcome, 0, SourceFault, &mut self.faults)
+        let answer = counted(outcome, 0, SourceFault, &mut self.faults);
+        self.last = answer.unwrap_or(0);
+        answer
     }
 }
 

@@ -60,8 +60,8 @@ closed_reads place is = go place.judge.ended is
     go true is = cc (is)
     go false is = cc (is)
 
-module _ {left left' : Option (List ℕ)} {held held' : List ℕ → Type 0} {stands : State → Type 0} {takes : Command → Type 0} {idle : Type 0} {before now : ℕ} {place : JudgedInput} {reader : Buffered} {pending : List ℕ}
-    (going : Going left left' held held' stands takes idle before now place reader pending) (form : IsPlace place) (end : reader.ended ≡ true → IsAtEnd left') where
+module _ {left left' : Option (List ℕ)} {last : ℕ} {held held' : List ℕ → Type 0} {stands : State → Type 0} {takes : Command → Type 0} {idle : Type 0} {before now : ℕ} {place : JudgedInput} {reader : Buffered} {pending : List ℕ}
+    (going : Going left left' last held held' stands takes idle before now place reader pending) (form : IsPlace place) (end : reader.ended ≡ true → IsAtEnd left') where
   pub input : List ℕ
   input = going.b ++ rest_of left'
 
@@ -75,12 +75,12 @@ module _ {left left' : Option (List ℕ)} {held held' : List ℕ → Type 0} {st
   pub reached_here : going.base ≤ going.read.place.bytes
   reached_here = subst (λ (p : JudgedInput). going.base ≤ p.bytes) (sym going.at) going.reached
 
-  pub ahead_here : (n : ℕ) → going.m ≤ n → n ≤ length going.read.commands → IsAhead n input going.b
-  ahead_here n above within = ahead input going.b going.read (lines_of (reader.bytes ++ rest_of left')) going.base going.m verdict_here going.behind reached_here going.near n above (omega (arith, going.counts))
+  pub ahead_here : (n : ℕ) → going.m ≤ n → n ≤ length going.read.commands → IsAhead n input going.b last
+  ahead_here n above within = ahead input going.b last going.read (lines_of (reader.bytes ++ rest_of left')) going.base going.m verdict_here going.behind reached_here going.near going.feedless n above (omega (arith, going.counts))
 
   -- the run stops here, with what was written and what is pending
-  pub ran_with : {held'' : List ℕ → Type 0} {stands' : State → Type 0} {loaded : Bool} {source_rose : Type 0} {rose : ℕ} (w pending' : List ℕ) (result : Result (Unit {0}) Stop) → Gained held held'' w → Stopped result (observes input going.b w stands' loaded source_rose rose) pending'
-      → HasStopped left left' held held'' stands' loaded source_rose rose pending' result
+  pub ran_with : {held'' : List ℕ → Type 0} {stands' : State → Type 0} {loaded : Bool} {source_rose : Type 0} {rose : ℕ} (w pending' : List ℕ) (result : Result (Unit {0}) Stop) → Gained held held'' w → Stopped result (observes input going.b last w stands' loaded source_rose rose) pending'
+      → HasStopped left left' last held held'' stands' loaded source_rose rose pending' result
   unfolding input
   ran_with w pending' result gained stopped = (
     input,
@@ -109,37 +109,37 @@ module _ {left left' : Option (List ℕ)} {held held' : List ℕ → Type 0} {st
   untouched_here : (s : Status) → IsUntouched s (world_of going.read.place) (now - before)
   untouched_here s none _ = unrisen (ap world_of (sym going.at) ∙ none)
 
-  far_here : IsAhead (length going.read.commands) input going.b
+  far_here : IsAhead (length going.read.commands) input going.b last
   far_here = ahead_here (length going.read.commands) (tells_few going.tells) (omega arith)
 
   -- if the sink fails in what is pending, it fails in a reply
-  pub cut_here : {loaded : Bool} {source_rose : Type 0} (front rest : List ℕ) → pending ≡ front ++ rest → 0 < length rest → CutReply (observes input going.b (going.w ++ front) stands loaded source_rose (now - before))
+  pub cut_here : {loaded : Bool} {source_rose : Type 0} (front rest : List ℕ) → pending ≡ front ++ rest → 0 < length rest → CutReply (observes input going.b last (going.w ++ front) stands loaded source_rose (now - before))
   cut_here {loaded} {source_rose} front rest is some = go (world_of place) refl
     where
-      go : (o : Option World) → world_of place ≡ o → CutReply (observes input going.b (going.w ++ front) stands loaded source_rose (now - before))
+      go : (o : Option World) → world_of place ≡ o → CutReply (observes input going.b last (going.w ++ front) stands loaded source_rose (now - before))
       go None none =
           let t = (subst (λ o. Tells o going.read.commands stands (now - before) going.w pending going.m) none going.tells).told in
           absurd (omega (arith, ap length t.2, ap length is, length-append front rest))
       go (Some world) open_is =
           let t = (subst (λ o. Tells o going.read.commands stands (now - before) going.w pending going.m) open_is going.tells).told in
           let k = judged_keeps going.read (lines_of (reader.bytes ++ rest_of left')) in
-          cut_reply input going.b k.commands (opened_verdict world open_is) (ap (λ v. v.read.commands) verdict_here ∙ k.more) going.limits k.limits
+          cut_reply input going.b last k.commands (opened_verdict world open_is) (ap (λ v. v.read.commands) verdict_here ∙ k.more) going.limits k.limits
           (sound_at place form world open_is) some (told_moved front is t) (λ n above below. ahead_here n above (omega (arith, below)))
 
   -- the run stops here with a trouble that requires this line
-  ran_demanded : {loaded : Bool} {source_rose : Type 0} (t : RunError) → Demands (status_of t) (observes input going.b going.w stands loaded source_rose (now - before)) going.read (trouble_line t) → HasStopped left left' held held' stands loaded source_rose (now - before) pending (Err (Tell t))
+  ran_demanded : {loaded : Bool} {source_rose : Type 0} (t : RunError) → Demands (status_of t) (observes input going.b last going.w stands loaded source_rose (now - before)) going.read (trouble_line t) → HasStopped left left' last held held' stands loaded source_rose (now - before) pending (Err (Tell t))
   ran_demanded t demands = ran_with going.w pending (Err (Tell t)) going.gained (record { read = going.read; demands = demands; answered = answered_here; untouched = untouched_here (status_of t); far = far_here; cut = cut_here })
 
   -- if a line has trouble, or the lines end too early
-  ran_broken : {loaded : Bool} {source_rose : Type 0} (t : RunError) → IsOfLine t → verdict input ≡ record { read = going.read; ending = Broken t } → (status_of t ≢ status.Refused → world_of place ≡ None) → HasStopped left left' held held' stands loaded source_rose (now - before) pending (Err (Tell t))
+  ran_broken : {loaded : Bool} {source_rose : Type 0} (t : RunError) → IsOfLine t → verdict input ≡ record { read = going.read; ending = Broken t } → (status_of t ≢ status.Refused → world_of place ≡ None) → HasStopped left left' last held held' stands loaded source_rose (now - before) pending (Err (Tell t))
   ran_broken {loaded} {source_rose} t of is alone =
-      ran_demanded t (broken_demands t (observes input going.b going.w stands loaded source_rose (now - before)) going.read of is (λ other. none_read (world_of place) (alone other) going.tells))
+      ran_demanded t (broken_demands t (observes input going.b last going.w stands loaded source_rose (now - before)) going.read of is (λ other. none_read (world_of place) (alone other) going.tells))
     where
       none_read : (o : Option World) → o ≡ None → Tells o going.read.commands stands (now - before) going.w pending going.m → going.read.commands ≡ []
       none_read o none tells = (subst (λ o. Tells o going.read.commands stands (now - before) going.w pending going.m) none tells).told.0
 
   -- at the end of the input
-  pub ran_end : {loaded : Bool} {source_rose : Type 0} → (reader.bytes ≡ []) × (reader.ended ≡ true) → HasStopped left left' held held' stands loaded source_rose (now - before) pending (closed (ending_at place))
+  pub ran_end : {loaded : Bool} {source_rose : Type 0} → (reader.bytes ≡ []) × (reader.ended ≡ true) → HasStopped left left' last held held' stands loaded source_rose (now - before) pending (closed (ending_at place))
   unfolding input
   ran_end {loaded} {source_rose} none = go place.judge.ended v
     where
@@ -153,7 +153,7 @@ module _ {left left' : Option (List ℕ)} {held held' : List ℕ → Type 0} {st
       same = sym (append-nil going.b) ∙ ap (λ xs. going.b ++ xs) (sym (none_left none.1))
 
       go : (ended : Bool) → verdict input ≡ record { read = going.read; ending = if ended then Whole else Broken (trouble.Line (place.lines + 1) (early_reason place.lines NotAWorld)) }
-          → HasStopped left left' held held' stands loaded source_rose (now - before) pending (closed (if ended then Whole else Broken (trouble.Line (place.lines + 1) (early_reason place.lines NotAWorld))))
+          → HasStopped left left' last held held' stands loaded source_rose (now - before) pending (closed (if ended then Whole else Broken (trouble.Line (place.lines + 1) (early_reason place.lines NotAWorld))))
       go true is = ran_with going.w pending (Ok tt) going.gained (record { read = going.read; demands = (same, is, refl); answered = answered_here; untouched = untouched_here status.Done; far = far_here; cut = cut_here })
       go false is = ran_broken (trouble.Line (place.lines + 1) (early_reason place.lines NotAWorld)) tt is (λ other. absurd (other refl))
 
@@ -172,12 +172,12 @@ module _ {left left' : Option (List ℕ)} {held held' : List ℕ → Type 0} {st
   whole_here many part on =
       ap (judged start) (taken_whole going.taken part.none on) ∙ going.judges []
 
-  pub ran_fault : {loaded : Bool} {source_rose : Type 0} (many : ℕ) → many ≡ enough place → IsPart reader many → reader.ended ≡ false → HasStopped left left' held held' stands loaded source_rose (now - before) pending (Err (Tell trouble.Read))
+  pub ran_fault : {loaded : Bool} {source_rose : Type 0} (many : ℕ) → many ≡ enough place → IsPart reader many → reader.ended ≡ false → HasStopped left left' last held held' stands loaded source_rose (now - before) pending (Err (Tell trouble.Read))
   ran_fault many of part on = ran_demanded trouble.Read (whole_here many part on, undecided many of part, refl)
 
   -- if a line has trouble
   pub ran_refused : {loaded : Bool} {source_rose : Type 0} (many : ℕ) (found : Found) (t : RunError) → many ≡ enough place → IsFound reader many found → IsOfLine t → judged_as place (take found.length reader.bytes) found.size ≡ Err t
-      → (status_of t ≢ status.Refused → world_of place ≡ None) → HasStopped left left' held held' stands loaded source_rose (now - before) pending (Err (Tell t))
+      → (status_of t ≢ status.Refused → world_of place ≡ None) → HasStopped left left' last held held' stands loaded source_rose (now - before) pending (Err (Tell t))
   ran_refused many found t is next of refused alone =
       let j = judges_next place reader many found (rest_of left') form.counts.within is none_left next in
       let e : judged_as going.read.place j.line.text (size_of j.line) ≡ Err t = ap (λ p. judged_as p j.line.text (size_of j.line)) going.at ∙ j.same ∙ refused in
@@ -186,8 +186,8 @@ module _ {left left' : Option (List ℕ)} {held held' : List ℕ → Type 0} {st
       ran_broken t of v alone
 
   -- if memory ran out, or the swap device failed, before a world was open
-  pub ran_early : {held'' : List ℕ → Type 0} {stands' : State → Type 0} {loaded : Bool} {source_rose : Type 0} {rose : ℕ} {pending' : List ℕ} (t : RunError) (g : Gathered held' held'' pending' pending) → Demands (status_of t) (observes input going.b (going.w ++ g.given) stands' loaded source_rose rose) start (trouble_line t)
-      → (status_of t ≢ status.SwapFailed → rose ≡ 0) → world_of place ≡ None → HasStopped left left' held held'' stands' loaded source_rose rose pending' (Err (Tell t))
+  pub ran_early : {held'' : List ℕ → Type 0} {stands' : State → Type 0} {loaded : Bool} {source_rose : Type 0} {rose : ℕ} {pending' : List ℕ} (t : RunError) (g : Gathered held' held'' pending' pending) → Demands (status_of t) (observes input going.b last (going.w ++ g.given) stands' loaded source_rose rose) start (trouble_line t)
+      → (status_of t ≢ status.SwapFailed → rose ≡ 0) → world_of place ≡ None → HasStopped left left' last held held'' stands' loaded source_rose rose pending' (Err (Tell t))
   ran_early {stands' = stands'} {rose = rose} {pending' = pending'} trouble g demands unrose none =
       let t = (tells_moved g.given g.all (subst (λ o. Tells o going.read.commands stands (now - before) going.w pending going.m) none going.tells)).told in
       ran_with (going.w ++ g.given) pending' (Err (Tell trouble)) (gained_more going.gained g.gained)
@@ -201,12 +201,12 @@ module _ {left left' : Option (List ℕ)} {held held' : List ℕ → Type 0} {st
       })
 
   -- if the sink failed with something pending
-  pub ran_write : {loaded : Bool} {source_rose : Type 0} → 0 < length pending → HasStopped left left' held held' stands loaded source_rose (now - before) pending (Err Write)
+  pub ran_write : {loaded : Bool} {source_rose : Type 0} → 0 < length pending → HasStopped left left' last held held' stands loaded source_rose (now - before) pending (Err Write)
   ran_write {loaded} {source_rose} some =
-      ran_with going.w pending (Err Write) going.gained (subst (λ w. CutReply (observes input going.b w stands loaded source_rose (now - before))) (append-nil going.w) (cut_here [] pending refl some))
+      ran_with going.w pending (Err Write) going.gained (subst (λ w. CutReply (observes input going.b last w stands loaded source_rose (now - before))) (append-nil going.w) (cut_here [] pending refl some))
 
   -- if no line was found
-  pub ran_fetch : {loaded : Bool} {source_rose : Type 0} (many : ℕ) (halt : Halt) → many ≡ enough place → Fetched reader many pending (Err halt) → HasStopped left left' held held' stands loaded source_rose (now - before) pending (Err (stop_of halt))
+  pub ran_fetch : {loaded : Bool} {source_rose : Type 0} (many : ℕ) (halt : Halt) → many ≡ enough place → Fetched reader many pending (Err halt) → HasStopped left left' last held held' stands loaded source_rose (now - before) pending (Err (stop_of halt))
   ran_fetch many halts.Write is f = ran_write f
   ran_fetch many halts.Read is f = ran_fault many is f.0 f.1
   ran_fetch many halts.Memory is f = absurd f
@@ -215,7 +215,7 @@ module _ {left left' : Option (List ℕ)} {held held' : List ℕ → Type 0} {st
   -- if a line was refused
   pub ran_judge : {loaded : Bool} {source_rose : Type 0} (many : ℕ) (found : Found) (t : RunError) (new : JudgedInput) → many ≡ enough place → IsFound reader many found
       → Judged place new (Err t) (judged_as place (take found.length reader.bytes) found.size) → (status_of t ≢ status.Refused → world_of place ≡ None) → (world_of place ≡ None → loaded ≡ false)
-      → HasStopped left left' held held' stands loaded source_rose (now - before) pending (Err (Tell t))
+      → HasStopped left left' last held held' stands loaded source_rose (now - before) pending (Err (Tell t))
   ran_judge many found trouble.Memory new is next judged early unloaded =
       let none : world_of place ≡ None = early (λ e. absurd (cc (e))) in
       ran_early trouble.Memory (record { given = []; all = refl; gained = gained_nothing }) (inl (refl, unloaded none), refl) (λ _. unrisen none) none
@@ -250,9 +250,9 @@ module _ {left left' : Option (List ℕ)} {held held' : List ℕ → Type 0} {st
       ap world_of (sym going.at) ∙ ap (λ (r : Read). world_of r.place) at ∙ none.none
 
 -- memory ran out at a dump
-pub ran_none : {left left' : Option (List ℕ)} {held held' held'' : List ℕ → Type 0} {stands stands' : State → Type 0} {loaded : Bool} {source_rose : Type 0} {takes : Command → Type 0} {idle : Type 0} {before now now' : ℕ} {place : JudgedInput} {reader : Buffered} {pending pending' : List ℕ}
-    (going : Going left left' held held' stands takes idle before now place reader pending) (form : IsPlace place) (end : reader.ended ≡ true → IsAtEnd left') (g : Gathered held' held'' pending' pending)
+pub ran_none : {left left' : Option (List ℕ)} {last : ℕ} {held held' held'' : List ℕ → Type 0} {stands stands' : State → Type 0} {loaded : Bool} {source_rose : Type 0} {takes : Command → Type 0} {idle : Type 0} {before now now' : ℕ} {place : JudgedInput} {reader : Buffered} {pending pending' : List ℕ}
+    (going : Going left left' last held held' stands takes idle before now place reader pending) (form : IsPlace place) (end : reader.ended ≡ true → IsAtEnd left') (g : Gathered held' held'' pending' pending)
     → Tells (world_of place) going.read.commands stands' (now' - before) (going.w ++ g.given) pending' going.m → now ≤ now' → BeforeDump (input going form end) going.read
-    → HasStopped left left' held held'' stands' loaded source_rose (now' - before) pending' (Err (Tell trouble.Memory))
+    → HasStopped left left' last held held'' stands' loaded source_rose (now' - before) pending' (Err (Tell trouble.Memory))
 unfolding input going_given
 ran_none going form end g tells rose dump = ran_demanded (going_given going g tells rose) form end trouble.Memory (inr dump, refl)

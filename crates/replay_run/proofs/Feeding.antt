@@ -1,7 +1,8 @@
 -- A line of a session: what was fed before it, seen as a run whose source has given that, and what one more line adds.
-use Rattle.std.proofs.Common.{◌≡◌, ◌≢◌, inl, inr, ℕ, zero, suc, ◌+◌, ◌-◌, ◌<◌, ◌≤◌, ◌^◌, List, [], ◌∷◌, ◌++◌, length, take, not, ◌&&◌, ◌==◌, Bool, true, false, Option, Some, None, Result, Ok, Err, refl, sym, ap, ◌∙◌, subst, arith}
+use Rattle.std.proofs.Common.{◌≡◌, ◌≢◌, inl, inr, ℕ, zero, suc, ◌+◌, ◌-◌, ◌<◌, ◌≤◌, ◌^◌, List, [], ◌∷◌, ◌++◌, length, take, drop, not, ◌&&◌, ◌==◌, Bool, true, false, Option, Some, None, Result, Ok, Err, refl, sym, ap, ◌∙◌, subst, arith}
 use Rattle.std.specs.Prelude.{IfErr, count_by, if◌then◌else◌, is_some}
-use Rattle.std.proofs.lemmas.List.{append-nil, append_assoc, length-append, length-take-le, take_all, drop_all, get_or_at, take-append-le}
+use Rattle.std.proofs.lemmas.List.{append-nil, append_assoc, length-append, length-take-le, take_all, drop_all, drop_at, get_or_at, take-append-le}
+use Rattle.std.proofs.Math.Seq.{drop-nil}
 use Rattle.std.proofs.lemmas.Bool.Decides.{leb_tells}
 use Rattle.outer_ports.specs.Ports.{Gained}
 use Rattle.outer_ports.specs.Buffers.{Gathered}
@@ -21,7 +22,7 @@ use Rattle.line_input.specs.declared.statuses.status.Stop.{Stop}
 use Rattle.line_input.specs.declared.statuses.status.Stop.TheVariants.{Write, Tell}
 use Rattle.line_input.specs.Limits.{enough_bytes}
 use Rattle.line_input.specs.Lines.{Line, lines_of, size_of, whole_lines}
-use Rattle.line_input.specs.Reader.{Buffered, IsFound, no_feed}
+use Rattle.line_input.specs.Reader.{Buffered, IsFound, no_feed, without_latest}
 use Rattle.line_input.specs.Statuses.{Finished, status_of, trouble_line}
 use Rattle.line_input.specs.Verdict.{early_reason}
 use Rattle.world_text.specs.declared.reading.reason.Reason.{Reason}
@@ -215,12 +216,16 @@ acted_told held held' still had pending world stood stands faults faults' halt (
   ],
 )
 
+-- Of a session, everything was fed as one piece.
+feedless_all : (n : ℕ) (xs : List ℕ) → no_feed (drop n (without_latest (length xs) xs)) ≡ true
+feedless_all n xs = let nothing : length xs - length xs ≡ 0 = omega arith in ap (λ k. no_feed (drop n (take k xs))) nothing ∙ ap no_feed (drop-nil n)
+
 -- An open session, as a run
 
 module _ {fed written : List ℕ} {s : Seen} (g : GoesOn fed written s) where
   -- the bytes of the next piece are in the reader's buffer
   pub going_of : (piece : List ℕ) (over : Bool) → length piece ≤ 32769
-      → Going (Some (fed ++ piece)) (Some []) (λ had. [] ≡ had) (λ had. written ≡ had) (StandsFor s.machine.heap) (Takes s.machine.heap) (s.machine.idle ≡ true) 0 s.machine.faults s.place (record { bytes = piece; ended = over }) []
+      → Going (Some (fed ++ piece)) (Some []) (length (fed ++ piece)) (λ had. [] ≡ had) (λ had. written ≡ had) (StandsFor s.machine.heap) (Takes s.machine.heap) (s.machine.idle ≡ true) 0 s.machine.faults s.place (record { bytes = piece; ended = over }) []
   going_of piece over short =
       let counts = judged_counts start g.read (lines_of fed) refl g.lines in
       record {
@@ -235,6 +240,7 @@ module _ {fed written : List ℕ} {s : Seen} (g : GoesOn fed written s) where
           cuts = λ more _. ap lines_of (append_assoc fed piece more) ∙ g.cuts (piece ++ more);
           wholes = λ _. g.whole;
           long = omega (arith, length-append fed piece, g.size);
+          tail = ap (λ n. drop n (fed ++ piece)) (sym g.size) ∙ drop_at fed piece (length fed) refl;
         };
         gained = record { each = λ had is. ap (λ h. h ++ written) is };
         judges = λ rest. judged_then start g.read (lines_of fed) rest g.lines;
@@ -246,13 +252,14 @@ module _ {fed written : List ℕ} {s : Seen} (g : GoesOn fed written s) where
         idle_before = g.idle;
         later = omega arith;
         near = omega (arith, length-append fed piece, g.size, short);
+        feedless = feedless_all s.place.bytes (fed ++ piece);
         behind = λ n above below. absurd (omega (arith, counts));
         reached = omega arith;
       }
 
 -- a run between two lines, as an open session
-goes_on_of : (fed written new pending : List ℕ) (place : JudgedInput) (machine : Holding) (s : Seen) → s.place ≡ place → s.machine ≡ machine
-    → Going (Some fed) (Some []) (λ had. [] ≡ had) (λ had. written ++ new ≡ had) (StandsFor machine.heap) (Takes machine.heap) (machine.idle ≡ true) 0 machine.faults place (record { bytes = []; ended = false }) pending
+goes_on_of : {last : ℕ} (fed written new pending : List ℕ) (place : JudgedInput) (machine : Holding) (s : Seen) → s.place ≡ place → s.machine ≡ machine
+    → Going (Some fed) (Some []) last (λ had. [] ≡ had) (λ had. written ++ new ≡ had) (StandsFor machine.heap) (Takes machine.heap) (machine.idle ≡ true) 0 machine.faults place (record { bytes = []; ended = false }) pending
     → IsPlace place → GoesOn fed (written ++ (new ++ pending)) s
 goes_on_of fed written new pending place machine s place_is machine_is going form = rw (place_is, machine_is) made
   where
@@ -292,8 +299,8 @@ goes_on_of fed written new pending place machine s place_is machine_is going for
 
 -- a run that stopped, with the line that it reports
 wrote_of : {fed written : List ℕ} {stands : State → Type 0} {loaded : Bool} {faults : ℕ} (outcome : Result (Unit {0}) Stop) (status : Status) (line : List ℕ) → (outcome ≢ Err (Tell trouble.Read)) → (outcome ≡ Err (Tell trouble.Swap) → 0 < faults)
-    → HasStopped (Some fed) (Some []) (λ had. [] ≡ had) (λ had. written ≡ had) stands loaded ⊥ (faults - 0) [] outcome → Finished (λ had. written ≡ had) (λ had. written ++ line ≡ had) [] outcome status
-    → Wrote status (observes fed fed (written ++ line) stands loaded ⊥ faults)
+    → HasStopped (Some fed) (Some []) (length fed) (λ had. [] ≡ had) (λ had. written ≡ had) stands loaded ⊥ (faults - 0) [] outcome → Finished (λ had. written ≡ had) (λ had. written ++ line ≡ had) [] outcome status
+    → Wrote status (observes fed fed (length fed) (written ++ line) stands loaded ⊥ faults)
 wrote_of {fed} {written} {stands} {loaded} {faults} outcome status line read swap r finished = at_is
   where
     no_read : (o : Result (Unit {0}) Stop) → o ≢ Err (Tell trouble.Read) → IfErr o (λ stop. stop ≡ Tell trouble.Read → ⊥)
@@ -304,7 +311,7 @@ wrote_of {fed} {written} {stands} {loaded} {faults} outcome status line read swa
     rose (Ok x) other = tt
     rose (Err stop) other = λ is. other (ap Err is)
 
-    ran : HasRun (Some fed) (Some []) (λ had. [] ≡ had) (λ had. written ++ line ≡ had) stands loaded ⊥ (faults - 0) status
+    ran : HasRun (Some fed) (Some []) (length fed) (λ had. [] ≡ had) (λ had. written ++ line ≡ had) stands loaded ⊥ (faults - 0) status
     ran = ran_finish {source_rose = ⊥} 0 faults outcome status (no_read outcome read) (rose outcome swap) r finished
 
     i_is : fed ≡ ran.0
@@ -316,10 +323,10 @@ wrote_of {fed} {written} {stands} {loaded} {faults} outcome status line read swa
     w_is : written ++ line ≡ ran.2
     w_is = ran.3.gained.each [] refl
 
-    at_is : Wrote status (observes fed fed (written ++ line) stands loaded ⊥ faults)
-    at_is = subst (λ rose. Wrote status (observes fed fed (written ++ line) stands loaded ⊥ rose)) (less_nothing faults)
-        (subst (λ i. Wrote status (observes i fed (written ++ line) stands loaded ⊥ (faults - 0))) (sym i_is) (subst (λ b. Wrote status (observes ran.0 b (written ++ line) stands loaded ⊥ (faults - 0))) (sym b_is)
-        (subst (λ w. Wrote status (observes ran.0 ran.1 w stands loaded ⊥ (faults - 0))) (sym w_is) ran.3.wrote)))
+    at_is : Wrote status (observes fed fed (length fed) (written ++ line) stands loaded ⊥ faults)
+    at_is = subst (λ rose. Wrote status (observes fed fed (length fed) (written ++ line) stands loaded ⊥ rose)) (less_nothing faults)
+        (subst (λ i. Wrote status (observes i fed (length fed) (written ++ line) stands loaded ⊥ (faults - 0))) (sym i_is) (subst (λ b. Wrote status (observes ran.0 b (length fed) (written ++ line) stands loaded ⊥ (faults - 0))) (sym b_is)
+        (subst (λ w. Wrote status (observes ran.0 ran.1 (length fed) w stands loaded ⊥ (faults - 0))) (sym w_is) ran.3.wrote)))
 
 trouble_swap : (stop : Stop) → trouble_of stop ≡ trouble.Swap → stop ≡ Tell trouble.Swap
 trouble_swap (Tell t) is = ap Tell is
@@ -342,7 +349,7 @@ module _ {fed written : List ℕ} {s : Seen} (g : GoesOn fed written s) (text : 
   abbrev found : Found
   found = record { length = length (take 32769 text); size = length (fed_of text) }
 
-  here : Going (Some (fed ++ fed_of text)) (Some []) (λ had. [] ≡ had) (λ had. written ≡ had) (StandsFor s.machine.heap) (Takes s.machine.heap) (s.machine.idle ≡ true) 0 s.machine.faults s.place held []
+  here : Going (Some (fed ++ fed_of text)) (Some []) (length (fed ++ fed_of text)) (λ had. [] ≡ had) (λ had. written ≡ had) (StandsFor s.machine.heap) (Takes s.machine.heap) (s.machine.idle ≡ true) 0 s.machine.faults s.place held []
   here = going_of g (fed_of text) false fed_here.short
 
   never : held.ended ≡ true → ⊥
@@ -374,7 +381,7 @@ module _ {fed written : List ℕ} {s : Seen} (g : GoesOn fed written s) (text : 
       let t = trouble_of stop in
       let is : t ≡ r.trouble = ap trouble_of r.stops in
       wrote_of (Err (Tell t)) (status_of t) (trouble_line t) (λ e. read (trouble_read stop (cc (e)))) (λ e. swap (trouble_swap stop (cc (e))))
-      (subst (λ t. HasStopped (Some (fed ++ fed_of text)) (Some []) (λ had. [] ≡ had) (λ had. written ≡ had) (StandsFor s.machine.heap) (is_some s.machine.heap) ⊥ (s.machine.faults - 0) [] (Err (Tell t))) (sym is)
+      (subst (λ t. HasStopped (Some (fed ++ fed_of text)) (Some []) (length (fed ++ fed_of text)) (λ had. [] ≡ had) (λ had. written ≡ had) (StandsFor s.machine.heap) (is_some s.machine.heap) ⊥ (s.machine.faults - 0) [] (Err (Tell t))) (sym is)
       (ran_judge here g.form (λ e. absurd (never e)) (enough s.place) found r.trouble r.place' refl fed_here.found (subst (λ said. Judged s.place r.place' (Err r.trouble) said) (sym judged_here) r.judged) r.early (λ none. bare (g.idle none))))
       (trouble_finished t)
 
@@ -390,7 +397,7 @@ module _ {fed written : List ℕ} {s : Seen} (g : GoesOn fed written s) (text : 
       let ran = ran_stopped here g.form (λ e. absurd (never e)) found p next (judged_here ∙ h.accepted) machine.faults h.event (told h.halt) refl h.unloaded acted in
       let is : stop_of (told h.halt) ≡ Tell t = told_trouble h.halt ∙ ap (λ s. Tell (trouble_of s)) (sym h.stops) in
       wrote_of (Err (Tell t)) (status_of t) (trouble_line t) (λ e. read (trouble_read stop (cc (e)))) (λ e. swap (trouble_swap stop (cc (e))))
-      (subst (λ o. HasStopped (Some (fed ++ fed_of text)) (Some []) (λ had. [] ≡ had) (λ had. written ≡ had) (StandsFor machine.heap) (is_some machine.heap) ⊥ (machine.faults - 0) [] (Err o)) is ran) (trouble_finished t)
+      (subst (λ o. HasStopped (Some (fed ++ fed_of text)) (Some []) (length (fed ++ fed_of text)) (λ had. [] ≡ had) (λ had. written ≡ had) (StandsFor machine.heap) (is_some machine.heap) ⊥ (machine.faults - 0) [] (Err o)) is ran) (trouble_finished t)
 
 -- The end of the input
 
@@ -402,12 +409,12 @@ closed_tells place stop is = go place.judge.ended is
     go false is = (place.lines + 1, early_reason place.lines NotAWorld, cc (is))
 
 module _ {fed written : List ℕ} {s : Seen} (g : GoesOn fed written s) where
-  ends_here : HasStopped (Some fed) (Some []) (λ had. [] ≡ had) (λ had. written ≡ had) (StandsFor s.machine.heap) (is_some s.machine.heap) ⊥ (s.machine.faults - 0) [] (closed (ending_at s.place))
-  ends_here = subst (λ b. HasStopped (Some b) (Some []) (λ had. [] ≡ had) (λ had. written ≡ had) (StandsFor s.machine.heap) (is_some s.machine.heap) ⊥ (s.machine.faults - 0) [] (closed (ending_at s.place))) (append-nil fed)
+  ends_here : HasStopped (Some fed) (Some []) (length fed) (λ had. [] ≡ had) (λ had. written ≡ had) (StandsFor s.machine.heap) (is_some s.machine.heap) ⊥ (s.machine.faults - 0) [] (closed (ending_at s.place))
+  ends_here = subst (λ b. HasStopped (Some b) (Some []) (length b) (λ had. [] ≡ had) (λ had. written ≡ had) (StandsFor s.machine.heap) (is_some s.machine.heap) ⊥ (s.machine.faults - 0) [] (closed (ending_at s.place))) (append-nil fed)
       (ran_end (going_of g [] true (omega arith)) g.form (λ _. refl) (refl, refl))
 
   pub end_whole : closed (ending_at s.place) ≡ Ok tt → Wrote Done (observed fed (written ++ []) s.machine)
-  end_whole is = wrote_of (Ok tt) Done [] (λ e. cc (e)) (λ e. absurd (cc (e))) (subst (λ o. HasStopped (Some fed) (Some []) (λ had. [] ≡ had) (λ had. written ≡ had) (StandsFor s.machine.heap) (is_some s.machine.heap) ⊥ (s.machine.faults - 0) [] o) is ends_here)
+  end_whole is = wrote_of (Ok tt) Done [] (λ e. cc (e)) (λ e. absurd (cc (e))) (subst (λ o. HasStopped (Some fed) (Some []) (length fed) (λ had. [] ≡ had) (λ had. written ≡ had) (StandsFor s.machine.heap) (is_some s.machine.heap) ⊥ (s.machine.faults - 0) [] o) is ends_here)
       (inl (refl, record { each = λ had e. ap (λ h. h ++ []) e }))
 
   pub end_early : (stop : Stop) → closed (ending_at s.place) ≡ Err stop → Wrote (status_of (trouble_of stop)) (observed fed (written ++ trouble_line (trouble_of stop)) s.machine)
@@ -417,7 +424,7 @@ module _ {fed written : List ℕ} {s : Seen} (g : GoesOn fed written s) where
       let same : trouble_of stop ≡ t = ap trouble_of told.2 in
       subst (λ t. Wrote (status_of t) (observed fed (written ++ trouble_line t) s.machine)) (sym same)
       (wrote_of (Err (Tell t)) (status_of t) (trouble_line t) (λ e. cc (e)) (λ e. absurd (cc (e)))
-      (subst (λ o. HasStopped (Some fed) (Some []) (λ had. [] ≡ had) (λ had. written ≡ had) (StandsFor s.machine.heap) (is_some s.machine.heap) ⊥ (s.machine.faults - 0) [] o) (is ∙ ap Err told.2) ends_here) (trouble_finished t))
+      (subst (λ o. HasStopped (Some fed) (Some []) (length fed) (λ had. [] ≡ had) (λ had. written ≡ had) (StandsFor s.machine.heap) (is_some s.machine.heap) ⊥ (s.machine.faults - 0) [] o) (is ∙ ap Err told.2) ends_here) (trouble_finished t))
 
 -- A session that was fed nothing
 

@@ -1,7 +1,8 @@
 -- The last line, after what is pending.
-use Rattle.std.proofs.Common.{◌≡◌, ◌⊎◌, inl, inr, ℕ, ◌-◌, ◌<◌, List, [], ◌∷◌, ◌++◌, length, Option, Result, Ok, Err, refl, sym, ap, ◌∙◌, subst, arith, Bool, false}
+use Rattle.std.proofs.Common.{◌≡◌, ◌⊎◌, inl, inr, ℕ, ◌-◌, ◌<◌, List, [], ◌∷◌, ◌++◌, length, drop, true, Option, Result, Ok, Err, refl, sym, ap, ◌∙◌, subst, arith, Bool, false}
 use Rattle.std.specs.Prelude.{IfErr}
 use Rattle.std.proofs.lemmas.List.{append_assoc, length-append}
+use Rattle.std.proofs.Math.Seq.{drop-nil, take-nil}
 use Rattle.outer_ports.specs.Ports.{Gained, IsCut}
 use Rattle.outer_ports.proofs.Gains.{gained_more, gained_none, gained_nothing, gave_nothing}
 use Rattle.paged_machine.specs.lisp_meaning.State.{State}
@@ -11,6 +12,7 @@ use Rattle.line_input.specs.declared.statuses.status.Stop.{Stop}
 use Rattle.line_input.specs.declared.statuses.status.Stop.TheVariants.{Write, Tell}
 use Rattle.line_input.specs.declared.statuses.status.RunError.{RunError}
 use Rattle.line_input.specs.declared.statuses.status.RunError.TheVariants as trouble
+use Rattle.line_input.specs.Reader.{no_feed, without_latest}
 use Rattle.line_input.specs.Statuses.{Finished, code, status_of, trouble_line}
 use Rattle.input_verdict.specs.Verdict.{start}
 use Rattle.replay_run.specs.Outcome.{EndsWith, IsCaused, Wrote}
@@ -35,13 +37,13 @@ split_cut (x ∷ xs) b (y ∷ ys) cut =
 -- A run to its end
 
 -- everything was written
-abbrev ends_whole : (status : Status) (line : List ℕ) {i b w : List ℕ} {stands : State → Type 0} {loaded : Bool} {source_rose : Type 0} {rose : ℕ} (pending : List ℕ) → StopsAt status line (observes i b w stands loaded source_rose rose) pending
-    → EndsWith status (observes i b (w ++ (pending ++ line)) stands loaded source_rose rose)
-ends_whole status line {i} {b} {w} {stands} {loaded} {source_rose} {rose} pending s = record {
+abbrev ends_whole : (status : Status) (line : List ℕ) {i b : List ℕ} {last : ℕ} {w : List ℕ} {stands : State → Type 0} {loaded : Bool} {source_rose : Type 0} {rose : ℕ} (pending : List ℕ) → StopsAt status line (observes i b last w stands loaded source_rose rose) pending
+    → EndsWith status (observes i b last (w ++ (pending ++ line)) stands loaded source_rose rose)
+ends_whole status line {i} {b} {last} {w} {stands} {loaded} {source_rose} {rose} pending s = record {
   read = s.read;
   replies = w ++ pending;
   line = line;
-  demands = demands_as status i b w (w ++ (pending ++ line)) stands stands loaded source_rose rose s.read line s.demands;
+  demands = demands_as status i b last w (w ++ (pending ++ line)) stands stands loaded source_rose rose s.read line s.demands;
   answered = s.answered;
   written = sym (append_assoc w pending line);
   ahead = s.far;
@@ -49,8 +51,8 @@ ends_whole status line {i} {b} {w} {stands} {loaded} {source_rose} {rose} pendin
 }
 
 -- the sink failed in a reply that was pending, or in the line
-wrote_cut : (status : Status) (line : List ℕ) {i b w : List ℕ} {stands : State → Type 0} {loaded : Bool} {source_rose : Type 0} {rose : ℕ} (pending front : List ℕ) → StopsAt status line (observes i b w stands loaded source_rose rose) pending → IsCaused source_rose rose status
-    → IsCut (pending ++ line) front → Wrote WriteFailed (observes i b (w ++ front) stands loaded source_rose rose)
+wrote_cut : (status : Status) (line : List ℕ) {i b : List ℕ} {last : ℕ} {w : List ℕ} {stands : State → Type 0} {loaded : Bool} {source_rose : Type 0} {rose : ℕ} (pending front : List ℕ) → StopsAt status line (observes i b last w stands loaded source_rose rose) pending → IsCaused source_rose rose status
+    → IsCut (pending ++ line) front → Wrote WriteFailed (observes i b last (w ++ front) stands loaded source_rose rose)
 wrote_cut status line {w = w} pending front s cause cut = elim (split_cut pending line front cut) [
   | inl p ↦ inl (s.cut front p.0 p.2 p.1)
   | inr p ↦ inr (record {
@@ -75,9 +77,9 @@ caused source_rose rose (trouble.Line n reason) read swap = tt
 caused source_rose rose (trouble.TooSmall n) read swap = tt
 caused source_rose rose (trouble.Exhausted n area charged wanted quota) read swap = tt
 
-module _ {left left' : Option (List ℕ)} {held held' held'' : List ℕ → Type 0} {stands : State → Type 0} {loaded : Bool} {source_rose : Type 0} {rose : ℕ} {pending : List ℕ} where
-  ran_stop : (outcome : Result (Unit {0}) Stop) (status status' : Status) (line : List ℕ) (r : HasStopped left left' held held' stands loaded source_rose rose pending outcome) → StopsAt status' line (observes r.0 r.1 r.2 stands loaded source_rose rose) pending → IsCaused source_rose rose status'
-      → ((status ≡ status') × Gained held' held'' (pending ++ line)) ⊎ ((status ≡ WriteFailed) × ((front : List ℕ) × IsCut (pending ++ line) front × Gained held' held'' front)) → HasRun left left' held held'' stands loaded source_rose rose status
+module _ {left left' : Option (List ℕ)} {last : ℕ} {held held' held'' : List ℕ → Type 0} {stands : State → Type 0} {loaded : Bool} {source_rose : Type 0} {rose : ℕ} {pending : List ℕ} where
+  ran_stop : (outcome : Result (Unit {0}) Stop) (status status' : Status) (line : List ℕ) (r : HasStopped left left' last held held' stands loaded source_rose rose pending outcome) → StopsAt status' line (observes r.0 r.1 last r.2 stands loaded source_rose rose) pending → IsCaused source_rose rose status'
+      → ((status ≡ status') × Gained held' held'' (pending ++ line)) ⊎ ((status ≡ WriteFailed) × ((front : List ℕ) × IsCut (pending ++ line) front × Gained held' held'' front)) → HasRun left left' last held held'' stands loaded source_rose rose status
   ran_stop outcome status status' line r s cause (inl f) = (
     r.0,
     r.1,
@@ -87,7 +89,7 @@ module _ {left left' : Option (List ℕ)} {held held' held'' : List ℕ → Type
       gave = r.3.gave;
       rest = r.3.rest;
       gained = gained_more r.3.gained f.1;
-      wrote = subst (λ x. Wrote x (observes r.0 r.1 (r.2 ++ (pending ++ line)) stands loaded source_rose rose)) (sym f.0) (wrote_ended status' (observes r.0 r.1 (r.2 ++ (pending ++ line)) stands loaded source_rose rose) (ends_whole status' line pending s));
+      wrote = subst (λ x. Wrote x (observes r.0 r.1 last (r.2 ++ (pending ++ line)) stands loaded source_rose rose)) (sym f.0) (wrote_ended status' (observes r.0 r.1 last (r.2 ++ (pending ++ line)) stands loaded source_rose rose) (ends_whole status' line pending s));
     },
   )
   ran_stop outcome status status' line r s cause (inr f) = (
@@ -99,11 +101,11 @@ module _ {left left' : Option (List ℕ)} {held held' held'' : List ℕ → Type
       gave = r.3.gave;
       rest = r.3.rest;
       gained = gained_more r.3.gained f.1.2;
-      wrote = subst (λ x. Wrote x (observes r.0 r.1 (r.2 ++ f.1.0) stands loaded source_rose rose)) (sym f.0) (wrote_cut status' line pending f.1.0 s cause f.1.1);
+      wrote = subst (λ x. Wrote x (observes r.0 r.1 last (r.2 ++ f.1.0) stands loaded source_rose rose)) (sym f.0) (wrote_cut status' line pending f.1.0 s cause f.1.1);
     },
   )
 
-  ran_cut : (status : Status) (r : HasStopped left left' held held' stands loaded source_rose rose pending (Err Write)) → (status ≡ WriteFailed) × Gained held' held'' [] → HasRun left left' held held'' stands loaded source_rose rose status
+  ran_cut : (status : Status) (r : HasStopped left left' last held held' stands loaded source_rose rose pending (Err Write)) → (status ≡ WriteFailed) × Gained held' held'' [] → HasRun left left' last held held'' stands loaded source_rose rose status
   ran_cut status r f = (
     r.0,
     r.1,
@@ -113,21 +115,25 @@ module _ {left left' : Option (List ℕ)} {held held' held'' : List ℕ → Type
       gave = r.3.gave;
       rest = r.3.rest;
       gained = gained_none r.3.gained f.1;
-      wrote = subst (λ x. Wrote x (observes r.0 r.1 r.2 stands loaded source_rose rose)) (sym f.0) (inl r.3.stopped);
+      wrote = subst (λ x. Wrote x (observes r.0 r.1 last r.2 stands loaded source_rose rose)) (sym f.0) (inl r.3.stopped);
     },
   )
 
 -- the last line was written, or the sink failed in it or before
-pub ran_finish : {left left' : Option (List ℕ)} {held held' held'' : List ℕ → Type 0} {stands : State → Type 0} {loaded : Bool} {source_rose : Type 0} {pending : List ℕ} (before now : ℕ) (outcome : Result (Unit {0}) Stop) (status : Status)
-    → IfErr outcome (λ stop. stop ≡ Tell trouble.Read → source_rose) → IfErr outcome (λ stop. stop ≡ Tell trouble.Swap → before < now) → HasStopped left left' held held' stands loaded source_rose (now - before) pending outcome → Finished held' held'' pending outcome status
-    → HasRun left left' held held'' stands loaded source_rose (now - before) status
+pub ran_finish : {left left' : Option (List ℕ)} {last : ℕ} {held held' held'' : List ℕ → Type 0} {stands : State → Type 0} {loaded : Bool} {source_rose : Type 0} {pending : List ℕ} (before now : ℕ) (outcome : Result (Unit {0}) Stop) (status : Status)
+    → IfErr outcome (λ stop. stop ≡ Tell trouble.Read → source_rose) → IfErr outcome (λ stop. stop ≡ Tell trouble.Swap → before < now) → HasStopped left left' last held held' stands loaded source_rose (now - before) pending outcome → Finished held' held'' pending outcome status
+    → HasRun left left' last held held'' stands loaded source_rose (now - before) status
 ran_finish before now (Ok x) status read swap r f = ran_stop (Ok x) status Done [] r r.3.stopped tt f
 ran_finish before now (Err Write) status read swap r f = ran_cut status r f
 ran_finish {source_rose = source_rose} before now (Err (Tell t)) status read swap r f =
     ran_stop (Err (Tell t)) status (status_of t) (trouble_line t) r r.3.stopped (caused source_rose (now - before) t read (λ is. omega (arith, swap is))) f
 
+-- no bytes have no line feed
+feedless_none : (n last : ℕ) → no_feed (drop n (without_latest last [])) ≡ true
+feedless_none n last = ap (λ xs. no_feed (drop n xs)) (take-nil (0 - last)) ∙ ap no_feed (drop-nil n)
+
 -- there was no memory for a buffer
-pub ran_nothing : (left : Option (List ℕ)) {held : List ℕ → Type 0} (stands : State → Type 0) {loaded : Bool} {source_rose : Type 0} (rose : ℕ) → rose ≡ 0 → loaded ≡ false → HasStopped left left held held stands loaded source_rose rose [] (Err (Tell trouble.Memory))
+pub ran_nothing : (left : Option (List ℕ)) {last : ℕ} {held : List ℕ → Type 0} (stands : State → Type 0) {loaded : Bool} {source_rose : Type 0} (rose : ℕ) → rose ≡ 0 → loaded ≡ false → HasStopped left left last held held stands loaded source_rose rose [] (Err (Tell trouble.Memory))
 ran_nothing left stands rose none unloaded = (
   rest_of left,
   [],
@@ -142,7 +148,7 @@ ran_nothing left stands rose none unloaded = (
       demands = (inl (refl, unloaded), refl);
       answered = (refl, refl);
       untouched = λ _ _. none;
-      far = λ _. omega arith;
+      far = λ _. record { buffer = omega arith; lockstep = feedless_none _ last };
       cut = λ front rest is some. absurd (omega (arith, ap length is, length-append front rest));
     };
   },

@@ -1,6 +1,7 @@
 -- What holds between two lines.
 use Rattle.std.proofs.Common.{◌≡◌, ◌⊎◌, inl, inr, ℕ, ◌+◌, ◌-◌, ◌<◌, ◌≤◌, ◌^◌, List, [], ◌∷◌, ◌++◌, length, take, drop, get_or, true, Option, Some, None, Ok, Err, refl, sym, ap, ◌∙◌, subst, arith}
-use Rattle.std.proofs.lemmas.List.{append-nil, length-append, take_all, get_or_at, get_or_append_left}
+use Rattle.std.proofs.lemmas.List.{append-nil, drop-drop, length-append, take_all, get_or_at, get_or_append_left}
+use Rattle.std.proofs.Math.Seq.{take-nil}
 use Rattle.std.proofs.lemmas.Bool.{cases_lt}
 use Rattle.outer_ports.specs.Ports.{Gained, Gave}
 use Rattle.outer_ports.specs.Buffers.{Gathered}
@@ -11,19 +12,20 @@ use Rattle.paged_machine.specs.lisp_meaning.State.{State}
 use Rattle.line_input.specs.declared.lines.found.Found.{Found}
 use Rattle.line_input.specs.declared.statuses.status.RunError.TheVariants.{Line as OfLine}
 use Rattle.line_input.specs.Lines.{Line, lines_of, size_of}
-use Rattle.line_input.specs.Reader.{Buffered, IsAllBuffered, IsFound}
+use Rattle.line_input.specs.Reader.{Buffered, IsAllBuffered, IsFound, no_feed, without_latest}
 use Rattle.line_input.proofs.Cuts.{Passes, passes_whole, passes_last, lines_long}
+use Rattle.line_input.proofs.Feeds.{drop_latest, no_feed-drop}
 use Rattle.line_input.proofs.Going.{Taken, at_least, taken_more, taken_start}
 use Rattle.input_verdict.specs.Input.{JudgedInput, start_place}
 use Rattle.lisp_graph.specs.Commands.{IsRunnable}
 use Rattle.input_verdict.specs.Verdict.{Next, Read, enough, judged, judged_as, verdict, start, ended, world_of}
 use Rattle.input_verdict.proofs.Accepted.{front_reason, judged_front}
 use Rattle.input_verdict.proofs.Judged.{AreInLimits, IsFrom, judged_keeps}
-use Rattle.replay_run.specs.Outcome.{IsAhead}
+use Rattle.replay_run.specs.Outcome.{IsAhead, IsAheadOf}
 use Rattle.replay_run.specs.Steps.{Tells}
 use Rattle.replay_run.proofs.Telling.{tells_moved, tells_whole}
 
-pub record Going (left left' : Option (List ℕ)) (held held' : List ℕ → Type 0) (stands : State → Type 0) (takes : Command → Type 0) (idle : Type 0) (before now : ℕ) (place : JudgedInput) (reader : Buffered) (pending : List ℕ) : Type 0 where
+pub record Going (left left' : Option (List ℕ)) (last : ℕ) (held held' : List ℕ → Type 0) (stands : State → Type 0) (takes : Command → Type 0) (idle : Type 0) (before now : ℕ) (place : JudgedInput) (reader : Buffered) (pending : List ℕ) : Type 0 where
   pub lines : List Line
   pub b : List ℕ
   pub w : List ℕ
@@ -47,12 +49,14 @@ pub record Going (left left' : Option (List ℕ)) (held held' : List ℕ → Typ
   pub later : before ≤ now
   -- no more bytes were taken than the buffer has room for
   pub near : length b ≤ base + 32769
+  -- and what was taken before the latest piece ends before the line feed of the line that starts here, or of a later one
+  pub feedless : no_feed (drop base (without_latest last b)) ≡ true
   pub behind : (n : ℕ) → m ≤ n → n < length read.starts → base ≤ get_or read.starts n 0
   pub reached : base ≤ place.bytes
 
-pub going_start : {left : Option (List ℕ)} {held : List ℕ → Type 0} {stands : State → Type 0} {takes : Command → Type 0} {idle : Type 0} (faults : ℕ) (reader : Buffered) (pending : List ℕ) → reader.bytes ≡ [] → pending ≡ [] → idle
-    → Going left left held held stands takes idle faults faults start_place reader pending
-going_start {left} faults reader pending none nothing idle = record {
+pub going_start : {left : Option (List ℕ)} {last : ℕ} {held : List ℕ → Type 0} {stands : State → Type 0} {takes : Command → Type 0} {idle : Type 0} (faults : ℕ) (reader : Buffered) (pending : List ℕ) → reader.bytes ≡ [] → pending ≡ [] → idle
+    → Going left left last held held stands takes idle faults faults start_place reader pending
+going_start {left} {last} faults reader pending none nothing idle = record {
   lines = [];
   b = [];
   w = [];
@@ -70,14 +74,15 @@ going_start {left} faults reader pending none nothing idle = record {
   idle_before = λ _. idle;
   later = omega arith;
   near = omega arith;
+  feedless = ap no_feed (take-nil (0 - last));
   behind = λ n _ l. absurd (omega arith);
   reached = omega arith;
 }
 
 -- the sink gained more of what was pending, and the machine still represents what it represented
-unfoldable pub going_given : {left left' : Option (List ℕ)} {held held' held'' : List ℕ → Type 0} {stands stands' : State → Type 0} {takes : Command → Type 0} {idle : Type 0} {before now now' : ℕ} {place : JudgedInput} {reader : Buffered} {pending pending' : List ℕ}
-    (going : Going left left' held held' stands takes idle before now place reader pending) (g : Gathered held' held'' pending' pending) → Tells (world_of place) going.read.commands stands' (now' - before) (going.w ++ g.given) pending' going.m → now ≤ now'
-    → Going left left' held held'' stands' takes idle before now' place reader pending'
+unfoldable pub going_given : {left left' : Option (List ℕ)} {last : ℕ} {held held' held'' : List ℕ → Type 0} {stands stands' : State → Type 0} {takes : Command → Type 0} {idle : Type 0} {before now now' : ℕ} {place : JudgedInput} {reader : Buffered} {pending pending' : List ℕ}
+    (going : Going left left' last held held' stands takes idle before now place reader pending) (g : Gathered held' held'' pending' pending) → Tells (world_of place) going.read.commands stands' (now' - before) (going.w ++ g.given) pending' going.m → now ≤ now'
+    → Going left left' last held held'' stands' takes idle before now' place reader pending'
 going_given going g tells rose = record {
   lines = going.lines;
   b = going.b;
@@ -96,25 +101,26 @@ going_given going g tells rose = record {
   idle_before = going.idle_before;
   later = omega (arith, going.later);
   near = going.near;
+  feedless = going.feedless;
   behind = going.behind;
   reached = going.reached;
 }
 
 -- more bytes were taken, after what was pending was given
-pub going_filled : {left left' left'' : Option (List ℕ)} {held held' held'' : List ℕ → Type 0} {stands : State → Type 0} {takes : Command → Type 0} {idle : Type 0} {before now : ℕ} {place : JudgedInput} {reader : Buffered} (reader' : Buffered) {pending pending' : List ℕ}
-    → Going left left' held held' stands takes idle before now place reader pending
-    → ((piece : List ℕ) × Gave left' left'' piece × (reader'.bytes ≡ reader.bytes ++ piece) × (reader.ended ≡ true → piece ≡ []) × ((piece ≡ []) ⊎ (pending' ≡ [])))
+pub going_filled : {left left' left'' : Option (List ℕ)} {last last' : ℕ} {held held' held'' : List ℕ → Type 0} {stands : State → Type 0} {takes : Command → Type 0} {idle : Type 0} {before now : ℕ} {place : JudgedInput} {reader : Buffered} (reader' : Buffered) {pending pending' : List ℕ}
+    → Going left left' last held held' stands takes idle before now place reader pending
+    → ((piece : List ℕ) × Gave left' left'' piece × (reader'.bytes ≡ reader.bytes ++ piece) × (reader.ended ≡ true → piece ≡ []) × (((piece ≡ []) × (last' ≡ last)) ⊎ ((pending' ≡ []) × (no_feed (without_latest last' reader'.bytes) ≡ true))))
     → (reader.ended ≡ true → reader'.ended ≡ true) → length reader'.bytes ≤ 32769 → Gathered held' held'' pending' pending
-    → Going left left'' held held'' stands takes idle before now place reader' pending'
-going_filled {left} {left'} {left''} {held} {held'} {held''} {stands} {takes} {idle} {before} {now} {place} {reader} reader' {pending} {pending'} going piece once short g = go piece.4
+    → Going left left'' last' held held'' stands takes idle before now place reader' pending'
+going_filled {left} {left'} {left''} {last} {last'} {held} {held'} {held''} {stands} {takes} {idle} {before} {now} {place} {reader} reader' {pending} {pending'} going piece once short g = go piece.4
   where
     taken : Taken left left'' going.lines (going.b ++ piece.0) place.bytes reader'
     taken = taken_more reader' piece.0 going.taken piece.1 piece.2 piece.3 once
 
-    filled : (m base : ℕ) → Tells (world_of place) going.read.commands stands (now - before) (going.w ++ g.given) pending' m → length (going.b ++ piece.0) ≤ base + 32769
+    filled : (m base : ℕ) → Tells (world_of place) going.read.commands stands (now - before) (going.w ++ g.given) pending' m → length (going.b ++ piece.0) ≤ base + 32769 → no_feed (drop base (without_latest last' (going.b ++ piece.0))) ≡ true
         → ((n : ℕ) → m ≤ n → n < length going.read.starts → base ≤ get_or going.read.starts n 0) → base ≤ place.bytes
-        → Going left left'' held held'' stands takes idle before now place reader' pending'
-    filled m base tells near behind reached = record {
+        → Going left left'' last' held held'' stands takes idle before now place reader' pending'
+    filled m base tells near feedless behind reached = record {
       lines = going.lines;
       b = going.b ++ piece.0;
       w = going.w ++ g.given;
@@ -132,13 +138,22 @@ going_filled {left} {left'} {left''} {held} {held'} {held''} {stands} {takes} {i
       idle_before = going.idle_before;
       later = going.later;
       near = near;
+      feedless = feedless;
       behind = behind;
       reached = reached;
     }
 
-    go : (piece.0 ≡ []) ⊎ (pending' ≡ []) → Going left left'' held held'' stands takes idle before now place reader' pending'
-    go (inl none) = filled going.m going.base (tells_moved g.given g.all going.tells) (omega (arith, length-append going.b piece.0, ap length none, going.near)) going.behind going.reached
-    go (inr none) = filled (length going.read.commands) place.bytes (tells_whole none (tells_moved g.given g.all going.tells)) (omega (arith, taken.long)) (λ n l below. absurd (omega (arith, going.counts))) (omega arith)
+    -- nothing was taken
+    same : (piece.0 ≡ []) → last' ≡ last → without_latest last going.b ≡ without_latest last' (going.b ++ piece.0)
+    same none kept = rw (none, kept, append-nil going.b) refl
+
+    go : ((piece.0 ≡ []) × (last' ≡ last)) ⊎ ((pending' ≡ []) × (no_feed (without_latest last' reader'.bytes) ≡ true)) → Going left left'' last' held held'' stands takes idle before now place reader' pending'
+    go (inl (none, kept)) =
+        filled going.m going.base (tells_moved g.given g.all going.tells) (omega (arith, length-append going.b piece.0, ap length none, going.near))
+        (ap (λ xs. no_feed (drop going.base xs)) (sym (same none kept)) ∙ going.feedless) going.behind going.reached
+    go (inr (none, fresh)) =
+        filled (length going.read.commands) place.bytes (tells_whole none (tells_moved g.given g.all going.tells)) (omega (arith, taken.long))
+        (ap no_feed (drop_latest place.bytes last' (going.b ++ piece.0) reader'.bytes taken.tail) ∙ fresh) (λ n l below. absurd (omega (arith, going.counts))) (omega arith)
 
 -- the start of a command that is still to be read, or was read after the bytes that were taken last
 start_from : (base m n : ℕ) (starts later : List ℕ) → ((n : ℕ) → m ≤ n → n < length starts → base ≤ get_or starts n 0) → IsFrom base later → m ≤ n → n ≤ length starts → n < length (starts ++ later) → base ≤ get_or (starts ++ later) n 0
@@ -153,14 +168,21 @@ IsFrom-lower : (a b : ℕ) (xs : List ℕ) → a ≤ b → IsFrom b xs → IsFro
 IsFrom-lower a b [] l h = tt
 IsFrom-lower a b (x ∷ xs) l h = omega arith
 
+-- what follows a later start has no line feed, either
+feedless_from : (base start : ℕ) (xs : List ℕ) → base ≤ start → no_feed (drop base xs) ≡ true → no_feed (drop start xs) ≡ true
+feedless_from base start xs later none =
+    let sum : start ≡ base + (start - base) = omega (arith, later) in
+    ap (λ n. no_feed (drop n xs)) sum ∙ ap no_feed (sym (drop-drop (start - base) base xs)) ∙ no_feed-drop (start - base) (drop base xs) none
+
 -- what was read up to here, and the lines after it
-pub ahead : (i b : List ℕ) (read : Read) (lines : List Line) (base m : ℕ) → verdict i ≡ ended (judged read lines) → ((n : ℕ) → m ≤ n → n < length read.starts → base ≤ get_or read.starts n 0) → base ≤ read.place.bytes → length b ≤ base + 32769
-    → (n : ℕ) → m ≤ n → n ≤ length read.starts → IsAhead n i b
-ahead i b read lines base m is behind reached near n above within =
+pub ahead : (i b : List ℕ) (last : ℕ) (read : Read) (lines : List Line) (base m : ℕ) → verdict i ≡ ended (judged read lines) → ((n : ℕ) → m ≤ n → n < length read.starts → base ≤ get_or read.starts n 0) → base ≤ read.place.bytes → length b ≤ base + 32769 → no_feed (drop base (without_latest last b)) ≡ true
+    → (n : ℕ) → m ≤ n → n ≤ length read.starts → IsAhead n i b last
+ahead i b last read lines base m is behind reached near feedless n above within =
     let k = judged_keeps read lines in
     let e : (verdict i).read.starts ≡ read.starts ++ k.starts = ap (λ v. v.read.starts) is ∙ k.later in
     let f = λ (below : n < length (read.starts ++ k.starts)). start_from base m n read.starts k.starts behind (IsFrom-lower base read.place.bytes k.starts reached k.from) above within below in
-    subst (λ starts. n < length starts → length b ≤ get_or starts n 0 + 32769) (sym e) (λ below. omega (arith, f below, near))
+    subst (λ starts. n < length starts → IsAheadOf (get_or starts n 0) last b) (sym e)
+    (λ below. record { buffer = omega (arith, f below, near); lockstep = feedless_from base (get_or (read.starts ++ k.starts) n 0) (without_latest last b) (f below) feedless })
 
 -- the next line, as it is judged
 pub record Judges (place : JudgedInput) (reader : Buffered) (found : Found) (rest : List ℕ) : Type 0 where

@@ -49,9 +49,9 @@ before_all number count i loaded read is (inr b) =
     absurd (no_dump read.commands b.later (subst (All IsOther) b.commands (subst (λ (xs : List ℕ). All IsOther (verdict xs).read.commands) (sym is) (made_undumped number count))))
 
 module _ (number count : ℕ) (few : count ≤ 1000000) (stands : State → Type 0) (loaded : Bool) (source_rose : Type 0) (rose : ℕ) (tally : Tally) (first sink : Counted) (starts : first ≡ counted_of []) (tells : tally ≡ sink.tally) where
-  ended_made : (ended : Status) (i b w : List ℕ) → i ≡ made number count → sink ≡ counted_of w → (ended ≡ ReadFailed → Rose 0 0) → (ended ≡ WriteFailed → Rose 0 0) → Wrote ended (observes i b w stands loaded source_rose rose)
+  ended_made : (ended : Status) (i b : List ℕ) (latest : ℕ) (w : List ℕ) → i ≡ made number count → sink ≡ counted_of w → (ended ≡ ReadFailed → Rose 0 0) → (ended ≡ WriteFailed → Rose 0 0) → Wrote ended (observes i b latest w stands loaded source_rose rose)
       → RanMade number count stands loaded rose ended tally
-  ended_made Done i b w is holds read write e = record {
+  ended_made Done i b latest w is holds read write e = record {
     read = e.read;
     replies = e.replies;
     ends = subst (λ (xs : List ℕ). Ends Done loaded xs e.read) is e.demands.1;
@@ -59,7 +59,7 @@ module _ (number count : ℕ) (few : count ≤ 1000000) (stands : State → Type
     untouched = e.untouched;
     counts = λ _. tells ∙ ap (λ (c : Counted). c.tally) (holds ∙ ap counted_of (e.written ∙ ap (λ (xs : List ℕ). e.replies ++ xs) e.demands.2 ∙ append-nil e.replies));
   }
-  ended_made NoMemory i b w is holds read write e = record {
+  ended_made NoMemory i b latest w is holds read write e = record {
     read = e.read;
     replies = e.replies;
     ends = before_all number count i loaded e.read is e.demands.0;
@@ -67,19 +67,19 @@ module _ (number count : ℕ) (few : count ≤ 1000000) (stands : State → Type
     untouched = e.untouched;
     counts = λ other. absurd (cc (other));
   }
-  ended_made SwapFailed i b w is holds read write e = no_object number count i is e.demands.1
-  ended_made WriteFailed i b w is holds read write e = absurd (stays (write refl))
-  ended_made ReadFailed i b w is holds read write e = absurd (stays (read refl))
-  ended_made Refused i b w is holds read write e = broken Refused number count i e.read e.line few is e.demands
-  ended_made NoSpace i b w is holds read write e = broken NoSpace number count i e.read e.line few is e.demands.0
-  ended_made Usage i b w is holds read write e = absurd e.demands
-  ended_made NoObject i b w is holds read write e = absurd e.demands
+  ended_made SwapFailed i b latest w is holds read write e = no_object number count i is e.demands.1
+  ended_made WriteFailed i b latest w is holds read write e = absurd (stays (write refl))
+  ended_made ReadFailed i b latest w is holds read write e = absurd (stays (read refl))
+  ended_made Refused i b latest w is holds read write e = broken Refused number count i e.read e.line few is e.demands
+  ended_made NoSpace i b latest w is holds read write e = broken NoSpace number count i e.read e.line few is e.demands.0
+  ended_made Usage i b latest w is holds read write e = absurd e.demands
+  ended_made NoObject i b latest w is holds read write e = absurd e.demands
 
-  pub ran_made : (left left' : Option (List ℕ)) (ended : Status) → left ≡ Some (made number count) → (ended ≡ ReadFailed → Rose 0 0) → (ended ≡ WriteFailed → Rose 0 0)
-      → HasRun left left' (λ bytes. first ≡ counted_of bytes) (λ bytes. sink ≡ counted_of bytes) stands loaded source_rose rose ended → RanMade number count stands loaded rose ended tally
-  ran_made left left' ended tells read write (i, b, w, ran) =
+  pub ran_made : (left left' : Option (List ℕ)) (latest : ℕ) (ended : Status) → left ≡ Some (made number count) → (ended ≡ ReadFailed → Rose 0 0) → (ended ≡ WriteFailed → Rose 0 0)
+      → HasRun left left' latest (λ bytes. first ≡ counted_of bytes) (λ bytes. sink ≡ counted_of bytes) stands loaded source_rose rose ended → RanMade number count stands loaded rose ended tally
+  ran_made left left' latest ended tells read write (i, b, w, ran) =
       let same : made number count ≡ i = subst (λ l. IfSome l (λ bytes. bytes ≡ i)) tells ran.input in
-      ended_made ended i b w (sym same) (counted first sink w starts ran.gained.each) read write ran.wrote
+      ended_made ended i b latest w (sym same) (counted first sink w starts ran.gained.each) read write ran.wrote
 
 -- the requested exercise
 pub exercised_at : (number count : ℕ) {a b : ℕ} {held held' : List ℕ → Type 0} {stands : State → Type 0} {loaded : Bool} {rose : ℕ} (status : Status) → Some (Exercise a b) ≡ Some (Exercise number count) → Exercised a b held held' stands loaded rose status

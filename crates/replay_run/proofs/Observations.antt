@@ -8,28 +8,28 @@ use Rattle.input_verdict.specs.Verdict.{Read}
 use Rattle.replay_run.specs.Outcome.{Demands, EndsWith, Observed, Ran, Wrote}
 use Rattle.replay_run.specs.Steps.{RanTo}
 
-abbrev pub observes : List ℕ → List ℕ → List ℕ → (State → Type 0) → Bool → Type 0 → ℕ → Observed
-observes i b w stands loaded source_rose rose = record { input = i; taken = b; written = w; stands = stands; loaded = loaded; source_rose = source_rose; swap_rose = rose }
+abbrev pub observes : List ℕ → List ℕ → ℕ → List ℕ → (State → Type 0) → Bool → Type 0 → ℕ → Observed
+observes i b last w stands loaded source_rose rose = record { input = i; taken = b; last = last; written = w; stands = stands; loaded = loaded; source_rose = source_rose; swap_rose = rose }
 
 -- some input was run up to a stop, or to its end
-abbrev pub HasStopped : Option (List ℕ) → Option (List ℕ) → (List ℕ → Type 0) → (List ℕ → Type 0) → (State → Type 0) → Bool → Type 0 → ℕ → List ℕ → Result (Unit {0}) Stop → Type 0
-HasStopped left left' held held' stands loaded source_rose rose pending result = (i b w : List ℕ) × RanTo left left' held held' (observes i b w stands loaded source_rose rose) pending result
+abbrev pub HasStopped : Option (List ℕ) → Option (List ℕ) → ℕ → (List ℕ → Type 0) → (List ℕ → Type 0) → (State → Type 0) → Bool → Type 0 → ℕ → List ℕ → Result (Unit {0}) Stop → Type 0
+HasStopped left left' last held held' stands loaded source_rose rose pending result = (i b w : List ℕ) × RanTo left left' held held' (observes i b last w stands loaded source_rose rose) pending result
 
-abbrev pub HasRun : Option (List ℕ) → Option (List ℕ) → (List ℕ → Type 0) → (List ℕ → Type 0) → (State → Type 0) → Bool → Type 0 → ℕ → Status → Type 0
-HasRun left left' held held' stands loaded source_rose rose status = (i b w : List ℕ) × Ran left left' held held' (observes i b w stands loaded source_rose rose) status
+abbrev pub HasRun : Option (List ℕ) → Option (List ℕ) → ℕ → (List ℕ → Type 0) → (List ℕ → Type 0) → (State → Type 0) → Bool → Type 0 → ℕ → Status → Type 0
+HasRun left left' last held held' stands loaded source_rose rose status = (i b w : List ℕ) × Ran left left' held held' (observes i b last w stands loaded source_rose rose) status
 
 -- what a status requires depends on what was read, and on whether the world is loaded
-pub demands_as : (status : Status) (i b w w' : List ℕ) (stands means : State → Type 0) (loaded : Bool) (source_rose : Type 0) (rose : ℕ) (read : Read) (line : List ℕ)
-    → Demands status (observes i b w stands loaded source_rose rose) read line → Demands status (observes i b w' means loaded source_rose rose) read line
-demands_as Done i b w w' stands means loaded source_rose rose read line d = d
-demands_as WriteFailed i b w w' stands means loaded source_rose rose read line d = d
-demands_as Refused i b w w' stands means loaded source_rose rose read line d = d
-demands_as ReadFailed i b w w' stands means loaded source_rose rose read line d = d
-demands_as NoSpace i b w w' stands means loaded source_rose rose read line d = d
-demands_as NoMemory i b w w' stands means loaded source_rose rose read line d = d
-demands_as SwapFailed i b w w' stands means loaded source_rose rose read line d = d
-demands_as Usage i b w w' stands means loaded source_rose rose read line d = d
-demands_as NoObject i b w w' stands means loaded source_rose rose read line d = d
+pub demands_as : (status : Status) (i b : List ℕ) (last : ℕ) (w w' : List ℕ) (stands means : State → Type 0) (loaded : Bool) (source_rose : Type 0) (rose : ℕ) (read : Read) (line : List ℕ)
+    → Demands status (observes i b last w stands loaded source_rose rose) read line → Demands status (observes i b last w' means loaded source_rose rose) read line
+demands_as Done i b last w w' stands means loaded source_rose rose read line d = d
+demands_as WriteFailed i b last w w' stands means loaded source_rose rose read line d = d
+demands_as Refused i b last w w' stands means loaded source_rose rose read line d = d
+demands_as ReadFailed i b last w w' stands means loaded source_rose rose read line d = d
+demands_as NoSpace i b last w w' stands means loaded source_rose rose read line d = d
+demands_as NoMemory i b last w w' stands means loaded source_rose rose read line d = d
+demands_as SwapFailed i b last w w' stands means loaded source_rose rose read line d = d
+demands_as Usage i b last w w' stands means loaded source_rose rose read line d = d
+demands_as NoObject i b last w w' stands means loaded source_rose rose read line d = d
 
 pub wrote_ended : (status : Status) (o : Observed) → EndsWith status o → Wrote status o
 wrote_ended Done o e = e

@@ -42,8 +42,8 @@ some_of : {A : Type 0} (items : List A) → items ≢ [] → 0 < length items
 some_of [] some = absurd (some refl)
 some_of (item ∷ items) some = omega arith
 
-module _ {left left' : Option (List ℕ)} {held held' : List ℕ → Type 0} {stands : State → Type 0} {takes : Command → Type 0} {idle : Type 0} {before now : ℕ} {place : JudgedInput} {reader : Buffered} {pending : List ℕ}
-    (going : Going left left' held held' stands takes idle before now place reader pending) (form : IsPlace place) (end : reader.ended ≡ true → IsAtEnd left')
+module _ {left left' : Option (List ℕ)} {last : ℕ} {held held' : List ℕ → Type 0} {stands : State → Type 0} {takes : Command → Type 0} {idle : Type 0} {before now : ℕ} {place : JudgedInput} {reader : Buffered} {pending : List ℕ}
+    (going : Going left left' last held held' stands takes idle before now place reader pending) (form : IsPlace place) (end : reader.ended ≡ true → IsAtEnd left')
     (found : Found) (p : Passes reader found) (next : Next) (accepted : judged_as place (take found.length reader.bytes) found.size ≡ Ok next) where
   accepted_here : judged_as going.read.place p.line.text (size_of p.line) ≡ Ok next
   accepted_here = ap (judged_as going.read.place p.line.text) p.size ∙ ap (λ t. judged_as going.read.place t found.size) p.text ∙ ap (λ q. judged_as q (take found.length reader.bytes) found.size) going.at ∙ accepted
@@ -63,7 +63,7 @@ module _ {left left' : Option (List ℕ)} {held held' : List ℕ → Type 0} {st
   -- a line was read, and what it requests was done
   pub going_act : {held'' : List ℕ → Type 0} {stands' : State → Type 0} {takes' : Command → Type 0} {idle' : Type 0} {now' : ℕ} {pending' : List ℕ} (reader' : Buffered) → reader'.bytes ≡ drop found.size reader.bytes → reader'.ended ≡ reader.ended
       → Acted next.event next.place.judge.builder.world stands stands' now now' held' held'' pending pending' (Ok tt) → TakesAfter next.event next.place.judge.builder.world takes takes' idle idle'
-      → Going left left' held held'' stands' takes' idle' before now' next.place reader' pending'
+      → Going left left' last held held'' stands' takes' idle' before now' next.place reader' pending'
   going_act {held''} {stands'} {takes'} {idle'} {now'} {pending'} reader' bytes ended_same acted after =
       let s = steps held held' held'' stands stands' takes takes' idle idle' before now now' pending pending' place next.place going.read going.w going.m going.base going.gained going.tells going.takes_all going.idle_before going.later (λ world is. sound_at place form world is) going.counts going.limits going.behind (reached_here going form end) next.event goes_here acted after in
       record {
@@ -84,6 +84,7 @@ module _ {left left' : Option (List ℕ)} {held held' : List ℕ → Type 0} {st
         idle_before = s.idle_before;
         later = s.later;
         near = going.near;
+        feedless = going.feedless;
         behind = s.behind;
         reached = omega (arith, bytes_here, going.reached);
       }
@@ -118,7 +119,7 @@ module _ {left left' : Option (List ℕ)} {held held' : List ℕ → Type 0} {st
   -- the sink failed in the text for the line's command
   ran_reply : {held'' : List ℕ → Type 0} {stands' : State → Type 0} {loaded : Bool} {source_rose : Type 0} (now' : ℕ) {pending' : List ℕ} (command : Command) → next.event ≡ Does command → Goes place (Does command) next.place
       → (t : Told next.place.judge.builder.world going.read.commands stands (now - before) going.w pending going.m) → now ≤ now'
-      → Answers next.place.judge.builder.world command t.last stands' now now' held' held'' pending pending' (Err halts.Write) → HasStopped left left' held held'' stands' loaded source_rose (now' - before) pending' (Err Write)
+      → Answers next.place.judge.builder.world command t.last stands' now now' held' held'' pending pending' (Err halts.Write) → HasStopped left left' last held held'' stands' loaded source_rose (now' - before) pending' (Err Write)
   ran_reply {held''} {stands'} {loaded} {source_rose} now' {pending'} command event goes t rose a =
       let world = next.place.judge.builder.world in
       let more = told_more command a.answer a.new t a.does a.state going.later rose a.fault a.quiet in
@@ -132,13 +133,13 @@ module _ {left left' : Option (List ℕ)} {held held' : List ℕ → Type 0} {st
       let told : Told world (going.read.commands ++ command ∷ []) stands' (now' - before) (going.w ++ g.given) (pending' ++ cut.0) going.m = told_moved g.given all more in
       let k = judged_keeps next_read (lines_of (drop found.size reader.bytes ++ rest_of left')) in
       ran_with going form end (going.w ++ g.given) pending' (Err Write) (gained_more going.gained g.gained)
-      (cut_reply (input going form end) going.b k.commands (opened_here command goes) (commands_here command event) (AreInLimits-append going.read.commands (command ∷ []) going.limits (goes.2, tt)) k.limits (sound_at place form world goes.0)
+      (cut_reply (input going form end) going.b last k.commands (opened_here command goes) (commands_here command event) (AreInLimits-append going.read.commands (command ∷ []) going.limits (goes.2, tt)) k.limits (sound_at place form world goes.0)
       (omega (arith, length-append pending' cut.0, cut.1)) told (λ n above below. ahead_here going form end n above (omega (arith, below, length-append going.read.commands (command ∷ [])))))
 
   -- memory ran out at the line's dump
   ran_dump : {held'' : List ℕ → Type 0} {stands' : State → Type 0} {loaded : Bool} {source_rose : Type 0} (now' : ℕ) {pending' : List ℕ} (command : Command) → next.event ≡ Does command → Goes place (Does command) next.place
       → (t : Told next.place.judge.builder.world going.read.commands stands (now - before) going.w pending going.m) → now ≤ now'
-      → HasNoRoom command t.last stands' now now' held' held'' pending pending' (Err halts.Memory) → HasStopped left left' held held'' stands' loaded source_rose (now' - before) pending' (Err (Tell Memory))
+      → HasNoRoom command t.last stands' now now' held' held'' pending pending' (Err halts.Memory) → HasStopped left left' last held held'' stands' loaded source_rose (now' - before) pending' (Err (Tell Memory))
   ran_dump {held''} {stands'} {loaded} {source_rose} now' {pending'} command event goes t rose a =
       let world = next.place.judge.builder.world in
       let g = a.gathered in
@@ -154,7 +155,7 @@ module _ {left left' : Option (List ℕ)} {held held' : List ℕ → Type 0} {st
       ran_none going form end g tells rose before_dump
 
   pub ran_stopped : {held'' : List ℕ → Type 0} {stands' : State → Type 0} {loaded : Bool} {source_rose : Type 0} (now' : ℕ) {pending' : List ℕ} (event : Event) (halt : Halt) → next.event ≡ event → (event ≡ Opens → loaded ≡ false) → Acted event next.place.judge.builder.world stands stands' now now' held' held'' pending pending' (Err halt)
-      → HasStopped left left' held held'' stands' loaded source_rose (now' - before) pending' (Err (stop_of halt))
+      → HasStopped left left' last held held'' stands' loaded source_rose (now' - before) pending' (Err (stop_of halt))
   ran_stopped now' Nothing halt is unloaded acted = absurd acted
   ran_stopped {held''} {stands'} {loaded} {source_rose} now' {pending'} Opens halt is unloaded acted =
       let g : Goes place Opens next.place = subst (λ e. Goes place e next.place) is goes_here in
@@ -162,9 +163,9 @@ module _ {left left' : Option (List ℕ)} {held held' : List ℕ → Type 0} {st
         | inl o ↦
             let none : now - before ≡ 0 = unrisen going form end g.0 in
             let same : now' ≡ now = o.1 in
-            subst (λ e. HasStopped left left' held held'' stands' loaded source_rose (now' - before) pending' (Err (stop_of e))) (sym o.0) (ran_early going form end Memory acted.0 (inl (refl, unloaded refl), refl) (λ _. omega (arith, none, same)) g.0)
+            subst (λ e. HasStopped left left' last held held'' stands' loaded source_rose (now' - before) pending' (Err (stop_of e))) (sym o.0) (ran_early going form end Memory acted.0 (inl (refl, unloaded refl), refl) (λ _. omega (arith, none, same)) g.0)
         | inr o ↦
-            subst (λ e. HasStopped left left' held held'' stands' loaded source_rose (now' - before) pending' (Err (stop_of e))) (sym o.0)
+            subst (λ e. HasStopped left left' last held held'' stands' loaded source_rose (now' - before) pending' (Err (stop_of e))) (sym o.0)
             (ran_early going form end Swap acted.0 ((refl, unloaded refl), objects_here g.1 o.1, refl) (λ other. absurd (other refl)) g.0)
       ]
   ran_stopped {held''} {stands'} {loaded} {source_rose} now' {pending'} (Does command) halt is unloaded acted =
@@ -173,11 +174,11 @@ module _ {left left' : Option (List ℕ)} {held held' : List ℕ → Type 0} {st
       elim (acted.1 t.last t.state (told_reached t going.limits (sound_at place form next.place.judge.builder.world g.0))) [
         | inl a ↦
             let e : halt ≡ halts.Write = a.write in
-            subst (λ x. HasStopped left left' held held'' stands' loaded source_rose (now' - before) pending' (Err (stop_of x))) (sym e)
+            subst (λ x. HasStopped left left' last held held'' stands' loaded source_rose (now' - before) pending' (Err (stop_of x))) (sym e)
             (ran_reply now' command is g t acted.0 (subst (λ x. Answers next.place.judge.builder.world command t.last stands' now now' held' held'' pending pending' (Err x)) e a))
         | inr a ↦
             let e : halt ≡ halts.Memory = let f = a.halt in cc (f) in
-            subst (λ x. HasStopped left left' held held'' stands' loaded source_rose (now' - before) pending' (Err (stop_of x))) (sym e)
+            subst (λ x. HasStopped left left' last held held'' stands' loaded source_rose (now' - before) pending' (Err (stop_of x))) (sym e)
             (ran_dump now' command is g t acted.0 (subst (λ x. HasNoRoom command t.last stands' now now' held' held'' pending pending' (Err x)) e a))
       ]
 

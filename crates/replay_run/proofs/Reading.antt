@@ -27,8 +27,8 @@ module _ (stands means : State → Type 0) (follows : (s : State) → stands s �
   answered_as None commands text a = a
   answered_as (Some world) commands text a = replies_as world commands text a
 
-  module _ (source_rose : Type 0) (i b w : List ℕ) where
-    reply_as : CutReply (observes i b w stands loaded source_rose rose) → CutReply (observes i b w means loaded source_rose rose)
+  module _ (source_rose : Type 0) (i b : List ℕ) (last : ℕ) (w : List ℕ) where
+    reply_as : CutReply (observes i b last w stands loaded source_rose rose) → CutReply (observes i b last w means loaded source_rose rose)
     unfolding replies_as
     reply_as c = record {
       n = c.n;
@@ -47,43 +47,43 @@ module _ (stands means : State → Type 0) (follows : (s : State) → stands s �
       front = c.front;
     }
 
-    abbrev ends_as : (status : Status) → EndsWith status (observes i b w stands loaded source_rose rose) → EndsWith status (observes i b w means loaded source_rose rose)
+    abbrev ends_as : (status : Status) → EndsWith status (observes i b last w stands loaded source_rose rose) → EndsWith status (observes i b last w means loaded source_rose rose)
     ends_as status e = record {
       read = e.read;
       replies = e.replies;
       line = e.line;
-      demands = demands_as status i b w w stands means loaded source_rose rose e.read e.line e.demands;
+      demands = demands_as status i b last w w stands means loaded source_rose rose e.read e.line e.demands;
       answered = answered_as _ e.read.commands e.replies e.answered;
       written = e.written;
       ahead = e.ahead;
       untouched = e.untouched;
     }
 
-  line_as : (source_rose : Type 0) (i b w : List ℕ) → CutLine (observes i b w stands loaded source_rose rose) → CutLine (observes i b w means loaded source_rose rose)
-  line_as source_rose i b w c = record {
+  line_as : (source_rose : Type 0) (i b : List ℕ) (last : ℕ) (w : List ℕ) → CutLine (observes i b last w stands loaded source_rose rose) → CutLine (observes i b last w means loaded source_rose rose)
+  line_as source_rose i b last w c = record {
     status = c.status;
     whole = c.whole;
-    ends = ends_as source_rose i b c.whole c.status c.ends;
+    ends = ends_as source_rose i b last c.whole c.status c.ends;
     cause = c.cause;
     part = c.part;
     cut = c.cut;
     is = c.is;
   }
 
-  pub wrote_as : (source_rose : Type 0) (status : Status) (i b w : List ℕ) → Wrote status (observes i b w stands loaded source_rose rose) → Wrote status (observes i b w means loaded source_rose rose)
-  wrote_as source_rose WriteFailed i b w (inl c) = inl (reply_as source_rose i b w c)
-  wrote_as source_rose WriteFailed i b w (inr c) = inr (line_as source_rose i b w c)
-  wrote_as source_rose Done i b w e = ends_as source_rose i b w Done e
-  wrote_as source_rose Refused i b w e = ends_as source_rose i b w Refused e
-  wrote_as source_rose ReadFailed i b w e = ends_as source_rose i b w ReadFailed e
-  wrote_as source_rose NoSpace i b w e = ends_as source_rose i b w NoSpace e
-  wrote_as source_rose NoMemory i b w e = ends_as source_rose i b w NoMemory e
-  wrote_as source_rose SwapFailed i b w e = ends_as source_rose i b w SwapFailed e
-  wrote_as source_rose Usage i b w e = absurd e.demands
-  wrote_as source_rose NoObject i b w e = absurd e.demands
+  pub wrote_as : (source_rose : Type 0) (status : Status) (i b : List ℕ) (last : ℕ) (w : List ℕ) → Wrote status (observes i b last w stands loaded source_rose rose) → Wrote status (observes i b last w means loaded source_rose rose)
+  wrote_as source_rose WriteFailed i b last w (inl c) = inl (reply_as source_rose i b last w c)
+  wrote_as source_rose WriteFailed i b last w (inr c) = inr (line_as source_rose i b last w c)
+  wrote_as source_rose Done i b last w e = ends_as source_rose i b last w Done e
+  wrote_as source_rose Refused i b last w e = ends_as source_rose i b last w Refused e
+  wrote_as source_rose ReadFailed i b last w e = ends_as source_rose i b last w ReadFailed e
+  wrote_as source_rose NoSpace i b last w e = ends_as source_rose i b last w NoSpace e
+  wrote_as source_rose NoMemory i b last w e = ends_as source_rose i b last w NoMemory e
+  wrote_as source_rose SwapFailed i b last w e = ends_as source_rose i b last w SwapFailed e
+  wrote_as source_rose Usage i b last w e = absurd e.demands
+  wrote_as source_rose NoObject i b last w e = absurd e.demands
 
-  pub ran_as : {source_rose : Type 0} (left left' : Option (List ℕ)) (held held' : List ℕ → Type 0) (status : Status) → HasRun left left' held held' stands loaded source_rose rose status → HasRun left left' held held' means loaded source_rose rose status
-  ran_as {source_rose = source_rose} left left' held held' status r = (r.0, r.1, r.2, record { input = r.3.input; gave = r.3.gave; rest = r.3.rest; gained = r.3.gained; wrote = wrote_as source_rose status r.0 r.1 r.2 r.3.wrote })
+  pub ran_as : {source_rose : Type 0} (left left' : Option (List ℕ)) (last : ℕ) (held held' : List ℕ → Type 0) (status : Status) → HasRun left left' last held held' stands loaded source_rose rose status → HasRun left left' last held held' means loaded source_rose rose status
+  ran_as {source_rose = source_rose} left left' last held held' status r = (r.0, r.1, r.2, record { input = r.3.input; gave = r.3.gave; rest = r.3.rest; gained = r.3.gained; wrote = wrote_as source_rose status r.0 r.1 last r.2 r.3.wrote })
 
   pub exercised_as : (number count : ℕ) (held held' : List ℕ → Type 0) (status : Status) → Exercised number count held held' stands loaded rose status → Exercised number count held held' means loaded rose status
   exercised_as number count held held' status e = record {

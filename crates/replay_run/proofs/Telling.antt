@@ -191,9 +191,9 @@ told_replies t = record {
 }
 
 -- if something is pending, the sink stopped in a reply after those that it gained in full
-pub cut_reply : {world : World} {commands : List Command} {stands : State → Type 0} {loaded : Bool} {source_rose : Type 0} {rose : ℕ} {w pending : List ℕ} {m : ℕ} (i b : List ℕ) (later : List Command) → world_of (verdict i).read.place ≡ Some world → (verdict i).read.commands ≡ commands ++ later
-    → AreInLimits commands → AreInLimits later → IsSound (opening world) → 0 < length pending → Told world commands stands rose w pending m → ((n : ℕ) → m ≤ n → n < length commands → IsAhead n i b) → CutReply (observes i b w stands loaded source_rose rose)
-cut_reply {world = world} {commands = commands} {w = w} {pending = pending} {m = m} i b later opened all limits after sound some t ahead =
+pub cut_reply : {world : World} {commands : List Command} {stands : State → Type 0} {loaded : Bool} {source_rose : Type 0} {rose : ℕ} {w pending : List ℕ} {m : ℕ} (i b : List ℕ) (latest : ℕ) (later : List Command) → world_of (verdict i).read.place ≡ Some world → (verdict i).read.commands ≡ commands ++ later
+    → AreInLimits commands → AreInLimits later → IsSound (opening world) → 0 < length pending → Told world commands stands rose w pending m → ((n : ℕ) → m ≤ n → n < length commands → IsAhead n i b latest) → CutReply (observes i b latest w stands loaded source_rose rose)
+cut_reply {world = world} {commands = commands} {w = w} {pending = pending} {m = m} i b latest later opened all limits after sound some t ahead =
     let c = cut_within world.areas t.later t.given pending t.rest some in
     let e = run_length (opening world) t.last commands (t.first ++ t.later) t.run in
     let more = run_some t.last later after (run_sound (opening world) t.last commands (t.first ++ t.later) limits sound t.run) in

@@ -1,5 +1,5 @@
 -- What a run reads and writes, for each status.
-use Rattle.std.specs.Prelude.{◌≡◌, ◌≢◌, ◌⊎◌, ◌≤◌, ◌<◌, ◌+◌, ◌^◌, ℕ, List, [], ◌∷◌, ◌++◌, length, slice_index, Bool, false, Option, Some, None, Ok, IfSome, unwrap_or}
+use Rattle.std.specs.Prelude.{◌≡◌, ◌≢◌, ◌⊎◌, ◌≤◌, ◌<◌, ◌+◌, ◌^◌, ℕ, List, [], ◌∷◌, ◌++◌, length, drop, slice_index, Bool, true, false, Option, Some, None, Ok, IfSome, unwrap_or}
 use Rattle.outer_ports.specs.Ports.{Gained, Gave, IsCut}
 use Rattle.lisp_graph.specs.declared.command.Command.{Command}
 use Rattle.lisp_graph.specs.declared.command.Command.TheVariants.{Dump}
@@ -14,6 +14,7 @@ use Rattle.line_input.specs.declared.statuses.status.Status.TheVariants.{Done, W
 use Rattle.line_input.specs.declared.statuses.status.RunError.{RunError}
 use Rattle.line_input.specs.declared.statuses.status.RunError.TheVariants.{Read as ReadTrouble, Memory, Swap}
 use Rattle.line_input.specs.Lines.{lines_of, whole_lines}
+use Rattle.line_input.specs.Reader.{no_feed, without_latest}
 use Rattle.line_input.specs.Statuses.{status_of, trouble_line}
 use Rattle.input_verdict.specs.Verdict.{Read, Whole, Broken, verdict, judged, start, world_of}
 use Rattle.replay_run.specs.Replies.{Answered, Replies, answer_text, text_of}
@@ -56,10 +57,11 @@ pub record HasNoWorldYet (b : List ℕ) : Type 0 where
 abbrev pub IsUnloaded : Bool → Read → Type 0
 IsUnloaded loaded read = (read ≡ start) × (loaded ≡ false)
 
--- What is observed of a run: the input, and the bytes of it that the source gave; the bytes that were written; the states that the machine represents, and whether its world is loaded; whether the source reported an error, and by how much the swap device's count of failed calls rose.
+-- What is observed of a run: the input, the bytes of it that the source gave, and the length of the latest piece; the bytes that were written; the states that the machine represents, and whether its world is loaded; whether the source reported an error, and by how much the swap device's count of failed calls rose.
 pub record Observed : Type 1 where
   pub input : List ℕ
   pub taken : List ℕ
+  pub last : ℕ
   pub written : List ℕ
   pub stands : State → Type 0
   pub loaded : Bool
@@ -76,9 +78,14 @@ Demands NoMemory o read line = (IsUnloaded o.loaded read ⊎ BeforeDump o.input 
 Demands SwapFailed o read line = IsUnloaded o.loaded read × HasObject o.input × (line ≡ trouble_line Swap)
 Demands _ o read line = ⊥
 
--- if i has a command n, counted from 0, b reaches at most a buffer's length beyond the start of that command's line
-abbrev pub IsAhead : ℕ → List ℕ → List ℕ → Type 0
-IsAhead n i b = n < length (verdict i).read.starts → length b ≤ slice_index (verdict i).read.starts n + 32769
+-- The bytes taken reach at most a buffer's length beyond the start of a line, and those taken before the latest piece have no line feed from this start on: once the line was taken, no more was.
+pub record IsAheadOf (start last : ℕ) (taken : List ℕ) : Type 0 where
+  pub buffer : length taken ≤ start + 32769
+  pub lockstep : no_feed (drop start (without_latest last taken)) ≡ true
+
+-- if i has a command n, counted from 0, this is true of the start of its line
+abbrev pub IsAhead : ℕ → List ℕ → List ℕ → ℕ → Type 0
+IsAhead n i b last = n < length (verdict i).read.starts → IsAheadOf (slice_index (verdict i).read.starts n) last b
 
 -- w contains n of the answers in full, and a prefix of the next one, and not all of it
 pub record IsCutAt (areas : List AreaRule) (answers : List Answer) (w : List ℕ) (n : ℕ) : Type 0 where
@@ -94,7 +101,7 @@ pub record IsCutAt (areas : List AreaRule) (answers : List Answer) (w : List ℕ
 -- The sink failed in the reply to command n. The commands up to some later one were run.
 pub record CutReply (o : Observed) : Type 0 where
   pub n : ℕ
-  pub ahead : IsAhead n o.input o.taken
+  pub ahead : IsAhead n o.input o.taken o.last
   pub world : World
   pub opened : world_of (verdict o.input).read.place ≡ Some world
   pub done : List Command
@@ -119,7 +126,7 @@ IsCaused source_rose rose _ = Unit {0}
 abbrev pub IsUntouched : Status → Option World → ℕ → Type 0
 IsUntouched status world rose = world ≡ None → status ≢ SwapFailed → rose ≡ 0
 
--- A run ended with this status: the replies to the commands that the status requires were written, and then its line. The bytes taken reach at most a buffer's length beyond the start of the first command that isn't answered.
+-- A run ended with this status: the replies to the commands that the status requires were written, and then its line. No more was taken than the line of the first command that isn't answered needed.
 pub record EndsWith (status : Status) (o : Observed) : Type 0 where
   pub read : Read
   pub replies : List ℕ
@@ -127,7 +134,7 @@ pub record EndsWith (status : Status) (o : Observed) : Type 0 where
   pub demands : Demands status o read line
   pub answered : Answered (world_of read.place) read.commands o.stands o.swap_rose replies
   pub written : o.written ≡ replies ++ line
-  pub ahead : IsAhead (length read.commands) o.input o.taken
+  pub ahead : IsAhead (length read.commands) o.input o.taken o.last
   pub untouched : IsUntouched status (world_of read.place) o.swap_rose
 
 -- The sink failed in the line with which a run would have ended with another status. That status has its cause.
@@ -153,10 +160,10 @@ pub record Ran (left left' : Option (List ℕ)) (held held' : List ℕ → Type 
   pub gained : Gained held held' o.written
   pub wrote : Wrote status o
 
--- Memory ran out before the first command of the input i, when the world wasn't loaded yet: at most a buffer's length was read beyond the start of that command, and only the error line is written.
-pub record IsEarly (i : List ℕ) (left' : Option (List ℕ)) (held held' : List ℕ → Type 0) (loaded : Bool) : Type 0 where
+-- Memory ran out before the first command of the input i, when the world wasn't loaded yet: no more was taken than the line of that command needed, and only the error line is written.
+pub record IsEarly (i : List ℕ) (left' : Option (List ℕ)) (last : ℕ) (held held' : List ℕ → Type 0) (loaded : Bool) : Type 0 where
   pub b : List ℕ
   pub gave : Gave (Some i) left' b
-  pub ahead : IsAhead 0 i b
+  pub ahead : IsAhead 0 i b last
   pub alone : Gained held held' (trouble_line Memory)
   pub unloaded : loaded ≡ false

@@ -47,9 +47,9 @@ pub record GoesOn (fed written : List ℕ) (s : Seen) : Type 0 where
   pub takes : (world : World) → world_of s.place ≡ Some world → (command : Command) → IsRunnable world command → Takes s.machine.heap command
   pub idle : world_of s.place ≡ None → s.machine.idle ≡ true
 
--- what is observed of a session: its input is all that was fed
+-- what is observed of a session: its input is all that was fed, as one piece
 abbrev pub observed : List ℕ → List ℕ → Holding → Observed
-observed fed written machine = record { input = fed; taken = fed; written = written; stands = StandsFor machine.heap; loaded = is_some machine.heap; source_rose = ⊥; swap_rose = machine.faults }
+observed fed written machine = record { input = fed; taken = fed; last = length fed; written = written; stands = StandsFor machine.heap; loaded = is_some machine.heap; source_rose = ⊥; swap_rose = machine.faults }
 
 -- What a session has done, by its state, if these bytes were fed and this was written: it is open, or it has ended with a status, and then what was written is what a run writes on the input `fed`.
 abbrev pub DoesIn : SessionState → List ℕ → List ℕ → Seen → Type 0

@@ -54,7 +54,7 @@ pub record StopsAt (status : Status) (line : List ℕ) (o : Observed) (pending :
   pub demands : Demands status o read line
   pub answered : Answered (world_of read.place) read.commands o.stands o.swap_rose (o.written ++ pending)
   pub untouched : IsUntouched status (world_of read.place) o.swap_rose
-  pub far : IsAhead (length read.commands) o.input o.taken
+  pub far : IsAhead (length read.commands) o.input o.taken o.last
   pub cut : (front rest : List ℕ) → pending ≡ front ++ rest → 0 < length rest → CutReply (record o { written = o.written ++ front })
 
 -- how a run stopped: in a reply, or with a status that requires a line

@@ -26,7 +26,7 @@ pub fn answer_input<S: Source, K: Sink, E: Engine>(
 ) -> Status
     requires { E.is_idle engine.old }
     ensures ran { (i b w : List ℕ) × Ran (S.left source.old) (S.left source.new) (K.stands sink.old) (K.stands sink.new)
-        (record { input = i; taken = b; written = w; stands = E.stands engine.new; loaded = E.loaded engine.new; source_rose = Rose (S.faults source.old) (S.faults source.new); swap_rose = E.faults engine.new - E.faults engine.old })
+        (record { input = i; taken = b; last = S.last source.new; written = w; stands = E.stands engine.new; loaded = E.loaded engine.new; source_rose = Rose (S.faults source.old) (S.faults source.new); swap_rose = E.faults engine.new - E.faults engine.old })
         result }
     ensures read { result ≡ Status.ReadFailed → Rose (S.faults source.old) (S.faults source.new) }
     ensures write { result ≡ Status.WriteFailed → Rose (K.faults sink.old) (K.faults sink.new) }
@@ -66,7 +66,7 @@ pub fn replay<S: Source, K: Sink, D: Swap>(
 ) -> u8
     requires { machine.old.idle ≡ true }
     ensures ran { (status : Status) × (result ≡ code status) × (i b w : List ℕ) × Ran (S.left source.old) (S.left source.new) (K.stands sink.old) (K.stands sink.new)
-        (record { input = i; taken = b; written = w; stands = StandsFor machine.new.heap; loaded = is_some machine.new.heap; source_rose = Rose (S.faults source.old) (S.faults source.new); swap_rose = machine.new.faults - machine.old.faults })
+        (record { input = i; taken = b; last = S.last source.new; written = w; stands = StandsFor machine.new.heap; loaded = is_some machine.new.heap; source_rose = Rose (S.faults source.old) (S.faults source.new); swap_rose = machine.new.faults - machine.old.faults })
         status }
     ensures read { result ≡ 3 → Rose (S.faults source.old) (S.faults source.new) }
     ensures write { result ≡ 1 → Rose (K.faults sink.old) (K.faults sink.new) }

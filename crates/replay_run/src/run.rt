@@ -2,6 +2,7 @@
 ghost use Rattle.std.specs.Prelude.{◌≡◌, ◌≢◌, ◌⊎◌, ◌≤◌, ◌<◌, ◌-◌, ◌^◌, ◌++◌, List, [], true, false, length, Some, Err, IfErr, OnOk, ℕ};
 ghost use Rattle.outer_ports.specs.Ports.{FailedLast, Gave, IsAtEnd, Rose};
 ghost use Rattle.outer_ports.specs.Buffers.{Gathered};
+ghost use Rattle.line_input.specs.Reader.{no_feed, without_latest};
 ghost use Rattle.input_verdict.specs.Events.{Nothing, event_of};
 ghost use Rattle.input_verdict.specs.Places.{MayDo};
 ghost use Rattle.input_verdict.specs.Verdict.{ending_at};
@@ -18,7 +19,8 @@ use paged_machine::Engine;
 use std::alloc::Global;
 use world_text::Reason;
 
-/// The next line, or a prefix of it that has enough bytes. What is pending is given to the sink before more bytes are taken.
+/// The next line, or a prefix of it that has enough bytes. More bytes are taken only if neither is buffered, one piece after another until one is,
+/// and after what is pending was given to the sink.
 #[inline(always)]
 fn next_line<S: Source, K: Sink>(
     reader: &mut LineReader,
@@ -32,7 +34,8 @@ fn next_line<S: Source, K: Sink>(
     requires most { enough ≤ 32769 }
     ensures given { (piece : List ℕ) × Gave (S.left source.old) (S.left source.new) piece
         × (reader.new.bytes ≡ reader.old.bytes ++ piece) × (reader.old.ended ≡ true → piece ≡ [])
-        × ((piece ≡ []) ⊎ (buffer.new.pending ≡ [])) }
+        × (((piece ≡ []) × (S.last source.new ≡ S.last source.old))
+        ⊎ ((buffer.new.pending ≡ []) × (no_feed (without_latest (S.last source.new) reader.new.bytes) ≡ true))) }
     ensures gathered { Gathered (K.stands sink.old) (K.stands sink.new) buffer.new.pending buffer.old.pending }
     ensures end { reader.new.ended ≡ true → IsAtEnd (S.left source.new) }
     ensures once { reader.old.ended ≡ true → reader.new.ended ≡ true }
@@ -85,7 +88,7 @@ pub fn run_trace<S: Source, K: Sink, E: Engine>(
     requires pending { buffer.old.pending ≡ [] }
     requires idle { E.is_idle engine.old }
     ensures ran { (i b w : List ℕ) × RanTo (S.left source.old) (S.left source.new) (K.stands sink.old) (K.stands sink.new)
-        (record { input = i; taken = b; written = w; stands = E.stands engine.new; loaded = E.loaded engine.new; source_rose = Rose (S.faults source.old) (S.faults source.new); swap_rose = E.faults engine.new - E.faults engine.old })
+        (record { input = i; taken = b; last = S.last source.new; written = w; stands = E.stands engine.new; loaded = E.loaded engine.new; source_rose = Rose (S.faults source.old) (S.faults source.new); swap_rose = E.faults engine.new - E.faults engine.old })
         buffer.new.pending result }
     ensures read { IfErr result (λ stop. stop ≡ Stop.Tell RunError.Read → Rose (S.faults source.old) (S.faults source.new)) }
     ensures write { IfErr result (λ stop. stop ≡ Stop.Write → Rose (K.faults sink.old) (K.faults sink.new)) }

@@ -42,7 +42,7 @@ pub fn run_lispm<S: Source, K: Sink, D: Swap>(
     // The run on an input is as its status says, and the heap has the meaning of the state after its commands.
     ensures ran { mode_of words.now ≡ Some Mode.Replay → ((status : Status) × (result ≡ code status)
         × (i b w : List ℕ) × Ran (S.left source.old) (S.left source.new) (K.stands sink.old) (K.stands sink.new)
-        (record { input = i; taken = b; written = w; stands = MeansFor machine.new.heap; loaded = is_some machine.new.heap; source_rose = Rose (S.faults source.old) (S.faults source.new); swap_rose = machine.new.faults - machine.old.faults })
+        (record { input = i; taken = b; last = S.last source.new; written = w; stands = MeansFor machine.new.heap; loaded = is_some machine.new.heap; source_rose = Rose (S.faults source.old) (S.faults source.new); swap_rose = machine.new.faults - machine.old.faults })
         status) }
 
     // For the generated input the replies are those of a run, too. Their summary is written.
@@ -75,7 +75,7 @@ pub fn run_lispm<S: Source, K: Sink, D: Swap>(
 
     // In an input without a dump, memory can run out only before the first command.
     ensures early { (i : List ℕ) → mode_of words.now ≡ Some Mode.Replay → S.left source.old ≡ Some i → All (λ command. command ≢ Dump) (verdict i).read.commands
-        → result ≡ 5 → IsEarly i (S.left source.new) (K.stands sink.old) (K.stands sink.new) (is_some machine.new.heap) }
+        → result ≡ 5 → IsEarly i (S.left source.new) (S.last source.new) (K.stands sink.old) (K.stands sink.new) (is_some machine.new.heap) }
 
     // If no world was read before the first line with trouble, or before the source failed, the machine is unchanged.
     ensures unopened { (i : List ℕ) → mode_of words.now ≡ Some Mode.Replay → S.left source.old ≡ Some i → HasNoWorld i → machine.new ≡ machine.old }

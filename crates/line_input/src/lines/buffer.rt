@@ -60,6 +60,7 @@ pub fn take_behind<S: Source>(
     ensures given { IfOk result (λ n. (piece : List ℕ) × Gave (S.left source.old) (S.left source.new) piece × (length piece ≡ n)
         × (take (end + n - start) (drop start buffer.new) ≡ take (end - start) (drop start buffer.old) ++ piece)) }
     ensures end { IfOk result (λ n. n ≡ 0 → IsAtEnd (S.left source.new)) }
+    ensures last { IfOk result (λ n. S.last source.new ≡ n) }
     ensures err { OnErr result (S.left source.new ≡ S.left source.old) }
     ensures same { OnErr result (take (end - start) (drop start buffer.new) ≡ take (end - start) (drop start buffer.old)) }
     ensures cause { HasCause (S.faults source.old) (S.faults source.new) result }

@@ -1,7 +1,7 @@
 //! Reading lines through one buffer.
-ghost use Rattle.std.specs.Prelude.{◌≡◌, ◌<◌, ◌≤◌, ◌++◌, ℕ, List, [], true, false, length, take, drop, MatchOption, IfOk, IfSome, OnOk, OnErr};
+ghost use Rattle.std.specs.Prelude.{◌≡◌, ◌⊎◌, ◌<◌, ◌≤◌, ◌++◌, ℕ, List, [], true, false, length, take, drop, MatchOption, IfOk, IfSome, OnOk, OnErr};
 ghost use Rattle.outer_ports.specs.Ports.{Gave, HasCause, IsAtEnd};
-ghost use Rattle.line_input.specs.Reader.{FitsIn, IsFound, IsNext, IsPart, no_feed};
+ghost use Rattle.line_input.specs.Reader.{FitsIn, IsFound, IsNext, IsPart, no_feed, without_latest};
 
 use crate::lines::buffer::{feed_from, make_room, take_behind};
 use crate::lines::found::Found;
@@ -105,7 +105,7 @@ impl LineReader {
     fn more<S: Source>(&mut self, source: &mut S) -> Result<(), SourceFault>
         requires room { length self.old.bytes < 32769 }
         ensures given { IfOk result (λ _. (piece : List ℕ) × Gave (S.left source.old) (S.left source.new) piece
-            × (self.new.bytes ≡ self.old.bytes ++ piece)) }
+            × (self.new.bytes ≡ self.old.bytes ++ piece) × (length piece ≡ S.last source.new)) }
         ensures end { OnOk result (self.new.ended ≡ true → IsAtEnd (S.left source.new)) }
         ensures goes_on { OnOk result (self.new.ended ≡ false → length self.old.bytes < length self.new.bytes) }
         ensures short { length self.new.bytes ≤ 32769 }
@@ -124,7 +124,7 @@ impl LineReader {
     }
 
     /// The next line, or a prefix of it that has `enough` bytes, from 1 to 32,769; or none at the end of the input. If one is buffered, no
-    /// more bytes are taken. If the source fails, so does the call: then the bytes taken are buffered, and are neither a line nor `enough`.
+    /// more bytes are taken; otherwise one piece after another is, until one is buffered. If the source fails, so does the call: then the bytes taken are buffered, and are neither a line nor `enough`.
     pub fn next<S: Source>(
         &mut self,
         source: &mut S,
@@ -135,6 +135,8 @@ impl LineReader {
         requires most { enough ≤ 32769 }
         ensures given { (piece : List ℕ) × Gave (S.left source.old) (S.left source.new) piece
             × (self.new.bytes ≡ self.old.bytes ++ piece) × (self.old.ended ≡ true → piece ≡ []) }
+        ensures latest { ((self.new.bytes ≡ self.old.bytes) × (S.last source.new ≡ S.last source.old))
+            ⊎ (no_feed (without_latest (S.last source.new) self.new.bytes) ≡ true) }
         ensures end { self.new.ended ≡ true → IsAtEnd (S.left source.new) }
         ensures once { self.old.ended ≡ true → self.new.ended ≡ true }
         ensures short { length self.new.bytes ≤ 32769 }

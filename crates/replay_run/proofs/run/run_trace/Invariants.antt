@@ -6,7 +6,7 @@ use Rattle.replay_run.proofs.run.run_trace.Given as goal
 
 abbrev pub invariant-loop-found : goal.invariant-loop-found
 invariant-loop-found g l = record {
-  going : Going (g.S.Source.left l.fn.source) (g.S.Source.left l.source) (g.K.Sink.stands l.fn.sink) (g.K.Sink.stands l.sink) (g.E.Engine.stands l.engine) (g.E.Engine.takes l.engine) (g.E.Engine.is_idle l.engine × (l.engine ≡ l.fn.engine))
+  going : Going (g.S.Source.left l.fn.source) (g.S.Source.left l.source) (g.S.Source.last l.source) (g.K.Sink.stands l.fn.sink) (g.K.Sink.stands l.sink) (g.E.Engine.stands l.engine) (g.E.Engine.takes l.engine) (g.E.Engine.is_idle l.engine × (l.engine ≡ l.fn.engine))
       (g.E.Engine.faults l.fn.engine) (g.E.Engine.faults l.engine) l.place l.reader l.buffer.pending;
   place : IsPlace l.place;
   end : l.reader.ended ≡ true → IsAtEnd (g.S.Source.left l.source);

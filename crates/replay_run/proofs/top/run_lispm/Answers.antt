@@ -16,7 +16,7 @@ pub returns-in-Ok-Some-Replay-clause-ran : goal.returns-in-Ok-Some-Replay-clause
 returns-in-Ok-Some-Replay-clause-ran g c = λ _.
     let status = c.answer_input.result in
     let heap = c.answer_input.new.engine.heap in
-    let r = ran_as (StandsFor heap) (MeansFor heap) (means_for heap) _ _ _ _ _ _ status c.answer_input.ensures.ran in
+    let r = ran_as (StandsFor heap) (MeansFor heap) (means_for heap) _ _ _ _ _ _ _ status c.answer_input.ensures.ran in
     (status, c.code.ensures, r.0, r.1, r.2, r.3)
 
 pub returns-in-Err-clause-ran : goal.returns-in-Err-clause-ran
@@ -50,18 +50,18 @@ returns-in-Ok-Some-Replay-clause-complete g c = λ i asks tells whole none_read 
     let e = c.answer_input.ensures in
     let status = c.answer_input.result in
     completes c.code.result none_read none_write none_swap (λ is. e.read (failed_read status (sym c.code.ensures ∙ is))) (λ is. e.write (failed_write status (sym c.code.ensures ∙ is)))
-    (λ is. e.swap (failed_swap status (sym c.code.ensures ∙ is))) _ _ _ _ status i c.code.ensures e.ran tells whole
+    (λ is. e.swap (failed_swap status (sym c.code.ensures ∙ is))) _ _ _ _ _ status i c.code.ensures e.ran tells whole
 
 pub returns-in-Ok-Some-Replay-clause-refused : goal.returns-in-Ok-Some-Replay-clause-refused
 returns-in-Ok-Some-Replay-clause-refused g c = λ i trouble asks tells breaks none_read none_write none_swap.
     let e = c.answer_input.ensures in
     let status = c.answer_input.result in
     breaks_off c.code.result none_read none_write none_swap (λ is. e.read (failed_read status (sym c.code.ensures ∙ is))) (λ is. e.write (failed_write status (sym c.code.ensures ∙ is)))
-    (λ is. e.swap (failed_swap status (sym c.code.ensures ∙ is))) _ _ _ _ status i trouble c.code.ensures e.ran tells breaks
+    (λ is. e.swap (failed_swap status (sym c.code.ensures ∙ is))) _ _ _ _ _ status i trouble c.code.ensures e.ran tells breaks
 
 pub returns-in-Ok-Some-Replay-clause-early : goal.returns-in-Ok-Some-Replay-clause-early
 returns-in-Ok-Some-Replay-clause-early g c = λ i asks tells others five.
-    runs_out_early _ _ _ _ c.code.result c.answer_input.result i c.code.ensures c.answer_input.ensures.ran tells others five
+    runs_out_early _ _ _ _ _ c.code.result c.answer_input.result i c.code.ensures c.answer_input.ensures.ran tells others five
 
 pub returns-in-Err-clause-refused : goal.returns-in-Err-clause-refused
 returns-in-Err-clause-refused g c = λ i trouble asks tells breaks none_read none_write none_swap.
@@ -72,7 +72,7 @@ returns-in-Err-clause-early g c = λ i asks tells others five.
     let status = c.report-in-Err.result in
     let ran = ran_finish {source_rose = ⊥} c.args.machine.now.faults c.args.machine.now.faults (Err (Tell Memory)) status (λ e. absurd (cc (e))) (λ e. absurd (cc (e)))
     (ran_nothing (g.S.Source.left c.args.source.now) (MeansFor c.args.machine.now.heap) (c.args.machine.now.faults - c.args.machine.now.faults) (omega arith) (c.idle_has_no_world.ensures c.requires)) c.report-in-Err.ensures.wrote in
-    runs_out_early _ _ _ _ c.code-in-Err.result status i c.code-in-Err.ensures ran tells others five
+    runs_out_early _ _ _ _ _ c.code-in-Err.result status i c.code-in-Err.ensures ran tells others five
 
 pub returns-in-Ok-Some-Replay-clause-unopened : goal.returns-in-Ok-Some-Replay-clause-unopened
 returns-in-Ok-Some-Replay-clause-unopened g c = λ i asks tells none. c.answer_input.ensures.unopened i tells none
