@@ -21,7 +21,7 @@ use Rattle.byte_run.specs.Answered.{Does, ShowsFor}
 pub does_of : (mode : Option Mode) {input written left old : List ℕ} {last : ℕ} (machine : Holding) (rose number : ℕ) → old ≡ []
     → (mode ≡ Some M.Replay → (status : Status) × (number ≡ code status) × (i b w : List ℕ) × Ran (Some input) (Some left) (λ had. old ≡ had) (λ had. written ≡ had) (observes i b last w (MeansFor machine.heap) (is_some machine.heap) (Rose 0 0) rose) status)
     → ((seed count : ℕ) → mode ≡ Some (M.Exercise seed count) → (status : Status) × (number ≡ code status) × Exercised seed count (λ had. old ≡ had) (λ had. written ≡ had) (MeansFor machine.heap) (is_some machine.heap) rose status)
-    → ((asked : FileMode) → mode ≡ Some (M.OfFile asked) → (status : Status) × (number ≡ code status) × files.Ran asked (Some input) (Some left) (λ had. old ≡ had) (λ had. written ≡ had) status)
+    → ((asked : FileMode) → mode ≡ Some (M.OfFile asked) → (status : Status) × (number ≡ code status) × files.Ran asked (Some input) (Some left) (λ had. old ≡ had) (λ had. written ≡ had) (Rose 0 0) status)
     → (mode ≡ None → (status : Status) × (number ≡ code status) × Refused (λ had. old ≡ had) (λ had. written ≡ had) status)
     → (status : Status) × (number ≡ code status) × Does mode input written status
 does_of (Some M.Replay) {input} {written} {left} {last = last} machine rose number none ran exercised asked usage =
@@ -32,7 +32,7 @@ does_of (Some (M.Exercise seed count)) {written = written} machine rose number n
     (r.0, r.1, (machine, rose, subst (λ o. Exercised seed count (λ had. o ≡ had) (λ had. written ≡ had) (MeansFor machine.heap) (is_some machine.heap) rose r.0) none r.2))
 does_of (Some (M.OfFile mode)) {input} {written} {left} machine rose number none ran exercised asked usage =
     let r = asked mode refl in
-    (r.0, r.1, (left, subst (λ o. files.Ran mode (Some input) (Some left) (λ had. o ≡ had) (λ had. written ≡ had) r.0) none r.2))
+    (r.0, r.1, (left, subst (λ o. files.Ran mode (Some input) (Some left) (λ had. o ≡ had) (λ had. written ≡ had) (Rose 0 0) r.0) none r.2))
 does_of None {written = written} machine rose number none ran exercised asked usage =
     let r = usage refl in
     (r.0, r.1, subst (λ o. Refused (λ had. o ≡ had) (λ had. written ≡ had) r.0) none r.2)

@@ -37,7 +37,7 @@ Does (Some M.Replay) input written status =
     (record { input = i; taken = b; last = last; written = w; stands = MeansFor machine.heap; loaded = is_some machine.heap; source_rose = Rose 0 0; swap_rose = rose }) status
 Does (Some (M.Exercise number count)) input written status =
     (machine : Holding) × (rose : ℕ) × Exercised number count (λ had. [] ≡ had) (λ had. written ≡ had) (MeansFor machine.heap) (is_some machine.heap) rose status
-Does (Some (M.OfFile mode)) input written status = (left : List ℕ) × files.Ran mode (Some input) (Some left) (λ had. [] ≡ had) (λ had. written ≡ had) status
+Does (Some (M.OfFile mode)) input written status = (left : List ℕ) × files.Ran mode (Some input) (Some left) (λ had. [] ≡ had) (λ had. written ≡ had) (Rose 0 0) status
 Does None input written status = Refused (λ had. [] ≡ had) (λ had. written ≡ had) status
 
 -- For these arguments and this input `lispm` writes this and ends with this status.

@@ -44,8 +44,8 @@ pub record WasAnswered (mode : FileMode) (left left' : Option (List ℕ)) (outco
   pub rest : i ≡ b ++ unwrap_or left' []
   pub right : IsOutcome mode i b outcome
 
--- A run that ended with this status: i is the file, and b what the source gave of it. If the source doesn't report what remains, the file is what it gave. The sink gained the text of the outcome, and the status is that of the outcome; or the sink failed, and gained a prefix of the text.
-pub record Ran (mode : FileMode) (left left' : Option (List ℕ)) (held held' : List ℕ → Type 0) (status : Status) : Type 0 where
+-- A run that ended with this status: i is the file, and b what the source gave of it. If the source doesn't report what remains, the file is what it gave. The outcome reports a failed source only if the source's count of failed calls rose. The sink gained the text of the outcome, and the status is that of the outcome; or the sink failed, and gained a prefix of the text.
+pub record Ran (mode : FileMode) (left left' : Option (List ℕ)) (held held' : List ℕ → Type 0) (source_rose : Type 0) (status : Status) : Type 0 where
   pub i : List ℕ
   pub b : List ℕ
   pub input : IfSome left (λ bytes. bytes ≡ i)
@@ -53,4 +53,5 @@ pub record Ran (mode : FileMode) (left left' : Option (List ℕ)) (held held' : 
   pub rest : i ≡ b ++ unwrap_or left' []
   pub outcome : Result (List ℕ) FileError
   pub right : IsOutcome mode i b outcome
+  pub cause : IsCaused source_rose outcome
   pub wrote : Closed held held' (outcome_text outcome) (outcome_status outcome) status

@@ -5,7 +5,7 @@ ghost use Rattle.line_input.specs.declared.statuses.status.Status.TheVariants.{R
 ghost use Rattle.line_input.specs.declared.statuses.status.RunError.TheVariants.{Read};
 ghost use Rattle.line_input.specs.Statuses.{Closed};
 ghost use Rattle.file_modes.specs.declared.trouble.FileError.TheVariants.{Input};
-ghost use Rattle.file_modes.specs.Outcome.{IsCaused, Ran, WasAnswered, outcome_status, outcome_text};
+ghost use Rattle.file_modes.specs.Outcome.{Ran, WasAnswered, outcome_status, outcome_text};
 
 use crate::mode::text_of;
 use crate::read::read_file;
@@ -58,11 +58,8 @@ pub fn run_mode<S: Source, K: Sink>(
     source: &mut S,
     sink: &mut K,
 ) -> Status
-    ensures ran { Ran mode (S.left source.old) (S.left source.new) (K.stands sink.old) (K.stands sink.new) result }
-
-    // The same run: its outcome reports a failed source only if the source's count of failed calls rose, also if the sink fails in that report.
-    ensures cause { (ran : Ran mode (S.left source.old) (S.left source.new) (K.stands sink.old) (K.stands sink.new) result)
-        × IsCaused (Rose (S.faults source.old) (S.faults source.new)) ran.outcome }
+    ensures ran { Ran mode (S.left source.old) (S.left source.new) (K.stands sink.old) (K.stands sink.new)
+        (Rose (S.faults source.old) (S.faults source.new)) result }
 
     // A status reports a device's failure only if the device's count of failed calls rose. Otherwise the count is unchanged.
     ensures read { result ≡ read_failed → Rose (S.faults source.old) (S.faults source.new) }

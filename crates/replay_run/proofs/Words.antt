@@ -14,7 +14,7 @@ all_left : (left : Option (List ℕ)) → IfSome left (λ bytes. bytes ≡ unwra
 all_left None = tt
 all_left (Some bytes) = refl
 
-pub unread_file : {held held' : List ℕ → Type 0} (mode : FileMode) (left : Option (List ℕ)) (status : Status) → Closed held held' (trouble_line Memory) NoMemory status → Ran mode left left held held' status
+pub unread_file : {held held' : List ℕ → Type 0} {source_rose : Type 0} (mode : FileMode) (left : Option (List ℕ)) (status : Status) → Closed held held' (trouble_line Memory) NoMemory status → Ran mode left left held held' source_rose status
 unread_file mode left status told = record {
   i = unwrap_or left [];
   b = [];
@@ -23,5 +23,6 @@ unread_file mode left status told = record {
   rest = refl;
   outcome = Err (Input Memory);
   right = tt;
+  cause = λ e. absurd (cc (e));
   wrote = told;
 }

@@ -52,7 +52,8 @@ pub fn run_lispm<S: Source, K: Sink, D: Swap>(
 
     // For a file, what the mode requests of its world is written, or an error line.
     ensures asked { (mode : FileMode) → mode_of words.now ≡ Some (Mode.OfFile mode) → ((status : Status) × (result ≡ code status)
-        × files.Ran mode (S.left source.old) (S.left source.new) (K.stands sink.old) (K.stands sink.new) status) }
+        × files.Ran mode (S.left source.old) (S.left source.new) (K.stands sink.old) (K.stands sink.new)
+        (Rose (S.faults source.old) (S.faults source.new)) status) }
 
     // All other arguments are refused, and no others.
     ensures usage { mode_of words.now ≡ None → ((status : Status) × (result ≡ code status)

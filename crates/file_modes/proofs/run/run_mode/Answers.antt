@@ -1,23 +1,18 @@
 use Rattle.file_modes.proofs.Telling.{closed_quiet, closed_read}
 use Rattle.file_modes.proofs.run.run_mode.Goals as goal
 
-pub returns-clause-cause : goal.returns-clause-cause
-returns-clause-cause g c = let a = c.answer-answer.ensures.answered in (
-  record {
-    i = a.i;
-    b = a.b;
-    input = a.input;
-    gave = a.gave;
-    rest = a.rest;
-    outcome = c.answer-answer.result;
-    right = a.right;
-    wrote = c.write_answer.ensures.wrote;
-  },
-  c.answer-answer.ensures.read,
-)
-
 pub returns-clause-ran : goal.returns-clause-ran
-returns-clause-ran g c = (returns-clause-cause g c).0
+returns-clause-ran g c = let a = c.answer-answer.ensures.answered in record {
+  i = a.i;
+  b = a.b;
+  input = a.input;
+  gave = a.gave;
+  rest = a.rest;
+  outcome = c.answer-answer.result;
+  right = a.right;
+  cause = c.answer-answer.ensures.read;
+  wrote = c.write_answer.ensures.wrote;
+}
 
 pub returns-clause-read : goal.returns-clause-read
 returns-clause-read g c = closed_read c.answer-answer.result c.write_answer.result _ c.answer-answer.ensures.read c.write_answer.ensures.wrote
