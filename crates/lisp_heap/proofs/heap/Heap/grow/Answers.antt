@@ -119,7 +119,7 @@ returns-clause-unmarked g c fine s stands area charge some =
     let x = c.grow_register-reply.ensures in
     let told = told_behind (contents_of (g.M.Memory.seen c.self.inside.ground.mem) c.self.inside.ground.table c.self.inside.scan c.as_mut_slice-registers.result.now c.self.inside.space (g.M.Memory.faults c.self.inside.ground.mem) (g.M.Memory.resident c.self.inside.ground.mem) (counted g.M.Memory c.self.inside.ground.mem))
     (contents_of (g.M.Memory.seen c.grow_register-reply.new.ground.mem) c.grow_register-reply.new.ground.table c.grow_register-reply.new.scan c.grow_register-reply.new.registers c.self.inside.space (g.M.Memory.faults c.grow_register-reply.new.ground.mem) (g.M.Memory.resident c.grow_register-reply.new.ground.mem) (counted g.M.Memory c.grow_register-reply.new.ground.mem))
-    (shown g.M.Memory c.prepare.new.ground.mem) c.args.steps.now c.grow_register-reply.new.steps (C.Grow c.args.target c.args.wanted) c.grow_register-reply.result refl c.prepare.ensures.faults c.prepare.ensures.taken (λ alone. ap (λ mem. length (g.M.Memory.resident mem)) (c.prepare.ensures.memory alone)) x.tells in
+    (shown g.M.Memory c.prepare.new.ground.mem) c.args.steps.now c.grow_register-reply.new.steps (C.Grow c.args.target c.args.wanted) c.grow_register-reply.result refl c.prepare.ensures.faults c.prepare.ensures.taken (ap length c.prepare.ensures.resident) x.tells in
     let sound_after = (stepped_runs (g.M.Memory.seen c.self.inside.ground.mem) c.self.inside.ground.table c.self.inside.scan c.as_mut_slice-registers.result.now c.self.inside.space (g.M.Memory.faults c.self.inside.ground.mem) (g.M.Memory.resident c.self.inside.ground.mem) (counted g.M.Memory c.self.inside.ground.mem) sound (g.M.Memory.seen c.prepare.new.ground.mem) c.prepare.new.ground.table c.prepare.new.scan c.prepare.ensures.silent
     (g.M.Memory.seen c.grow_register-reply.new.ground.mem) c.grow_register-reply.new.ground.table c.grow_register-reply.new.scan c.grow_register-reply.new.registers c.self.inside.registers c.args.steps.now c.grow_register-reply.new.steps (C.Grow c.args.target c.args.wanted) c.grow_register-reply.result (g.M.Memory.faults c.grow_register-reply.new.ground.mem) (g.M.Memory.resident c.grow_register-reply.new.ground.mem) (counted g.M.Memory c.grow_register-reply.new.ground.mem)
     refl tt x.steps prepared_goes c.known.ensures.1.marked c.as_mut_slice-registers.ensures.value c.as_mut_slice-registers.ensures.len x.registers x.table.form.regions c.prepare.ensures.regions told c.prepare.ensures.done c.prepare.ensures.placed x.scan.some x.scan.grows x.settled
