@@ -69,7 +69,7 @@ none_answered : (stands : State → Type 0) (rose : ℕ) (text : List ℕ) → A
 none_answered stands rose text answered = answered.1
 
 module _ (stands : State → Type 0) (loaded : Bool) (source_rose : Type 0) (rose : ℕ) (result : ℕ) (five : result ≡ 5) (i b : List ℕ) (last : ℕ) (w : List ℕ) (others : All IsOther (verdict i).read.commands) where
-  early_from : (read : Read) (text line : List ℕ) → IsUnloaded loaded read ⊎ BeforeDump i read → line ≡ trouble_line Memory → Answered (world_of read.place) read.commands stands rose text → w ≡ text ++ line → IsAhead (length read.commands) i b
+  early_from : (read : Read) (text line : List ℕ) → IsUnloaded loaded read ⊎ BeforeDump i read → line ≡ trouble_line Memory → Answered (world_of read.place) read.commands stands rose text → w ≡ text ++ line → IsAhead (length read.commands) i b last
       → IsAhead 0 i b last × (w ≡ trouble_line Memory) × (loaded ≡ false)
   early_from read text line (inl e) told answered is far =
       let none : text ≡ [] = none_answered stands rose text (subst (λ (r : Read). Answered (world_of r.place) r.commands stands rose text) e.0 answered) in

@@ -134,7 +134,7 @@ feedless_none n last = ap (λ xs. no_feed (drop n xs)) (take-nil (0 - last)) ∙
 
 -- there was no memory for a buffer
 pub ran_nothing : (left : Option (List ℕ)) {last : ℕ} {held : List ℕ → Type 0} (stands : State → Type 0) {loaded : Bool} {source_rose : Type 0} (rose : ℕ) → rose ≡ 0 → loaded ≡ false → HasStopped left left last held held stands loaded source_rose rose [] (Err (Tell trouble.Memory))
-ran_nothing left stands rose none unloaded = (
+ran_nothing left {last = last} stands rose none unloaded = (
   rest_of left,
   [],
   [],
