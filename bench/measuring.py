@@ -4,19 +4,14 @@ import os
 import resource
 import shutil
 import subprocess
+import sys
 import tempfile
 import time
-from typing import List, NamedTuple, Sequence
+from functools import lru_cache
+from typing import List, Optional, Sequence
 
 TOP = os.path.join(os.path.dirname(os.path.abspath(__file__)), "..")
 PROGRAM = os.path.join(TOP, "crates", "lispm", "out", "lispm")
-
-
-class Run(NamedTuple):
-    """The seconds, the greatest memory in bytes, and the status of one run."""
-    seconds: float
-    memory: int
-    status: int
 
 
 def words_of(text: str) -> argparse.ArgumentParser:
@@ -38,46 +33,53 @@ def counts() -> bool:
     return shutil.which("valgrind") is not None
 
 
-def memory_so_far(process: int, least: int) -> int:
-    """The greatest memory in bytes that a process has used, or `least` if it has ended."""
-    try:
-        with open(f"/proc/{process}/status") as status:
-            told = [line.split()[1] for line in status if line.startswith("VmHWM:")]
-    except OSError:
-        return least
-    return int(told[0]) * 1024 if told else least
+@lru_cache(maxsize=None)
+def gnu_time() -> Optional[str]:
+    """The path of GNU time, which other systems call gtime. Without it, a line says that no memory is measured."""
+    for path in [shutil.which("time"), shutil.which("gtime")]:
+        if path and "GNU" in subprocess.run([path, "--version"], stdout=subprocess.PIPE, stderr=subprocess.STDOUT, text=True).stdout:
+            return path
+    print("no memory is measured, which needs GNU time: apt-get install time", file=sys.stderr)
+    return None
 
 
-def run(command: List[str], text: bytes = b"") -> Run:
-    """Runs a command once on this standard input.
-
-    The greatest memory is read repeatedly from the running process, because the figure that the system gives after its
-    end includes the memory of the parent before the program was started."""
+def seconds(command: List[str], text: bytes = b"") -> float:
+    """The elapsed seconds of one run on this standard input. Ends the script if the status of the run isn't 0."""
     with tempfile.TemporaryFile() as given:
         given.write(text)
         given.seek(0)
-        start, memory = time.perf_counter(), 0
-        child = subprocess.Popen(command, stdin=given, stdout=subprocess.DEVNULL)
-        while child.poll() is None:
-            memory = memory_so_far(child.pid, memory)
-            time.sleep(0.001)
-        return Run(time.perf_counter() - start, memory, child.returncode)
-
-
-def run_well(command: List[str], text: bytes = b"") -> Run:
-    """A run that ends with status 0."""
-    found = run(command, text)
-    if found.status != 0:
-        raise SystemExit(f"{command[0]} ended with status {found.status}")
-    return found
+        start = time.perf_counter()
+        status = subprocess.run(command, stdin=given, stdout=subprocess.DEVNULL).returncode
+        taken = time.perf_counter() - start
+    if status != 0:
+        raise SystemExit(f"{' '.join(command)} ended with status {status}")
+    return taken
 
 
 def processor_seconds(command: List[str], text: bytes = b"") -> float:
     """The processor seconds of one run. Other work on the machine influences them less than the elapsed time."""
     before = resource.getrusage(resource.RUSAGE_CHILDREN)
-    subprocess.run(command, input=text, stdout=subprocess.DEVNULL, check=True)
+    seconds(command, text)
     after = resource.getrusage(resource.RUSAGE_CHILDREN)
     return after.ru_utime + after.ru_stime - before.ru_utime - before.ru_stime
+
+
+def greatest_memory(command: List[str], text: bytes = b"") -> Optional[int]:
+    """The greatest memory of one run in bytes, or None without GNU time.
+
+    The system's figure for a program includes the memory of its parent at the moment when that started it. GNU time has
+    less than a megabyte then, but Python has more than most of the measured programs."""
+    tool = gnu_time()
+    if tool is None:
+        return None
+    with tempfile.NamedTemporaryFile() as told:
+        seconds([tool, "--quiet", "--format=%M", f"--output={told.name}", *command], text)
+        return int(told.read()) * 1024
+
+
+def megabytes(memory: Optional[int]) -> str:
+    """A memory in megabytes, empty if it wasn't measured."""
+    return "" if memory is None else f"{memory / 1e6:.1f}"
 
 
 def instructions(command: List[str], text: bytes = b"", options: Sequence[str] = ()) -> int:

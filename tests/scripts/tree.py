@@ -9,7 +9,7 @@ from typing import List, NamedTuple, Optional
 
 HERE = os.path.dirname(os.path.realpath(__file__))
 TOP = os.path.dirname(os.path.dirname(HERE))
-COPIED = ["bin", "examples", "tools", "man", "tests/run", "tests/lib.py", "tests/scripts", "bench/gate", "bench/lib.py", "VERSION", "CHANGELOG.md", "LICENSE-MIT",
+COPIED = ["bin", "examples", "tools", "man", "tests/run", "tests/lib.py", "tests/scripts", "bench", "VERSION", "CHANGELOG.md", "LICENSE-MIT",
           "LICENSE-APACHE", "crates/lispm_c/lispm.h", "crates/lispm_c/lispm.pc"]
 CRATES = {"low": "", "lispm": "low", "lispm_bands": "low", "lispm_inside": "low", "lispm_c staticlib": "low"}
 # The tree's own commands: what a shell script and Python want, and no `rt`.
