@@ -15,7 +15,7 @@ returns-clause-complete g c = λ fail i taken tells whole none_read none_write n
     let status = c.answer_shown.result in
     let is = c.code-status-2.ensures in
     completes_shown c.code-status-2.result none_read none_write none_swap (λ n. e.read (same_status status ReadFailed (sym is ∙ n))) (λ n. e.write (same_status status WriteFailed (sym is ∙ n))) (λ n. omega (arith, c.idle-machine.ensures.faults, e.swap (same_status status SwapFailed (sym is ∙ n))))
-    _ _ _ _ status i is e.ran tells whole
+    _ _ _ _ _ status i is e.ran tells whole
 
 pub returns-clause-refused : goal.returns-clause-refused
 returns-clause-refused g c = λ fail i trouble taken tells breaks none_read none_write none_swap.
@@ -23,7 +23,7 @@ returns-clause-refused g c = λ fail i trouble taken tells breaks none_read none
     let status = c.answer_shown.result in
     let is = c.code-status-2.ensures in
     breaks_off_shown c.code-status-2.result none_read none_write none_swap (λ n. e.read (same_status status ReadFailed (sym is ∙ n))) (λ n. e.write (same_status status WriteFailed (sym is ∙ n))) (λ n. omega (arith, c.idle-machine.ensures.faults, e.swap (same_status status SwapFailed (sym is ∙ n))))
-    _ _ _ _ status i trouble is e.ran tells breaks
+    _ _ _ _ _ status i trouble is e.ran tells breaks
 
 pub returns-clause-early : goal.returns-clause-early
-returns-clause-early g c = λ fail i taken tells others five. early_shown _ _ _ _ c.code-status-2.result c.answer_shown.result i c.code-status-2.ensures c.answer_shown.ensures.ran tells others five
+returns-clause-early g c = λ fail i taken tells others five. early_shown _ _ _ _ _ c.code-status-2.result c.answer_shown.result i c.code-status-2.ensures c.answer_shown.ensures.ran tells others five
