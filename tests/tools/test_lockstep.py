@@ -18,7 +18,7 @@ OK = "while read -r line; do case $line in trace) go=1 ;; end) exit 0 ;; *) [ $g
 def lockstep(data: str, *driver: str) -> Ended:
     """The result of the tool, without lispm."""
     with with_files(data.encode("latin-1")) as (path,):
-        ended = subprocess.run([LOCKSTEP, "--alone", "--seconds", "20", path, "--", *driver], capture_output=True)
+        ended = subprocess.run([LOCKSTEP, "--alone", "--seconds", "120", path, "--", *driver], capture_output=True)
     return Ended(ended.returncode, ended.stdout.decode("latin-1"), ended.stderr.decode("latin-1"))
 
 
