@@ -44,7 +44,7 @@ pub(crate) fn lowest_bit(bits: &[u64]) -> Option<u32>
 // Makes every bit 0.
 pub(crate) fn clear_words(words: &mut [u64])
     ensures size { length words.new ≡ length words.old }
-    ensures clear { (word : ℕ) → slice_index words.new word ≡ 0 }
+    ensures cleared { (word : ℕ) → slice_index words.new word ≡ 0 }
 {
     for word in 0..words.len() {
         words[word] = 0;

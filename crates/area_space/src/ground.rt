@@ -49,14 +49,14 @@ impl<M: Memory> Ground<M> {
     /// There is always a place if the world keeps the room rule, and the used words of the area
     /// and these are together at most twice its quota.
     pub fn place(&mut self, area: u8, level: u8, words: u32) -> Placed
-        requires some { 0 < words }
-        requires few { words ≤ 2048 }
-        requires area_in { area < areas_of self.old.table }
-        requires level_in { level < levels_of self.old.table }
+        requires at_least { 0 < words }
+        requires at_most { words ≤ 2048 }
+        requires area { area < areas_of self.old.table }
+        requires level { level < levels_of self.old.table }
 
         // There is room for them, and the ground is sound.
         requires room { RoomRule self.old.table }
-        requires within { words_of_area self.old.table area + words ≤ 2 * quota_of self.old.table area }
+        requires in_range { words_of_area self.old.table area + words ≤ 2 * quota_of self.old.table area }
         requires ground { IsGround (view self.old) }
         requires named { NamesNoFree (view self.old) }
 
@@ -64,25 +64,25 @@ impl<M: Memory> Ground<M> {
         ensures end { IsEnd self.new.table (slot_of self.old.table area level) result.at words }
 
         // If no region is opened, nothing changes.
-        ensures same { IfNone result.opened (self.new.table ≡ self.old.table) }
-        ensures behind { IfNone result.opened (M.seen self.new.mem ≡ M.seen self.old.mem) }
+        ensures unchanged { IfNone result.opened (self.new.table ≡ self.old.table) }
+        ensures memory { IfNone result.opened (M.seen self.new.mem ≡ M.seen self.old.mem) }
 
         // A region that is opened was needed, and is the lowest free one.
         ensures table { IfSome result.opened (λ region. self.new.table ≡ opened self.old.table (live (slot_of self.old.table area level)) region) }
-        ensures level { IfSome result.opened (λ region. M.seen self.new.mem ≡ with_level (view self.old).mem.store region level) }
+        ensures opened { IfSome result.opened (λ region. M.seen self.new.mem ≡ with_level (view self.old).mem.store region level) }
         ensures needed { IfSome result.opened (λ _. (last : ℕ) → last_of (chain self.old.table (live (slot_of self.old.table area level))) ≡ Some last
             → 4096 < used_of self.old.table last + words) }
         ensures free { IfSome result.opened (λ region. IsUnclassed self.old.table region) }
         ensures lowest { IfSome result.opened (λ region. (r : ℕ) → r < region → IsUnclassed self.old.table r → ⊥) }
-        ensures start { IfSome result.opened (λ region. result.at ≡ 4096 * region) }
+        ensures begins { IfSome result.opened (λ region. result.at ≡ 4096 * region) }
 
         // What is unchanged in the ground and its memory.
         ensures sound { IsTable self.new.table }
-        ensures ground { IsGround (view self.new) }
-        ensures named { NamesNoFree (view self.new) }
-        ensures held { (page : ℕ) → M.held self.old.mem page → M.held self.new.mem page }
+        ensures stays_ground { IsGround (view self.new) }
+        ensures stays_named { NamesNoFree (view self.new) }
+        ensures stays_held { (page : ℕ) → M.held self.old.mem page → M.held self.new.mem page }
         ensures resident { M.resident self.new.mem ≡ M.resident self.old.mem }
-        ensures faults { M.faults self.new.mem ≡ M.faults self.old.mem }
+        ensures no_fault { M.faults self.new.mem ≡ M.faults self.old.mem }
         ensures taken { M.taken self.new.mem ≡ M.taken self.old.mem }
     {
         match self.table.room(area, level, words) {
@@ -104,16 +104,16 @@ impl<M: Memory> Ground<M> {
     /// last region of a live chain, as `place` returned it. A new charge has to fit the area's quota,
     /// and a moved charge has to be in the old class that it leaves; a reserve is 0.
     pub fn commit(&mut self, placed: &Placed, words: u32, charge: u32, origin: Origin)
-        requires some { 0 < words }
+        requires at_least { 0 < words }
         requires end { (slot : ℕ) × IsEnd self.old.table slot placed.now.at words }
-        requires origin { (slot : ℕ) → IsEnd self.old.table slot placed.now.at words → AllowsOrigin self.old.table slot charge origin }
+        requires allowed { (slot : ℕ) → IsEnd self.old.table slot placed.now.at words → AllowsOrigin self.old.table slot charge origin }
         ensures memory { self.new.mem ≡ self.old.mem }
         ensures table { (slot : ℕ) → IsEnd self.old.table slot placed.now.at words
             → self.new.table ≡ record (committed self.old.table slot placed.now.at words charge origin) { pages = self.new.table.pages } }
         ensures pages { Adds (page_list self.old.table) (page_list self.new.table) (placed.now.at / 256) ((placed.now.at + words - 1) / 256) }
         ensures sound { IsTable self.new.table }
-        ensures ground { IsGround (view self.old) → IsGround (view self.new) }
-        ensures named { NamesNoFree (view self.old) → NamesNoFree (view self.new) }
+        ensures stays_ground { IsGround (view self.old) → IsGround (view self.new) }
+        ensures stays_named { NamesNoFree (view self.old) → NamesNoFree (view self.new) }
     {
         let slot = self.table.slot_at(placed.at / 4096);
         self.table.charge_by(slot, charge, origin);
@@ -123,12 +123,12 @@ impl<M: Memory> Ground<M> {
     /// Makes `words` words of an object in a live region a husk: they remain charged to its class,
     /// but to no object. The caller must ensure that the class is charged at least this much.
     pub fn note_husk(&mut self, at: u32, words: u32)
-        requires inside { (slot : ℕ) × Contains (chain self.old.table (live slot)) (at / 4096) }
-        requires enough { (slot : ℕ) → Contains (chain self.old.table (live slot)) (at / 4096) → words ≤ slice_index self.old.table.charges (live slot) }
+        requires in_range { (slot : ℕ) × Contains (chain self.old.table (live slot)) (at / 4096) }
+        requires at_most { (slot : ℕ) → Contains (chain self.old.table (live slot)) (at / 4096) → words ≤ slice_index self.old.table.charges (live slot) }
         ensures memory { self.new.mem ≡ self.old.mem }
         ensures table { (slot : ℕ) → Contains (chain self.old.table (live slot)) (at / 4096) → self.new.table ≡ husked self.old.table (live slot) words }
-        ensures ground { IsGround (view self.old) → IsGround (view self.new) }
-        ensures named { NamesNoFree (view self.old) → NamesNoFree (view self.new) }
+        ensures stays_ground { IsGround (view self.old) → IsGround (view self.new) }
+        ensures stays_named { NamesNoFree (view self.old) → NamesNoFree (view self.new) }
     {
         self.table.note_husk(at, words);
     }
@@ -140,12 +140,12 @@ impl<M: Memory> Ground<M> {
         requires { (region : ℕ) → IsOld self.old.table region → ⊥ }
         ensures memory { self.new.mem ≡ self.old.mem }
         ensures table { Condemns self.old.table self.new.table what }
-        ensures ground { IsGround (view self.old) → IsGround (view self.new) }
-        ensures named { NamesNoFree (view self.old) → NamesNoFree (view self.new) }
+        ensures stays_ground { IsGround (view self.old) → IsGround (view self.new) }
+        ensures stays_named { NamesNoFree (view self.old) → NamesNoFree (view self.new) }
     {
-        self.table.known();
+        self.table.assert_invariant();
         self.table.condemn(what);
-        self.table.known();
+        self.table.assert_invariant();
     }
 
     /// Makes all old regions free, their words NULL, and their classes' charges 0. Their pages are no longer
@@ -153,14 +153,14 @@ impl<M: Memory> Ground<M> {
     /// one. No swap error occurs.
     pub fn free_old(&mut self)
         requires ground { IsGround (view self.old) }
-        requires old { NamesNoOld (view self.old) }
+        requires in_range { NamesNoOld (view self.old) }
         requires named { NamesNoFree (view self.old) }
         ensures words { ClearsOld (view self.old) (view self.new) }
         ensures resident { M.resident self.new.mem ≡ outside_old self.old.table (M.resident self.old.mem) }
         ensures table { Frees self.old.table self.new.table }
-        ensures ground { IsGround (view self.new) }
-        ensures named { NamesNoFree (view self.new) }
-        ensures faults { M.faults self.new.mem ≡ M.faults self.old.mem }
+        ensures stays_ground { IsGround (view self.new) }
+        ensures stays_named { NamesNoFree (view self.new) }
+        ensures no_fault { M.faults self.new.mem ≡ M.faults self.old.mem }
         ensures taken { M.taken self.new.mem ≡ M.taken self.old.mem }
     {
         let regions = self.table.regions();
@@ -168,20 +168,20 @@ impl<M: Memory> Ground<M> {
             clear_if_old(&mut self.mem, &self.table, region);
         }
         self.table.free_old();
-        self.table.known();
+        self.table.assert_invariant();
     }
 }
 
 // Makes the words of a region NULL, if it is old.
 fn clear_if_old<M: Memory>(mem: &mut M, table: &RegionTable, region: u32)
-    requires inside { region < table.now.regions }
-    requires small { region < 1024 }
+    requires in_range { region < table.now.regions }
+    requires at_most { region < 1024 }
     requires size { length (M.seen mem.old).levels ≡ table.now.regions }
-    ensures clears { IsOld table.now region → Clears (M.seen mem.old) (M.seen mem.new) region }
-    ensures empties { IsOld table.now region → M.resident mem.new ≡ outside region (M.resident mem.old) }
-    ensures same { (IsOld table.now region → ⊥) → M.seen mem.new ≡ M.seen mem.old }
-    ensures stays { (IsOld table.now region → ⊥) → M.resident mem.new ≡ M.resident mem.old }
-    ensures faults { M.faults mem.new ≡ M.faults mem.old }
+    ensures cleared { IsOld table.now region → Clears (M.seen mem.old) (M.seen mem.new) region }
+    ensures resident { IsOld table.now region → M.resident mem.new ≡ outside region (M.resident mem.old) }
+    ensures memory { (IsOld table.now region → ⊥) → M.seen mem.new ≡ M.seen mem.old }
+    ensures unchanged { (IsOld table.now region → ⊥) → M.resident mem.new ≡ M.resident mem.old }
+    ensures no_fault { M.faults mem.new ≡ M.faults mem.old }
     ensures taken { M.taken mem.new ≡ M.taken mem.old }
 {
     if table.is_old(region * 4096) {

@@ -60,7 +60,7 @@ impl PageSet {
     /// Adds the pages from one to another, both included.
     pub fn insert_span(&mut self, from: u32, to: u32)
         requires order { from ≤ to }
-        requires inside { to < self.old.count }
+        requires in_range { to < self.old.count }
         ensures { Adds self.old self.new from to }
     {
         self.insert(from);

@@ -65,7 +65,7 @@ impl RegionTable {
     }
 
     /// What always holds of a table.
-    pub fn known(&self)
+    pub fn assert_invariant(&self)
         ensures { IsTable self.now }
     {
         let _regions = self.regions();
@@ -73,8 +73,8 @@ impl RegionTable {
 
     /// The number of areas, at most 16.
     pub fn areas(&self) -> u32
-        ensures areas { result ≡ areas_of self.now }
-        ensures few { result ≤ 16 }
+        ensures value { result ≡ areas_of self.now }
+        ensures at_most { result ≤ 16 }
     {
         self.areas
     }
@@ -82,7 +82,7 @@ impl RegionTable {
     /// The number of levels, level 0 among them: at most 7.
     pub fn levels(&self) -> u32
         ensures levels { result ≡ levels_of self.now }
-        ensures few { result ≤ 7 }
+        ensures at_most { result ≤ 7 }
     {
         self.top as u32 + 1
     }
@@ -90,17 +90,17 @@ impl RegionTable {
     /// The quota of an area, in words: at most 1,048,576.
     pub fn quota(&self, area: u8) -> u32
         requires { area < areas_of self.now }
-        ensures quota { result ≡ quota_of self.now area }
-        ensures small { result ≤ 1048576 }
+        ensures value { result ≡ quota_of self.now area }
+        ensures at_most { result ≤ 1048576 }
     {
         self.quotas[area as usize]
     }
 
     /// The kind of each area, at most 16.
     pub fn kinds(&self) -> &[AreaKind]
-        ensures kinds { result.now ≡ self.now.kinds }
-        ensures areas { length self.now.kinds ≡ areas_of self.now }
-        ensures few { length self.now.kinds ≤ 16 }
+        ensures value { result.now ≡ self.now.kinds }
+        ensures size { length self.now.kinds ≡ areas_of self.now }
+        ensures at_most { length self.now.kinds ≤ 16 }
     {
         &self.kinds
     }
@@ -109,8 +109,8 @@ impl RegionTable {
     pub fn used(&self, region: u32) -> u32
         requires { region < self.now.regions }
         ensures used { result ≡ used_of self.now region }
-        ensures full { result ≤ 4096 }
-        ensures few { self.now.regions ≤ 1024 }
+        ensures at_most { result ≤ 4096 }
+        ensures regions { self.now.regions ≤ 1024 }
     {
         self.used[region as usize]
     }
@@ -129,9 +129,9 @@ impl RegionTable {
         requires { at / 4096 < self.now.regions }
         ensures none { IfNone result (IsUnclassed self.now (at / 4096)) }
         ensures some { IfSome result (λ class. Contains (chain self.now (class_number self.now class)) (at / 4096)) }
-        ensures area_in { IfSome result (λ class. class.area < areas_of self.now) }
-        ensures level_in { IfSome result (λ class. class.level < levels_of self.now) }
-        ensures stale { IfSome result (λ class. IsTrue class.stale ↔ IsOld self.now (at / 4096)) }
+        ensures area { IfSome result (λ class. class.area < areas_of self.now) }
+        ensures level { IfSome result (λ class. class.level < levels_of self.now) }
+        ensures cases { IfSome result (λ class. IsTrue class.stale ↔ IsOld self.now (at / 4096)) }
     {
         match self.class_at(at / 4096) {
             Some(class) => {
@@ -160,11 +160,11 @@ impl RegionTable {
 
     // The slot of an area and a level.
     fn slot(&self, area: u8, level: u8) -> u32
-        requires area_in { area < areas_of self.now }
-        requires level_in { level < levels_of self.now }
-        ensures slot { result ≡ slot_of self.now area level }
-        ensures inside { result < slots_of self.now }
-        ensures few { result < 112 }
+        requires area { area < areas_of self.now }
+        requires level { level < levels_of self.now }
+        ensures value { result ≡ slot_of self.now area level }
+        ensures in_range { result < slots_of self.now }
+        ensures at_most { result < 112 }
     {
         area as u32 * (self.top as u32 + 1) + level as u32
     }
@@ -172,9 +172,9 @@ impl RegionTable {
     // The class of a region; None if it is free.
     fn class_at(&self, region: u32) -> Option<u32>
         requires { region < self.now.regions }
-        ensures owner { MatchOption result (IsUnclassed self.now region) (λ class. Contains (chain self.now class) region) }
+        ensures cases { MatchOption result (IsUnclassed self.now region) (λ class. Contains (chain self.now class) region) }
         ensures found { (class : ℕ) → Contains (chain self.now class) region → result ≡ Some class }
-        ensures inside { IfSome result (λ class. class < 2 * slots_of self.now) }
+        ensures in_range { IfSome result (λ class. class < 2 * slots_of self.now) }
     {
         self.chains.owner(region)
     }
@@ -182,9 +182,9 @@ impl RegionTable {
     // The slot of a region that is live.
     pub(crate) fn slot_at(&self, region: u32) -> u32
         requires { (slot : ℕ) × Contains (chain self.now (live slot)) region }
-        ensures slot { (slot : ℕ) → Contains (chain self.now (live slot)) region → result ≡ slot }
-        ensures inside { result < slots_of self.now }
-        ensures few { result < 112 }
+        ensures value { (slot : ℕ) → Contains (chain self.now (live slot)) region → result ≡ slot }
+        ensures in_range { result < slots_of self.now }
+        ensures at_most { result < 112 }
         ensures sound { IsTable self.now }
     {
         match self.chains.owner(region) {

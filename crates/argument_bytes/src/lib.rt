@@ -11,7 +11,7 @@ use std::mem;
 
 /// The arguments in these bytes: each one is followed by a NUL byte. None if the last one isn't, or if one isn't UTF-8.
 pub fn arguments_of(alloc: Global, bytes: &[u8]) -> Result<Option<Vec<String>>, AllocError>
-    ensures arguments { IfOk result (λ found. IfSome found (λ words. AreArguments bytes.now (map string_bytes words.items))) }
+    ensures ok { IfOk result (λ found. IfSome found (λ words. AreArguments bytes.now (map string_bytes words.items))) }
     ensures refused { result ≡ Ok None → IsRefused bytes.now }
 {
     let mut words = Vec::new(alloc);

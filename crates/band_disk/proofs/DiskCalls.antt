@@ -3,7 +3,7 @@ use Rattle.std.proofs.Common.{◌≡◌, ℕ, ◌==◌, not, Bool, true, false, 
 use Rattle.std.proofs.lemmas.Bool.Decides.{nat_tests}
 use Rattle.std.proofs.lemmas.List.{nil_from_length}
 use Rattle.band_disk.specs.Disks.{Elapses, Follows, Only, Torn, overwritten}
-use Rattle.band_disk.specs.Logs.{AreWithin, Call, Contents, IsImage, MemoryDisk, Restarted, Synced, Writes, Wrote, accepts, after, after_call, as_read, contents, contents_of, counted, disk_bytes, failed, image_of, image_since, noted, restarted, unsynced, with_writes}
+use Rattle.band_disk.specs.Logs.{AreWithin, Call, DiskContents, IsImage, MemoryDisk, Restarted, Synced, Writes, Wrote, accepts, after, after_call, as_read, contents, contents_of, counted, disk_bytes, failed, image_of, image_since, noted, restarted, unsynced, with_writes}
 use Rattle.band_disk.proofs.Images.{elapses_push, elapses_same, image_left, image_push, image_whole}
 use Rattle.band_disk.proofs.Invariant.{contents_push, writes_are}
 use Rattle.band_disk.proofs.Laying.{with_writes-append}
@@ -40,8 +40,8 @@ contents_same : (old new : MemoryDisk) (call : Call) → Went old new call false
 contents_same old new call w i = contents_of (w.tear i) (w.start i) (w.calls i)
 
 -- images along equal contents
-at_contents : (a b : Contents) (image : List ℕ) → a ≡ b → IsImage a.synced a.writes image → IsImage b.synced b.writes image
-at_contents a b image e is = subst (λ (c : Contents). IsImage c.synced c.writes image) e is
+at_contents : (a b : DiskContents) (image : List ℕ) → a ≡ b → IsImage a.synced a.writes image → IsImage b.synced b.writes image
+at_contents a b image e is = subst (λ (c : DiskContents). IsImage c.synced c.writes image) e is
 
 -- a write
 
@@ -88,5 +88,5 @@ pub restart_durable : (old new : MemoryDisk) (b : Bool) → not (length (unsynce
 restart_durable old new true is w image left =
     at_contents _ _ image (contents_went old new Restarted w) left ∙ sym (ap as_read (contents_went old new Restarted w))
 restart_durable old new false is w image left =
-    let none = ap (λ (c : Contents). c.writes) (contents_same old new Restarted w) ∙ all_synced old is in
+    let none = ap (λ (c : DiskContents). c.writes) (contents_same old new Restarted w) ∙ all_synced old is in
     subst (λ (writes : Writes). IsImage (contents new).synced writes image → image ≡ with_writes (contents new).synced writes) (sym none) (λ same. same) left

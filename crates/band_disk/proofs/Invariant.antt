@@ -6,12 +6,12 @@ use Rattle.band_disk.specs.declared.log.Entry.{Entry}
 use Rattle.band_disk.specs.declared.log.Entry.TheVariants.{Write, Sync, Restart}
 use Rattle.band_disk.specs.declared.log.Log.{Log}
 use Rattle.band_disk.specs.Disks.{overwritten}
-use Rattle.band_disk.specs.Logs.{AreWithin, Call, Contents, MemoryDisk, Restarted, accepts, after_call, counted, noted, failed, Synced, Writes, Wrote, after, as_read, bytes_of, contents_of, left_by, spoiled, unsynced, unsynced_after, with_writes}
+use Rattle.band_disk.specs.Logs.{AreWithin, Call, DiskContents, MemoryDisk, Restarted, accepts, after_call, counted, noted, failed, Synced, Writes, Wrote, after, as_read, bytes_of, contents_of, left_by, spoiled, unsynced, unsynced_after, with_writes}
 use Rattle.band_disk.specs.Entries.{IsLog, IsNoted, calls_of, log_calls, written_size}
 use Rattle.band_disk.specs.Memory.{LogInvariant}
 use Rattle.band_disk.proofs.Laying.{length-overwritten, length-with_writes, spoiled_within, with_writes-append, within_push}
 
-writes_from : (tear : ℕ) (contents : Contents) (calls : List Call) → (fold (after tear) contents calls).writes ≡ fold unsynced_after contents.writes calls
+writes_from : (tear : ℕ) (contents : DiskContents) (calls : List Call) → (fold (after tear) contents calls).writes ≡ fold unsynced_after contents.writes calls
 writes_from tear contents [] = refl
 writes_from tear contents (call ∷ calls) = writes_from tear (after tear contents call) calls
 
@@ -51,7 +51,7 @@ module _ (old : Log) (start bytes synced : List ℕ) (room tear : ℕ) (kept : L
     entries = is.places ∙ kept.entries;
     written = is.space ∙ kept.written;
     read = ap (overwritten at piece) kept.read ∙ sym (with_writes-append (contents_of tear start (log_calls old)).synced (contents_of tear start (log_calls old)).writes ((at, piece) ∷ [])) ∙ ap as_read (sym contents);
-    durable = kept.durable ∙ ap (λ (c : Contents). c.synced) (sym contents);
+    durable = kept.durable ∙ ap (λ (c : DiskContents). c.synced) (sym contents);
     within = subst (AreWithin room synced) (sym unsynced_now) (within_push room synced (unsynced (log_calls old)) at piece kept.within (omega (arith, ap length read_is)) fits);
     size = omega (arith, kept.size, length-overwritten at piece bytes place);
     durable_size = kept.durable_size;
@@ -70,7 +70,7 @@ module _ (old : Log) (start bytes synced : List ℕ) (room tear : ℕ) (kept : L
     entries = is.places ∙ kept.entries;
     written = is.space ∙ kept.written;
     read = leaves ∙ ap (λ (w : Writes). with_writes (after tear (contents_of tear start (log_calls old)) call).synced w) (sym (settles (contents_of tear start (log_calls old)).writes)) ∙ ap as_read (sym contents);
-    durable = leaves ∙ ap (λ (c : Contents). c.synced) (sym contents);
+    durable = leaves ∙ ap (λ (c : DiskContents). c.synced) (sym contents);
     within = subst (AreWithin room left) (sym (ap unsynced is.calls ∙ fold_push unsynced_after [] (log_calls old) call ∙ settles (unsynced (log_calls old)))) tt;
     size = short;
     durable_size = short;

@@ -49,12 +49,12 @@ abbrev pub unsynced : List Call → Writes
 unsynced calls = fold unsynced_after [] calls
 
 -- the bytes as of the last sync or restart, and the writes since
-pub record Contents : Type 0 where
+pub record DiskContents : Type 0 where
   pub synced : List ℕ
   pub writes : Writes
 
 -- the bytes that a read returns: those writes are applied
-abbrev pub as_read : Contents → List ℕ
+abbrev pub as_read : DiskContents → List ℕ
 as_read contents = with_writes contents.synced contents.writes
 
 -- the effect of a restart with this tear on the synced bytes and the writes since: with 0 the writes are lost, with 1 kept, and with 2 or more all their bytes are 255
@@ -64,17 +64,17 @@ left_by tear synced writes =
     else if tear == 1 then with_writes synced writes
     else with_writes synced (spoiled writes)
 
-abbrev pub synced_after : ℕ → Contents → Call → List ℕ
+abbrev pub synced_after : ℕ → DiskContents → Call → List ℕ
 synced_after tear contents (Wrote at piece) = contents.synced
 synced_after tear contents Synced = as_read contents
 synced_after tear contents Restarted = left_by tear contents.synced contents.writes
 
 -- the contents after one more call
-abbrev pub after : ℕ → Contents → Call → Contents
+abbrev pub after : ℕ → DiskContents → Call → DiskContents
 after tear contents call = record { synced = synced_after tear contents call; writes = unsynced_after contents.writes call }
 
 -- the effect of these calls on the bytes at the start
-abbrev pub contents_of : ℕ → List ℕ → List Call → Contents
+abbrev pub contents_of : ℕ → List ℕ → List Call → DiskContents
 contents_of tear start calls = fold (after tear) (record { synced = start; writes = [] }) calls
 
 -- How much of the log the calls use
@@ -107,7 +107,7 @@ pub record MemoryDisk : Type 0 where
 abbrev pub fresh : List ℕ → ℕ → ℕ → ℕ → MemoryDisk
 fresh bytes room stop tear = record { start = bytes; calls = []; room = room; tear = tear; stop = stop; count = 0; stopped = false; faults = 0 }
 
-abbrev pub contents : MemoryDisk → Contents
+abbrev pub contents : MemoryDisk → DiskContents
 contents disk = contents_of disk.tear disk.start disk.calls
 
 -- the bytes that a read returns

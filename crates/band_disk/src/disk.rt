@@ -38,15 +38,15 @@ pub trait BandDisk {
     /// The number of bytes that the disk has room for: at least its size, and fewer than 2^63. The room never changes.
     fn room(&self) -> u64
         ensures room { result ≡ space self.now }
-        ensures within { length (bytes self.now) ≤ result }
-        ensures below { result < 2 ^ 63 };
+        ensures at_least { length (bytes self.now) ≤ result }
+        ensures in_range { result < 2 ^ 63 };
 
     /// Reads bytes from this position on until the slice is full. They must be within the size. If the call
     /// fails, the slice may contain any bytes.
     fn read_at(&mut self, at: u64, into: &mut [u8]) -> Result<(), DiskFault>
         requires { at + length into.old ≤ length (bytes self.old) }
         ensures read { OnOk result (into.new ≡ take (length into.old) (drop at (bytes self.old))) }
-        ensures stays { bytes self.new ≡ bytes self.old }
+        ensures unchanged { bytes self.new ≡ bytes self.old }
         ensures space { space self.new ≡ space self.old }
         ensures images { (image : List ℕ) → images self.new image → images self.old image }
         ensures time { Elapses (clock self.old) (clock self.new) (images_since self.old) (images_since self.new) (images self.new) }
@@ -57,7 +57,7 @@ pub trait BandDisk {
     /// its end, and the bytes within the room. Until a sync, a crash may leave any bytes in their range, even
     /// if the call failed. After a call that failed, no clause says what a read returns.
     fn write_at(&mut self, at: u64, from: &[u8]) -> Result<(), DiskFault>
-        requires place { at ≤ length (bytes self.old) }
+        requires at_most { at ≤ length (bytes self.old) }
         requires room { at + length from.now ≤ space self.old }
         ensures written { OnOk result (bytes self.new ≡ overwritten at from.now (bytes self.old)) }
         ensures space { space self.new ≡ space self.old }
@@ -69,7 +69,7 @@ pub trait BandDisk {
     /// Makes what was written survive a crash. If the call fails, each post-crash state that was possible may still be.
     fn sync(&mut self) -> Result<(), DiskFault>
         ensures durable { OnOk result (Only (bytes self.old) (images self.new)) }
-        ensures stays { bytes self.new ≡ bytes self.old }
+        ensures unchanged { bytes self.new ≡ bytes self.old }
         ensures space { space self.new ≡ space self.old }
         ensures images { (image : List ℕ) → images self.new image → images self.old image }
         ensures time { Elapses (clock self.old) (clock self.new) (images_since self.old) (images_since self.new) (images self.new) }
@@ -78,11 +78,11 @@ pub trait BandDisk {
 
     /// Crashes the disk and restarts it: it becomes one of its images, with everything synced. It reports no failure, so it counts none.
     fn restart(&mut self)
-        ensures image { images self.old (bytes self.new) }
+        ensures images { images self.old (bytes self.new) }
         ensures durable { Only (bytes self.new) (images self.new) }
         ensures space { space self.new ≡ space self.old }
         ensures time { Elapses (clock self.old) (clock self.new) (images_since self.old) (images_since self.new) (images self.new) }
-        ensures quiet { faults self.new ≡ faults self.old }
+        ensures no_fault { faults self.new ≡ faults self.old }
         ensures changes { changes self.new ≡ changes self.old };
 
     /// The present moment is one of those since an earlier moment.

@@ -32,7 +32,7 @@ pub struct Log {
 /// Writes the pieces of these entries over the bytes.
 fn lay_writes(bytes: &mut Vec<u8>, entries: &[Entry], written: &[u8])
     requires size { written_size entries.now ≡ length written.now }
-    requires within { AreWithin (vec_capacity bytes.old) bytes.old.items (writes_in (calls_of entries.now written.now)) }
+    requires in_range { AreWithin (vec_capacity bytes.old) bytes.old.items (writes_in (calls_of entries.now written.now)) }
     ensures items { bytes.new.items ≡ with_writes bytes.old.items (writes_in (calls_of entries.now written.now)) }
     ensures capacity { vec_capacity bytes.old ≤ vec_capacity bytes.new }
 {
@@ -49,7 +49,7 @@ fn lay_writes(bytes: &mut Vec<u8>, entries: &[Entry], written: &[u8])
 /// Writes the byte 255 to each place that these entries wrote.
 fn spoil_writes(bytes: &mut Vec<u8>, entries: &[Entry], written: &[u8])
     requires size { written_size entries.now ≡ length written.now }
-    requires within { AreWithin (vec_capacity bytes.old) bytes.old.items (spoiled (writes_in (calls_of entries.now written.now))) }
+    requires in_range { AreWithin (vec_capacity bytes.old) bytes.old.items (spoiled (writes_in (calls_of entries.now written.now))) }
     ensures items { bytes.new.items ≡ with_writes bytes.old.items (spoiled (writes_in (calls_of entries.now written.now))) }
     ensures capacity { vec_capacity bytes.old ≤ vec_capacity bytes.new }
 {
@@ -66,7 +66,7 @@ fn spoil_writes(bytes: &mut Vec<u8>, entries: &[Entry], written: &[u8])
 impl Log {
     /// An empty log with room for this many entries and bytes.
     pub fn new(alloc: Global, places: usize, space: usize) -> Result<Log, AllocError>
-        ensures log { IfOk result IsLog }
+        ensures sound { IfOk result IsLog }
         ensures calls { IfOk result (λ log. log_calls log ≡ []) }
         ensures size { IfOk result (λ log. (log.places ≡ places) × (log.space ≡ space)) }
     {
@@ -93,18 +93,18 @@ impl Log {
     /// Whether nothing was written since the last sync or restart.
     pub fn is_synced(&self) -> bool
         requires { IsLog self.now }
-        ensures synced { result ≡ (length (unsynced (log_calls self.now)) == 0) }
-        ensures kept { result ≡ false → self.now.first < vec_len self.now.entries }
+        ensures value { result ≡ (length (unsynced (log_calls self.now)) == 0) }
+        ensures in_range { result ≡ false → self.now.first < vec_len self.now.entries }
     {
         self.first == self.entries.len()
     }
 
     /// Logs a write. It reserves an entry for a restart after it.
     pub fn note_write(&mut self, at: u32, piece: &[u8])
-        requires log { IsLog self.old }
+        requires sound { IsLog self.old }
         requires places { sum_by entries_of (log_calls self.old) + 2 ≤ self.old.places }
         requires space { sum_by bytes_of (log_calls self.old) + length piece.now ≤ self.old.space }
-        requires short { length piece.now < 2 ^ 32 }
+        requires at_most { length piece.now < 2 ^ 32 }
         ensures { IsNoted self.old (Wrote at piece.now) self.new }
     {
         put(
@@ -120,7 +120,7 @@ impl Log {
 
     /// Logs a sync.
     pub fn note_sync(&mut self)
-        requires log { IsLog self.old }
+        requires sound { IsLog self.old }
         requires places { sum_by entries_of (log_calls self.old) + 1 ≤ self.old.places }
         ensures { IsNoted self.old Synced self.new }
     {
@@ -132,8 +132,8 @@ impl Log {
 
     /// Logs a restart. A write since the last sync or restart reserved an entry for it.
     pub fn note_restart(&mut self)
-        requires log { IsLog self.old }
-        requires kept { self.old.first < vec_len self.old.entries }
+        requires sound { IsLog self.old }
+        requires in_range { self.old.first < vec_len self.old.entries }
         ensures { IsNoted self.old Restarted self.new }
     {
         put(&mut self.entries, Entry::Restart);
@@ -143,8 +143,8 @@ impl Log {
 
     /// Makes the writes that weren't synced.
     pub fn lay(&self, bytes: &mut Vec<u8>)
-        requires log { IsLog self.now }
-        requires within { AreWithin (vec_capacity bytes.old) bytes.old.items (unsynced (log_calls self.now)) }
+        requires sound { IsLog self.now }
+        requires in_range { AreWithin (vec_capacity bytes.old) bytes.old.items (unsynced (log_calls self.now)) }
         ensures items { bytes.new.items ≡ with_writes bytes.old.items (unsynced (log_calls self.now)) }
         ensures capacity { vec_capacity bytes.old ≤ vec_capacity bytes.new }
     {
@@ -157,8 +157,8 @@ impl Log {
 
     /// Writes the byte 255 to each place of the writes that weren't synced.
     pub fn spoil(&self, bytes: &mut Vec<u8>)
-        requires log { IsLog self.now }
-        requires within { AreWithin (vec_capacity bytes.old) bytes.old.items (spoiled (unsynced (log_calls self.now))) }
+        requires sound { IsLog self.now }
+        requires in_range { AreWithin (vec_capacity bytes.old) bytes.old.items (spoiled (unsynced (log_calls self.now))) }
         ensures items { bytes.new.items ≡ with_writes bytes.old.items (spoiled (unsynced (log_calls self.now))) }
         ensures capacity { vec_capacity bytes.old ≤ vec_capacity bytes.new }
     {

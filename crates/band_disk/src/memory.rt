@@ -56,8 +56,8 @@ impl Model for BandMemory {
 /// made, and with 2 or more each byte of those writes is 255.
 #[tactic(auto, using(crate::proofs::Laying::spoiled_within))]
 fn leave(log: &Log, tear: u8, synced: &mut Vec<u8>)
-    requires log { IsLog log.now }
-    requires within { AreWithin (vec_capacity synced.old) synced.old.items (unsynced (log_calls log.now)) }
+    requires sound { IsLog log.now }
+    requires in_range { AreWithin (vec_capacity synced.old) synced.old.items (unsynced (log_calls log.now)) }
     ensures items { synced.new.items ≡ left_by tear synced.old.items (unsynced (log_calls log.now)) }
     ensures capacity { vec_capacity synced.old ≤ vec_capacity synced.new }
 {
@@ -117,10 +117,10 @@ impl BandMemory {
     /// Counts a write or sync that needs this many entries and bytes of the log, and returns whether it has to be made. If
     /// not, it failed.
     fn begin(&mut self, entries: usize, bytes: usize) -> bool
-        ensures goes { result ≡ goes self.old entries bytes }
+        ensures value { result ≡ goes self.old entries bytes }
         ensures after { self.new ≡ (if result then counted self.old else failed (counted self.old)) }
-        ensures later { self.old.faults ≤ self.new.faults }
-        ensures within { LiesWithin self.old }
+        ensures never_falls { self.old.faults ≤ self.new.faults }
+        ensures in_range { LiesWithin self.old }
     {
         self.count = self.count.saturating_add(1);
         self.stopped = self.stopped || self.count == u64::from(self.stop);
@@ -147,7 +147,7 @@ impl BandMemory {
     }
 
     fn write(&mut self, at: u32, piece: &[u8]) -> Result<(), DiskFault>
-        requires place { at ≤ length (disk_bytes self.old) }
+        requires at_most { at ≤ length (disk_bytes self.old) }
         requires room { at + length piece.now ≤ self.old.room }
         ensures ok { is_ok result ≡ accepts self.old (Wrote at piece.now) }
         ensures after { self.new ≡ after_call self.old (Wrote at piece.now) }
@@ -165,7 +165,7 @@ impl BandMemory {
         ensures ok { is_ok result ≡ accepts self.old Synced }
         ensures after { self.new ≡ after_call self.old Synced }
         ensures cause { HasCause self.old.faults self.new.faults result }
-        ensures within { LiesWithin self.old }
+        ensures in_range { LiesWithin self.old }
     {
         if !self.begin(1, 0) {
             return Err(DiskFault);
@@ -177,7 +177,7 @@ impl BandMemory {
 
     fn start_again(&mut self)
         ensures after { self.new ≡ restarted self.old }
-        ensures within { LiesWithin self.old }
+        ensures in_range { LiesWithin self.old }
     {
         self.stopped = false;
         if self.log.is_synced() {
@@ -221,7 +221,7 @@ impl BandDisk for BandMemory {
 
         // The clauses of the trait.
         ensures read { OnOk result (into.new ≡ take (length into.old) (drop at (disk_bytes self.old))) }
-        ensures stays { disk_bytes self.new ≡ disk_bytes self.old }
+        ensures unchanged { disk_bytes self.new ≡ disk_bytes self.old }
         ensures space { self.new.room ≡ self.old.room }
         ensures images { (image : List ℕ) → image_of self.new image → image_of self.old image }
         ensures time { Elapses (length self.old.calls) (length self.new.calls) (image_since self.old) (image_since self.new) (image_of self.new) }
@@ -236,7 +236,7 @@ impl BandDisk for BandMemory {
     }
 
     fn write_at(&mut self, at: u64, from: &[u8]) -> Result<(), DiskFault>
-        requires place { at ≤ length (disk_bytes self.old) }
+        requires at_most { at ≤ length (disk_bytes self.old) }
         requires room { at + length from.now ≤ self.old.room }
 
         // The clauses of the trait.
@@ -257,7 +257,7 @@ impl BandDisk for BandMemory {
 
     fn sync(&mut self) -> Result<(), DiskFault>
         ensures durable { OnOk result (Only (disk_bytes self.old) (image_of self.new)) }
-        ensures stays { disk_bytes self.new ≡ disk_bytes self.old }
+        ensures unchanged { disk_bytes self.new ≡ disk_bytes self.old }
         ensures space { self.new.room ≡ self.old.room }
         ensures images { (image : List ℕ) → image_of self.new image → image_of self.old image }
         ensures time { Elapses (length self.old.calls) (length self.new.calls) (image_since self.old) (image_since self.new) (image_of self.new) }
@@ -270,11 +270,11 @@ impl BandDisk for BandMemory {
     }
 
     fn restart(&mut self)
-        ensures image { image_of self.old (disk_bytes self.new) }
+        ensures images { image_of self.old (disk_bytes self.new) }
         ensures durable { Only (disk_bytes self.new) (image_of self.new) }
         ensures space { self.new.room ≡ self.old.room }
         ensures time { Elapses (length self.old.calls) (length self.new.calls) (image_since self.old) (image_since self.new) (image_of self.new) }
-        ensures quiet { self.new.faults ≡ self.old.faults }
+        ensures no_fault { self.new.faults ≡ self.old.faults }
         ensures changes { self.new.count ≡ self.old.count }
         ensures after { self.new ≡ restarted self.old }
     {

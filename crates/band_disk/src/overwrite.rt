@@ -45,7 +45,7 @@ fn fill(bytes: &mut [u8], at: usize, len: usize, byte: u8)
 /// Overwrites the bytes from a position on with a piece, which may reach past their end.
 #[tactic(auto, using(crate::proofs::Overwriting::overwritten_parts))]
 pub fn overwrite(bytes: &mut Vec<u8>, at: usize, piece: &[u8])
-    requires place { at ≤ vec_len bytes.old }
+    requires at_most { at ≤ vec_len bytes.old }
     requires room { at + length piece.now ≤ vec_capacity bytes.old }
     ensures items { bytes.new.items ≡ overwritten at piece.now bytes.old.items }
     ensures capacity { vec_capacity bytes.old ≤ vec_capacity bytes.new }
@@ -58,7 +58,7 @@ pub fn overwrite(bytes: &mut Vec<u8>, at: usize, piece: &[u8])
 /// Sets `len` bytes from a position on to one value; they may reach past the end.
 #[tactic(auto, using(crate::proofs::Overwriting::spoiled_parts))]
 pub fn spoil(bytes: &mut Vec<u8>, at: usize, len: usize, byte: u8)
-    requires place { at ≤ vec_len bytes.old }
+    requires at_most { at ≤ vec_len bytes.old }
     requires room { at + len ≤ vec_capacity bytes.old }
     ensures items { bytes.new.items ≡ overwritten at (replicate len byte) bytes.old.items }
     ensures capacity { vec_capacity bytes.old ≤ vec_capacity bytes.new }

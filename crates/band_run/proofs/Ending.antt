@@ -6,8 +6,8 @@ use Rattle.outer_ports.proofs.Gains.{cut_behind, gained_more, gained_none}
 use Rattle.outer_ports.proofs.Pending.{gathered_nothing}
 use Rattle.line_input.specs.declared.statuses.status.Status.{Status}
 use Rattle.line_input.specs.declared.statuses.status.Status.TheVariants as S
-use Rattle.line_input.specs.declared.statuses.status.Stop.{Stop}
-use Rattle.line_input.specs.declared.statuses.status.Stop.TheVariants.{Write, Tell}
+use Rattle.line_input.specs.declared.statuses.status.RunStop.{RunStop}
+use Rattle.line_input.specs.declared.statuses.status.RunStop.TheVariants.{Write, Tell}
 use Rattle.line_input.specs.declared.statuses.status.RunError.{RunError}
 use Rattle.line_input.specs.declared.statuses.status.RunError.TheVariants as T
 use Rattle.line_input.specs.Statuses.{Closed, Finished, status_of, trouble_line}
@@ -56,7 +56,7 @@ module _ (answers : List BandCommand → List BandCommand → List ℕ → Type 
       all = sym (append_assoc g.given pending line) ∙ ap (λ (w : List ℕ). w ++ line) (sym g.all)
 
   -- the end of a run over commands
-  pub finished : (held held' held'' : List ℕ → Type 0) (pending : List ℕ) (commands : List BandCommand) (outcome : Result (Unit {0}) Stop) (status : Status) → Says i b commands → RanTo answers commands held held' pending outcome → Finished held' held'' pending outcome status
+  pub finished : (held held' held'' : List ℕ → Type 0) (pending : List ℕ) (commands : List BandCommand) (outcome : Result (Unit {0}) RunStop) (status : Status) → Says i b commands → RanTo answers commands held held' pending outcome → Finished held' held'' pending outcome status
       → Writes answers source_rose held held'' status i b
   finished held held' held'' pending commands (Ok _) status says ran f = closed_all S.Done status commands [] ran.0 [] (says, refl, refl) tt ran.1 ran.2 f
   finished held held' held'' pending commands (Err Write) status says ran f = (
@@ -139,7 +139,7 @@ closed_runs text wanted status runs (inr cut) = ap runs_commands cut.0
 pub told_runs : {held held' : List ℕ → Type 0} (status : Status) → Closed held held' (trouble_line T.Memory) (status_of T.Memory) status → runs_commands status ≡ true
 told_runs status closed = closed_runs (trouble_line T.Memory) S.NoMemory status refl closed
 
-pub finished_runs : (answers : List BandCommand → List BandCommand → List ℕ → Type 0) (held held' held'' : List ℕ → Type 0) (pending : List ℕ) (commands : List BandCommand) (outcome : Result (Unit {0}) Stop) (status : Status) → RanTo answers commands held held' pending outcome
+pub finished_runs : (answers : List BandCommand → List BandCommand → List ℕ → Type 0) (held held' held'' : List ℕ → Type 0) (pending : List ℕ) (commands : List BandCommand) (outcome : Result (Unit {0}) RunStop) (status : Status) → RanTo answers commands held held' pending outcome
     → Finished held' held'' pending outcome status → runs_commands status ≡ true
 finished_runs answers held held' held'' pending commands (Ok _) status ran f = closed_runs (pending ++ []) S.Done status refl f
 finished_runs answers held held' held'' pending commands (Err Write) status ran f = ap runs_commands f.0

@@ -4,8 +4,8 @@ use Rattle.std.specs.Prelude.{IfSome}
 use Rattle.std.proofs.lemmas.List.{append-nil}
 use Rattle.outer_ports.specs.Buffers.{Gathered}
 use Rattle.outer_ports.proofs.Pending.{gathered_cut, gathered_more}
-use Rattle.line_input.specs.declared.statuses.status.Stop.{Stop}
-use Rattle.line_input.specs.declared.statuses.status.Stop.TheVariants.{Write, Tell}
+use Rattle.line_input.specs.declared.statuses.status.RunStop.{RunStop}
+use Rattle.line_input.specs.declared.statuses.status.RunStop.TheVariants.{Write, Tell}
 use Rattle.band_store.proofs.band_disk.Moments.{joined, started, weakened}
 use Rattle.band_store.specs.Format.{Holds, Save}
 use Rattle.band_store.specs.Store.{Store}
@@ -133,7 +133,7 @@ module _ {D : Type 0} (bytes : D → List ℕ) (space : D → ℕ) (images : D �
   }
 
   -- a run that stopped at a command
-  pub ran_stopped : (held held' held'' : List ℕ → Type 0) (pending pending' : List ℕ) (old now new : D) (store store' : Store) (commands done later : List BandCommand) (command : BandCommand) (text : List ℕ) (stop : Stop) → commands ≡ done ++ command ∷ later
+  pub ran_stopped : (held held' held'' : List ℕ → Type 0) (pending pending' : List ℕ) (old now new : D) (store store' : Store) (commands done later : List BandCommand) (command : BandCommand) (text : List ℕ) (stop : RunStop) → commands ≡ done ++ command ∷ later
       → GoesOnAnyway bytes space images clock images_since faults changes old now store done text → Gathered held held' pending text → faults now ≤ faults new → Acted bytes space images clock images_since faults changes command store store' now new held' held'' pending pending' (Err stop)
       → RanTo (Answers bytes space images clock images_since faults changes old new) commands held held'' pending' (Err stop)
   ran_stopped held held' held'' pending pending' old now new store store' commands done later command text Write is going first rises a =

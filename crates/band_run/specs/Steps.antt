@@ -2,8 +2,8 @@
 use Rattle.std.specs.Prelude.{◌≡◌, ◌⊎◌, ℕ, ◌+◌, ◌-◌, ◌^◌, ◌<◌, ◌≤◌, List, [], ◌++◌, length, true, false, Result, Ok, Err, IfSome, None}
 use Rattle.outer_ports.specs.Ports.{Gained, IsCut, Rose}
 use Rattle.outer_ports.specs.Buffers.{Gathered}
-use Rattle.line_input.specs.declared.statuses.status.Stop.{Stop}
-use Rattle.line_input.specs.declared.statuses.status.Stop.TheVariants.{Write, Tell}
+use Rattle.line_input.specs.declared.statuses.status.RunStop.{RunStop}
+use Rattle.line_input.specs.declared.statuses.status.RunStop.TheVariants.{Write, Tell}
 use Rattle.line_input.specs.declared.statuses.status.RunError.TheVariants.{Memory}
 use Rattle.band_store.specs.band_disk.Disks.{LeavesOnly}
 use Rattle.band_store.specs.Format.{Save}
@@ -86,7 +86,7 @@ pub record GoesOnAnyway {D : Type 0} (bytes : D → List ℕ) (space : D → ℕ
 
 -- The effect of a command: it was done, and its reply or a prefix of it was gathered; or memory ran out, nothing was gathered, and the disk counted no failed call, no write and no sync.
 abbrev pub Acted : {D : Type 0} → (D → List ℕ) → (D → ℕ) → (D → List ℕ → Type 0) → (D → ℕ) → (D → ℕ → List ℕ → Type 0) → (D → ℕ) → (D → ℕ) → BandCommand → Store → Store → D → D
-    → (List ℕ → Type 0) → (List ℕ → Type 0) → List ℕ → List ℕ → Result (Unit {0}) Stop → Type 0
+    → (List ℕ → Type 0) → (List ℕ → Type 0) → List ℕ → List ℕ → Result (Unit {0}) RunStop → Type 0
 Acted bytes space images clock images_since faults changes command store store' old new held held' had pending (Ok _) =
     (reply : Reply) × Did bytes space images clock images_since command store store' old new (Ok reply) × Tells reply (faults old) (faults new) × Gathered held held' pending (had ++ reply_text reply)
     × Finds command store.opened store'.opened reply × Asks reply (changes old) (changes new)
@@ -98,7 +98,7 @@ Acted bytes space images clock images_since faults changes command store store' 
     (trouble ≡ Memory) × DidNot bytes space images clock images_since store old new × Gathered held held' pending had × (faults new ≡ faults old) × (changes new ≡ changes old)
 
 -- Commands that were run to their end, or until the run stopped: those that were done, the others, and the text of the replies, of which the last bytes are pending. If the sink failed, it gained a prefix of the text.
-abbrev pub RanTo : (List BandCommand → List BandCommand → List ℕ → Type 0) → List BandCommand → (List ℕ → Type 0) → (List ℕ → Type 0) → List ℕ → Result (Unit {0}) Stop → Type 0
+abbrev pub RanTo : (List BandCommand → List BandCommand → List ℕ → Type 0) → List BandCommand → (List ℕ → Type 0) → (List ℕ → Type 0) → List ℕ → Result (Unit {0}) RunStop → Type 0
 RanTo answers commands held held' pending (Ok _) = (text : List ℕ) × answers commands [] text × Gathered held held' pending text
 RanTo answers commands held held' pending (Err Write) =
     (done later : List BandCommand) × (text w : List ℕ) × (commands ≡ done ++ later) × answers done later text × IsCut text w × Gained held held' w

@@ -21,12 +21,12 @@ use world_text::push_number;
 fn open<D: BandDisk>(store: &mut BandStore, disk: &mut D) -> Result<Reply, NoMemory>
     ensures did { Did D.bytes D.space D.images D.clock D.images_since C.Open store.old store.new disk.old disk.new result }
     ensures finds { IfOk result (Finds C.Open store.old.opened store.new.opened) }
-    ensures usable { OnOk result (IsUsable store.new (D.bytes disk.new) (D.images disk.new)) }
-    ensures tells { IfOk result (λ reply. Tells reply (D.faults disk.old) (D.faults disk.new)) }
-    ensures quiet { OnErr result (D.faults disk.new ≡ D.faults disk.old) }
-    ensures asks { IfOk result (λ reply. Asks reply (D.changes disk.old) (D.changes disk.new)) }
-    ensures unasked { OnErr result (D.changes disk.new ≡ D.changes disk.old) }
-    ensures later { D.faults disk.old ≤ D.faults disk.new }
+    ensures sound { OnOk result (IsUsable store.new (D.bytes disk.new) (D.images disk.new)) }
+    ensures accounted { IfOk result (λ reply. Tells reply (D.faults disk.old) (D.faults disk.new)) }
+    ensures no_fault { OnErr result (D.faults disk.new ≡ D.faults disk.old) }
+    ensures changes { IfOk result (λ reply. Asks reply (D.changes disk.old) (D.changes disk.new)) }
+    ensures unchanged { OnErr result (D.changes disk.new ≡ D.changes disk.old) }
+    ensures never_falls { D.faults disk.old ≤ D.faults disk.new }
 {
     disk.restart();
     match store.open(disk) {
@@ -48,12 +48,12 @@ fn save<D: BandDisk>(
     requires { IsUsable store.old (D.bytes disk.old) (D.images disk.old) }
     ensures did { Did D.bytes D.space D.images D.clock D.images_since (C.Save name.now text.now) store.old store.new disk.old disk.new result }
     ensures finds { IfOk result (Finds (C.Save name.now text.now) store.old.opened store.new.opened) }
-    ensures usable { OnOk result (IsUsable store.new (D.bytes disk.new) (D.images disk.new)) }
-    ensures tells { IfOk result (λ reply. Tells reply (D.faults disk.old) (D.faults disk.new)) }
-    ensures quiet { OnErr result (D.faults disk.new ≡ D.faults disk.old) }
-    ensures asks { IfOk result (λ reply. Asks reply (D.changes disk.old) (D.changes disk.new)) }
-    ensures unasked { OnErr result (D.changes disk.new ≡ D.changes disk.old) }
-    ensures later { D.faults disk.old ≤ D.faults disk.new }
+    ensures sound { OnOk result (IsUsable store.new (D.bytes disk.new) (D.images disk.new)) }
+    ensures accounted { IfOk result (λ reply. Tells reply (D.faults disk.old) (D.faults disk.new)) }
+    ensures no_fault { OnErr result (D.faults disk.new ≡ D.faults disk.old) }
+    ensures changes { IfOk result (λ reply. Asks reply (D.changes disk.old) (D.changes disk.new)) }
+    ensures unchanged { OnErr result (D.changes disk.new ≡ D.changes disk.old) }
+    ensures never_falls { D.faults disk.old ≤ D.faults disk.new }
 {
     match store.save(disk, name, text) {
         Ok(()) => Ok(Reply::Saved { name: name.copy() }),
@@ -70,12 +70,12 @@ fn load<D: BandDisk>(store: &mut BandStore, disk: &mut D, name: &Name) -> Result
     requires { IsUsable store.old (D.bytes disk.old) (D.images disk.old) }
     ensures did { Did D.bytes D.space D.images D.clock D.images_since (C.Load name.now) store.old store.new disk.old disk.new result }
     ensures finds { IfOk result (Finds (C.Load name.now) store.old.opened store.new.opened) }
-    ensures usable { OnOk result (IsUsable store.new (D.bytes disk.new) (D.images disk.new)) }
-    ensures tells { IfOk result (λ reply. Tells reply (D.faults disk.old) (D.faults disk.new)) }
-    ensures quiet { OnErr result (D.faults disk.new ≡ D.faults disk.old) }
-    ensures asks { IfOk result (λ reply. Asks reply (D.changes disk.old) (D.changes disk.new)) }
-    ensures unasked { OnErr result (D.changes disk.new ≡ D.changes disk.old) }
-    ensures later { D.faults disk.old ≤ D.faults disk.new }
+    ensures sound { OnOk result (IsUsable store.new (D.bytes disk.new) (D.images disk.new)) }
+    ensures accounted { IfOk result (λ reply. Tells reply (D.faults disk.old) (D.faults disk.new)) }
+    ensures no_fault { OnErr result (D.faults disk.new ≡ D.faults disk.old) }
+    ensures changes { IfOk result (λ reply. Asks reply (D.changes disk.old) (D.changes disk.new)) }
+    ensures unchanged { OnErr result (D.changes disk.new ≡ D.changes disk.old) }
+    ensures never_falls { D.faults disk.old ≤ D.faults disk.new }
 {
     match store.load(disk, name) {
         Ok(text) => Ok(Reply::Loaded { text }),
@@ -113,8 +113,8 @@ fn lines_of(alloc: Global, store: &BandStore) -> Result<Text, NoMemory>
 
 /// Lists the names.
 fn list(alloc: Global, store: &BandStore) -> Result<Reply, NoMemory>
-    ensures closed { IfOk result (λ reply. store.now.opened ≡ false → reply ≡ Reply.Closed) }
-    ensures calm { IfOk result (λ reply. is_fault reply ≡ false) }
+    ensures refused { IfOk result (λ reply. store.now.opened ≡ false → reply ≡ Reply.Closed) }
+    ensures no_fault { IfOk result (λ reply. is_fault reply ≡ false) }
     ensures finds { IfOk result (Finds C.List store.now.opened store.now.opened) }
     ensures listed { IfOk result (λ reply. (bytes : List ℕ) (saves : List Save) → IsOpenOn store.now bytes saves → reply ≡ Reply.Listed (list_text (listing (directory saves)))) }
 {
@@ -137,12 +137,12 @@ pub fn answer<D: BandDisk>(
     requires { IsUsable store.old (D.bytes disk.old) (D.images disk.old) }
     ensures did { Did D.bytes D.space D.images D.clock D.images_since command.now store.old store.new disk.old disk.new result }
     ensures finds { IfOk result (Finds command.now store.old.opened store.new.opened) }
-    ensures usable { OnOk result (IsUsable store.new (D.bytes disk.new) (D.images disk.new)) }
-    ensures tells { IfOk result (λ reply. Tells reply (D.faults disk.old) (D.faults disk.new)) }
-    ensures quiet { OnErr result (D.faults disk.new ≡ D.faults disk.old) }
-    ensures asks { IfOk result (λ reply. Asks reply (D.changes disk.old) (D.changes disk.new)) }
-    ensures unasked { OnErr result (D.changes disk.new ≡ D.changes disk.old) }
-    ensures later { D.faults disk.old ≤ D.faults disk.new }
+    ensures sound { OnOk result (IsUsable store.new (D.bytes disk.new) (D.images disk.new)) }
+    ensures accounted { IfOk result (λ reply. Tells reply (D.faults disk.old) (D.faults disk.new)) }
+    ensures no_fault { OnErr result (D.faults disk.new ≡ D.faults disk.old) }
+    ensures changes { IfOk result (λ reply. Asks reply (D.changes disk.old) (D.changes disk.new)) }
+    ensures unchanged { OnErr result (D.changes disk.new ≡ D.changes disk.old) }
+    ensures never_falls { D.faults disk.old ≤ D.faults disk.new }
 {
     match command {
         BandCommand::Open => open(store, disk),

@@ -27,7 +27,7 @@ fn answer_commands<K: Sink, D: BandDisk>(
     ensures runs { runs_commands result ≡ true }
     ensures write { result ≡ write_failed → Rose (K.faults sink.old) (K.faults sink.new) }
     ensures last { result ≡ write_failed → FailedLast (K.faults sink.old) (K.faults sink.new) (K.failed sink.new) }
-    ensures quiet { result ≢ write_failed → K.faults sink.new ≡ K.faults sink.old }
+    ensures no_fault { result ≢ write_failed → K.faults sink.new ≡ K.faults sink.old }
 {
     let mut buffer = match SinkBuffer::new(alloc, PENDING) {
         Ok(buffer) => buffer,
@@ -55,12 +55,12 @@ pub fn answer_input<S: Source, K: Sink, D: BandDisk>(
     ensures ran { Ran (S.left source.old) (S.left source.new) (K.stands sink.old) (K.stands sink.new)
         (Answers D.bytes D.space D.images D.clock D.images_since D.faults D.changes disk.old disk.new)
         (Rose (S.faults source.old) (S.faults source.new)) result }
-    ensures untouched { runs_commands result ≡ false → disk.new ≡ disk.old }
+    ensures unchanged { runs_commands result ≡ false → disk.new ≡ disk.old }
     ensures read { result ≡ read_failed → Rose (S.faults source.old) (S.faults source.new) }
     ensures write { result ≡ write_failed → Rose (K.faults sink.old) (K.faults sink.new) }
     ensures last { result ≡ write_failed → FailedLast (K.faults sink.old) (K.faults sink.new) (K.failed sink.new) }
-    ensures quiet_source { result ≢ read_failed → result ≢ write_failed → S.faults source.new ≡ S.faults source.old }
-    ensures quiet_sink { result ≢ write_failed → K.faults sink.new ≡ K.faults sink.old }
+    ensures source_no_fault { result ≢ read_failed → result ≢ write_failed → S.faults source.new ≡ S.faults source.old }
+    ensures sink_no_fault { result ≢ write_failed → K.faults sink.new ≡ K.faults sink.old }
 {
     match read_bands(alloc, source) {
         Ok(commands) => answer_commands(alloc, &commands, sink, disk),

@@ -9,7 +9,7 @@ use crate::answers::answer;
 use crate::reading::BandCommand;
 use crate::reply::gather_reply;
 use band_store::{BandDisk, BandStore};
-use line_input::{RunError, Stop};
+use line_input::{RunError, RunStop};
 use outer_ports::{Sink, SinkBuffer};
 use std::alloc::Global;
 
@@ -21,24 +21,24 @@ fn act<K: Sink, D: BandDisk>(
     sink: &mut K,
     disk: &mut D,
     command: &BandCommand,
-) -> Result<(), Stop>
+) -> Result<(), RunStop>
     requires { IsUsable store.old (D.bytes disk.old) (D.images disk.old) }
-    ensures acted { Acted D.bytes D.space D.images D.clock D.images_since D.faults D.changes command.now store.old store.new disk.old disk.new
+    ensures did { Acted D.bytes D.space D.images D.clock D.images_since D.faults D.changes command.now store.old store.new disk.old disk.new
         (K.stands sink.old) (K.stands sink.new) buffer.old.pending buffer.new.pending result }
-    ensures usable { OnOk result (IsUsable store.new (D.bytes disk.new) (D.images disk.new)) }
-    ensures write { IfErr result (λ stop. stop ≡ Stop.Write → Rose (K.faults sink.old) (K.faults sink.new)) }
-    ensures last { IfErr result (λ stop. stop ≡ Stop.Write → FailedLast (K.faults sink.old) (K.faults sink.new) (K.failed sink.new)) }
-    ensures later { K.faults sink.old ≤ K.faults sink.new }
-    ensures quiet { result ≢ Err Stop.Write → K.faults sink.new ≡ K.faults sink.old }
-    ensures later_disk { D.faults disk.old ≤ D.faults disk.new }
+    ensures sound { OnOk result (IsUsable store.new (D.bytes disk.new) (D.images disk.new)) }
+    ensures write { IfErr result (λ stop. stop ≡ RunStop.Write → Rose (K.faults sink.old) (K.faults sink.new)) }
+    ensures last { IfErr result (λ stop. stop ≡ RunStop.Write → FailedLast (K.faults sink.old) (K.faults sink.new) (K.failed sink.new)) }
+    ensures never_falls { K.faults sink.old ≤ K.faults sink.new }
+    ensures no_fault { result ≢ Err RunStop.Write → K.faults sink.new ≡ K.faults sink.old }
+    ensures device_never_falls { D.faults disk.old ≤ D.faults disk.new }
 {
     let reply = match answer(alloc, store, disk, command) {
         Ok(reply) => reply,
-        Err(_) => return Err(Stop::Tell(RunError::Memory)),
+        Err(_) => return Err(RunStop::Tell(RunError::Memory)),
     };
     match gather_reply(buffer, sink, &reply) {
         Ok(()) => Ok(()),
-        Err(_) => Err(Stop::Write),
+        Err(_) => Err(RunStop::Write),
     }
 }
 
@@ -50,15 +50,15 @@ pub fn run<K: Sink, D: BandDisk>(
     buffer: &mut SinkBuffer,
     sink: &mut K,
     disk: &mut D,
-) -> Result<(), Stop>
-    requires closed { store.old ≡ closed }
-    requires pending { buffer.old.pending ≡ [] }
+) -> Result<(), RunStop>
+    requires fresh { store.old ≡ closed }
+    requires empty { buffer.old.pending ≡ [] }
     ensures ran { RanTo (Answers D.bytes D.space D.images D.clock D.images_since D.faults D.changes disk.old disk.new) commands.now
         (K.stands sink.old) (K.stands sink.new) buffer.new.pending result }
-    ensures write { IfErr result (λ stop. stop ≡ Stop.Write → Rose (K.faults sink.old) (K.faults sink.new)) }
-    ensures last { IfErr result (λ stop. stop ≡ Stop.Write → FailedLast (K.faults sink.old) (K.faults sink.new) (K.failed sink.new)) }
-    ensures later { K.faults sink.old ≤ K.faults sink.new }
-    ensures quiet { result ≢ Err Stop.Write → K.faults sink.new ≡ K.faults sink.old }
+    ensures write { IfErr result (λ stop. stop ≡ RunStop.Write → Rose (K.faults sink.old) (K.faults sink.new)) }
+    ensures last { IfErr result (λ stop. stop ≡ RunStop.Write → FailedLast (K.faults sink.old) (K.faults sink.new) (K.failed sink.new)) }
+    ensures never_falls { K.faults sink.old ≤ K.faults sink.new }
+    ensures no_fault { result ≢ Err RunStop.Write → K.faults sink.new ≡ K.faults sink.old }
 {
     for command in commands {
         act(alloc, store, buffer, sink, disk, command)?;

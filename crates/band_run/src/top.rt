@@ -38,10 +38,10 @@ pub fn run_bands<S: Source, K: Sink, D: BandDisk>(
         × Closed (K.stands sink.old) (K.stands sink.new) (trouble_line RunError.Usage) Status.Usage status) }
     ensures only { result ≡ 7 → words.now ≢ [] }
     ensures untaken { words.now ≢ [] → source.new ≡ source.old }
-    ensures untouched { words.now ≢ [] → disk.new ≡ disk.old }
+    ensures unchanged { words.now ≢ [] → disk.new ≡ disk.old }
 
     // The disk is also unchanged if the input is refused or wasn't read.
-    ensures unrun { (result ≡ 2) ⊎ (result ≡ 3) ⊎ (result ≡ 4) → disk.new ≡ disk.old }
+    ensures unopened { (result ≡ 2) ⊎ (result ≡ 3) ⊎ (result ≡ 4) → disk.new ≡ disk.old }
 
     // A device's failure is reported only if its count of failed calls rose.
     ensures read { result ≡ 3 → Rose (S.faults source.old) (S.faults source.new) }
@@ -51,8 +51,8 @@ pub fn run_bands<S: Source, K: Sink, D: BandDisk>(
     ensures last { result ≡ 1 → FailedLast (K.faults sink.old) (K.faults sink.new) (K.failed sink.new) }
 
     // Otherwise the count is unchanged. If the sink fails, the source may have failed before it.
-    ensures quiet_source { result ≢ 3 → result ≢ 1 → S.faults source.new ≡ S.faults source.old }
-    ensures quiet_sink { result ≢ 1 → K.faults sink.new ≡ K.faults sink.old }
+    ensures source_no_fault { result ≢ 3 → result ≢ 1 → S.faults source.new ≡ S.faults source.old }
+    ensures sink_no_fault { result ≢ 1 → K.faults sink.new ≡ K.faults sink.old }
 
     // An input that keeps the rules is answered, unless a device fails or memory runs out.
     ensures accepted { words.now ≡ [] → (i : List ℕ) (commands : List BandCommand) → S.left source.old ≡ Some i → verdict i ≡ Ok commands

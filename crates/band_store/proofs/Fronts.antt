@@ -1,7 +1,7 @@
 -- The bytes that were read into the front of a buffer.
 use Rattle.std.proofs.Common.{◌≡◌, ℕ, ◌+◌, ◌-◌, ◌≤◌, min, List, ◌++◌, length, take, drop, ◌∙◌, ap, subst, arith, take-append-drop}
 use Rattle.std.proofs.lemmas.List.{take_at, length-take, length-drop}
-use Rattle.band_store.specs.declared.format.Gate.{Gate}
+use Rattle.band_store.specs.declared.format.HeaderState.{HeaderState}
 use Rattle.band_store.specs.Gates.{IsGate}
 
 -- the front of the buffer is the front of what had to be read
@@ -11,7 +11,7 @@ front_read n into room tail fits enough is =
     let same : into ≡ take n tail = is ∙ ap (λ (k : ℕ). take k tail) long in
     take_at into (drop n room) n (omega (arith, ap length same, length-take n tail)) ∙ same
 
-pub gate_read : (n gate left : ℕ) (into room bytes : List ℕ) (found : Gate) → length room ≡ 22 → n ≡ min left 22 → left ≡ length bytes - gate → into ≡ take (length (take n room)) (drop gate bytes)
+pub gate_read : (n gate left : ℕ) (into room bytes : List ℕ) (found : HeaderState) → length room ≡ 22 → n ≡ min left 22 → left ≡ length bytes - gate → into ≡ take (length (take n room)) (drop gate bytes)
     → ((rest : List ℕ) → length (take n (into ++ drop n room)) + length rest ≡ left → IsGate (take n (into ++ drop n room) ++ rest) found) → IsGate (drop gate bytes) found
 gate_read n gate left into room bytes found long is_n is_left is gates =
     let tail = drop gate bytes in

@@ -8,7 +8,7 @@ use Rattle.byteorder.specs.Endian.{big_bytes, big_number}
 use Rattle.byteorder.specs.Numbers.{big_number-reads_back}
 use Rattle.lisp_graph.specs.Name.{is_name}
 use Rattle.band_store.specs.Format.{HasNoRecord, IsSave, Save, record_of}
-use Rattle.band_store.specs.declared.format.Gate.TheVariants.{Shut, Broken}
+use Rattle.band_store.specs.declared.format.HeaderState.TheVariants.{Shut, Broken}
 use Rattle.band_store.specs.Gates.{HasNoHead, IsGate, IsHead, IsRecordAt}
 
 -- a name has at most 16 bytes

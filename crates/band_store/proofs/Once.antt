@@ -4,7 +4,7 @@ use Rattle.std.proofs.lemmas.List.{take_at}
 use Rattle.std.specs.List.{AllByRecursion}
 use Rattle.band_store.specs.declared.faults.OpenFault.{OpenFault}
 use Rattle.band_store.specs.declared.faults.OpenFault.TheVariants as O
-use Rattle.band_store.specs.declared.format.Gate.TheVariants.{Shut, Broken}
+use Rattle.band_store.specs.declared.format.HeaderState.TheVariants.{Shut, Broken}
 use Rattle.band_store.specs.Directory.{directory}
 use Rattle.band_store.specs.Format.{Holds, IsDamaged, IsNoStore, IsSave, Save, gate_behind, header, record_of, records}
 use Rattle.band_store.specs.Gates.{IsGate}

@@ -10,8 +10,8 @@ use Rattle.std.proofs.lemmas.List.Sums.{fold_push, sum_by-append}
 use Rattle.band_store.specs.declared.directory.Extent.{Extent}
 use Rattle.band_store.specs.Directory.{index, is_ordered, last_of, name_order, placed, put_name}
 use Rattle.band_store.specs.Format.{HasHeader, Holds, IsDamaged, IsSave, Save, first_gate, gate_behind, header, record_of, record_size, records}
-use Rattle.band_store.specs.declared.format.Gate.{Gate}
-use Rattle.band_store.specs.declared.format.Gate.TheVariants.{Shut, Broken}
+use Rattle.band_store.specs.declared.format.HeaderState.{HeaderState}
+use Rattle.band_store.specs.declared.format.HeaderState.TheVariants.{Shut, Broken}
 use Rattle.band_store.specs.Gates.{IsGate, IsRecordAt}
 use Rattle.band_store.proofs.Heads.{length-record_of}
 use Rattle.band_store.proofs.Names.{Bands}
@@ -195,5 +195,5 @@ module _ (bytes : List ℕ) (bands : Bands) (gate : ℕ) (walked : IsWalked byte
   }
 
 -- what was found at the gate is there on the unchanged bytes
-pub found_at : (gate : ℕ) (bytes now : List ℕ) (found is : Gate) → now ≡ bytes → IsGate (drop gate now) found → found ≡ is → IsGate (drop gate bytes) is
+pub found_at : (gate : ℕ) (bytes now : List ℕ) (found is : HeaderState) → now ≡ bytes → IsGate (drop gate now) found → found ≡ is → IsGate (drop gate bytes) is
 found_at gate bytes now found is same here e = subst (IsGate (drop gate bytes)) e (subst (λ (b : List ℕ). IsGate (drop gate b) found) same here)

@@ -2,8 +2,8 @@
 use Rattle.std.specs.Prelude.{◌≡◌, ◌≢◌, ℕ, ◌≤◌, List, ◌∷◌, ◌++◌, length, true}
 use Rattle.byteorder.specs.Endian.{big_bytes}
 use Rattle.lisp_graph.specs.Name.{is_name}
-use Rattle.band_store.specs.declared.format.Gate.{Gate}
-use Rattle.band_store.specs.declared.format.Gate.TheVariants.{Shut, Record, Broken}
+use Rattle.band_store.specs.declared.format.HeaderState.{HeaderState}
+use Rattle.band_store.specs.declared.format.HeaderState.TheVariants.{Shut, Record, Broken}
 use Rattle.band_store.specs.Format.{HasNoRecord, IsSave, Save, record_of}
 
 -- the bytes begin with the name of a record and the length of its text
@@ -28,7 +28,7 @@ pub record IsRecordAt (name : List ℕ) (size : ℕ) (bytes : List ℕ) : Type 0
   pub is : bytes ≡ 1 ∷ (record_of save ++ gate ∷ behind)
 
 -- what is at the gate with which the bytes begin
-abbrev pub IsGate : List ℕ → Gate → Type 0
+abbrev pub IsGate : List ℕ → HeaderState → Type 0
 IsGate bytes Shut = (gate : ℕ) × (behind : List ℕ) × (gate ≢ 1) × (bytes ≡ gate ∷ behind)
 IsGate bytes (Record name size) = IsRecordAt name size bytes
 IsGate bytes Broken = (behind : List ℕ) × (bytes ≡ 1 ∷ behind) × HasNoRecord behind

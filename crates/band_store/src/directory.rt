@@ -50,7 +50,7 @@ pub fn put_name(
     requires { is_ordered bands.old.items ≡ true }
     ensures ok { OnOk result (bands.new.items ≡ put_name name.now extent bands.old.items) }
     ensures err { OnErr result (bands.new.items ≡ bands.old.items) }
-    ensures full { OnErr result (vec_capacity bands.old ≤ vec_len bands.old) }
+    ensures at_most { OnErr result (vec_capacity bands.old ≤ vec_len bands.old) }
 {
     match place_of(bands, name.as_bytes()) {
         Ok(at) => {

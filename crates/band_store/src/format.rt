@@ -18,7 +18,7 @@ pub const LONGEST_HEAD: usize = 22;
 
 /// What is at a gate.
 #[derive(Debug, Drop)]
-pub enum Gate {
+pub enum HeaderState {
     /// The gate is closed.
     Shut,
     /// The gate is open, and is followed by a record of this name, with a text of this many bytes, and by a gate.
@@ -48,21 +48,21 @@ fn read_head(bytes: &[u8]) -> Option<(Name, u32)>
 }
 
 /// What is at a gate. The bytes are the gate and at most 21 bytes after it; from the gate on the disk has `left` bytes.
-pub fn read_gate(bytes: &[u8], left: u64) -> Gate
-    requires some { 0 < length bytes.now }
-    requires front { length bytes.now ≡ min 22 left }
+pub fn read_gate(bytes: &[u8], left: u64) -> HeaderState
+    requires at_least { 0 < length bytes.now }
+    requires size { length bytes.now ≡ min 22 left }
     ensures { (rest : List ℕ) → length bytes.now + length rest ≡ left → IsGate (bytes.now ++ rest) result }
 {
     if bytes[0] != 1 {
-        return Gate::Shut;
+        return HeaderState::Shut;
     }
     let Some((name, size)) = read_head(&bytes[1..]) else {
-        return Gate::Broken;
+        return HeaderState::Broken;
     };
     if 7 + name.len() + u64::from(size) > left {
-        return Gate::Broken;
+        return HeaderState::Broken;
     }
-    Gate::Record { name, size }
+    HeaderState::Record { name, size }
 }
 
 /// The bytes of a record after its gate, followed by a closed gate.

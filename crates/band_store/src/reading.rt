@@ -9,14 +9,14 @@ ghost use Rattle.band_store.specs.Store.{IsRefused};
 
 use crate::directory::{Extent, put_name};
 use crate::faults::OpenFault;
-use crate::format::{Gate, HEADER, LONGEST_HEAD, read_gate};
+use crate::format::{HEADER, HeaderState, LONGEST_HEAD, read_gate};
 use band_disk::{BandDisk, DiskFault};
 use lisp_graph::Name;
 
 /// Whether the disk begins with the header, followed by a gate.
 fn has_header<D: BandDisk>(disk: &mut D) -> Result<bool, DiskFault>
-    ensures yes { IfOk result (λ yes. yes ≡ true → HasHeader (D.bytes disk.old)) }
-    ensures no { IfOk result (λ yes. yes ≡ false → IsNoStore (D.bytes disk.old)) }
+    ensures on_true { IfOk result (λ yes. yes ≡ true → HasHeader (D.bytes disk.old)) }
+    ensures on_false { IfOk result (λ yes. yes ≡ false → IsNoStore (D.bytes disk.old)) }
     ensures reads { ReadsOnly D.bytes D.space D.images D.clock D.images_since disk.old disk.new }
     ensures cause { HasCause (D.faults disk.old) (D.faults disk.new) result }
     ensures changes { D.changes disk.new ≡ D.changes disk.old }
@@ -30,9 +30,9 @@ fn has_header<D: BandDisk>(disk: &mut D) -> Result<bool, DiskFault>
 }
 
 /// What is at the gate at this position.
-fn gate_at<D: BandDisk>(disk: &mut D, gate: u64) -> Result<Gate, DiskFault>
+fn gate_at<D: BandDisk>(disk: &mut D, gate: u64) -> Result<HeaderState, DiskFault>
     requires { gate < length (D.bytes disk.old) }
-    ensures gate { IfOk result (IsGate (drop gate (D.bytes disk.old))) }
+    ensures ok { IfOk result (IsGate (drop gate (D.bytes disk.old))) }
     ensures fits { length (D.bytes disk.old) < 2 ^ 64 }
     ensures reads { ReadsOnly D.bytes D.space D.images D.clock D.images_since disk.old disk.new }
     ensures cause { HasCause (D.faults disk.old) (D.faults disk.new) result }
@@ -55,9 +55,9 @@ pub fn read_directory<D: BandDisk>(
     ensures read { IfOk result (λ gate. (saves : List Save) × Holds saves (D.bytes disk.old) × (bands.new.items ≡ index saves) × (gate ≡ gate_behind saves)) }
     ensures refused { IfErr result (IsRefused (D.bytes disk.old)) }
     ensures reads { ReadsOnly D.bytes D.space D.images D.clock D.images_since disk.old disk.new }
-    ensures later { D.faults disk.old ≤ D.faults disk.new }
+    ensures never_falls { D.faults disk.old ≤ D.faults disk.new }
     ensures cause { result ≡ Err OpenFault.Disk → Rose (D.faults disk.old) (D.faults disk.new) }
-    ensures quiet { result ≢ Err OpenFault.Disk → D.faults disk.new ≡ D.faults disk.old }
+    ensures no_fault { result ≢ Err OpenFault.Disk → D.faults disk.new ≡ D.faults disk.old }
     ensures changes { D.changes disk.new ≡ D.changes disk.old }
 {
     if !has_header(disk)? {
@@ -66,9 +66,9 @@ pub fn read_directory<D: BandDisk>(
     let mut gate = 8;
     'records: loop {
         match gate_at(disk, gate)? {
-            Gate::Shut => return Ok(gate),
-            Gate::Broken => return Err(OpenFault::Damaged { at: gate }),
-            Gate::Record { name, size } => {
+            HeaderState::Shut => return Ok(gate),
+            HeaderState::Broken => return Err(OpenFault::Damaged { at: gate }),
+            HeaderState::Record { name, size } => {
                 let at = gate + 6 + name.len();
                 put_name(bands, &name, Extent { at, size })?;
                 gate = at + u64::from(size);

@@ -81,17 +81,17 @@ impl BandStore {
     pub fn open<D: BandDisk>(&mut self, disk: &mut D) -> Result<u32, OpenFault>
         requires { Only (D.bytes disk.old) (D.images disk.old) }
         ensures opened { IfOk result (λ count. (saves : List Save) × IsReady self.new (D.bytes disk.new) (D.images disk.new) saves × (count ≡ length (directory saves))) }
-        ensures closed { OnErr result (self.new ≡ closed) }
+        ensures failed { OnErr result (self.new ≡ closed) }
 
         // The bytes determine the result, unless the disk fails or memory runs out.
-        ensures ready { IfOk result (λ _. (saves : List Save) → Holds saves (D.bytes disk.old) → IsReady self.new (D.bytes disk.new) (D.images disk.new) saves) }
-        ensures holds { (saves : List Save) → Holds saves (D.bytes disk.old) → IsOpenAnswer (Ok (length (directory saves))) result }
-        ensures not_a_store { IsNoStore (D.bytes disk.old) → IsOpenAnswer (Err OpenFault.NotAStore) result }
+        ensures ok { IfOk result (λ _. (saves : List Save) → Holds saves (D.bytes disk.old) → IsReady self.new (D.bytes disk.new) (D.images disk.new) saves) }
+        ensures value { (saves : List Save) → Holds saves (D.bytes disk.old) → IsOpenAnswer (Ok (length (directory saves))) result }
+        ensures refused { IsNoStore (D.bytes disk.old) → IsOpenAnswer (Err OpenFault.NotAStore) result }
         ensures damaged { (at : ℕ) → IsDamaged at (D.bytes disk.old) → IsOpenAnswer (Err (OpenFault.Damaged at)) result }
-        ensures refused { IfErr result (IsRefused (D.bytes disk.old)) }
+        ensures err { IfErr result (IsRefused (D.bytes disk.old)) }
         ensures cause { result ≡ Err OpenFault.Disk → Rose (D.faults disk.old) (D.faults disk.new) }
-        ensures quiet { result ≢ Err OpenFault.Disk → D.faults disk.new ≡ D.faults disk.old }
-        ensures later { D.faults disk.old ≤ D.faults disk.new }
+        ensures no_fault { result ≢ Err OpenFault.Disk → D.faults disk.new ≡ D.faults disk.old }
+        ensures never_falls { D.faults disk.old ≤ D.faults disk.new }
 
         // After a crash at any moment the bytes are unchanged, and no write or sync is requested.
         ensures reads { ReadsOnly D.bytes D.space D.images D.clock D.images_since disk.old disk.new }
@@ -111,7 +111,7 @@ impl BandStore {
 
     /// The position that the gate after a record of this save would have, or why the record can't be written on a disk with this room.
     fn next_gate(&self, room: u64, name: &[u8], text: &[u8]) -> Result<u64, SaveFault>
-        requires gate { self.now.opened ≡ true → self.now.gate < 2 ^ 63 }
+        requires in_range { self.now.opened ≡ true → self.now.gate < 2 ^ 63 }
         requires name { length name.now ≤ 16 }
         ensures { result ≡ checked self.now room (record { name = name.now; text = text.now }) }
     {
@@ -155,7 +155,7 @@ impl BandStore {
         text: &Text,
     ) -> Result<(), SaveFault>
         requires { self.old.opened ≡ true → (saves : List Save) × IsReady self.old (D.bytes disk.old) (D.images disk.old) saves }
-        ensures saved { OnOk result ((saves : List Save) → IsReady self.old (D.bytes disk.old) (D.images disk.old) saves →
+        ensures ok { OnOk result ((saves : List Save) → IsReady self.old (D.bytes disk.old) (D.images disk.old) saves →
             IsReady self.new (D.bytes disk.new) (D.images disk.new) (saves ++ record { name = name.now; text = text.now } ∷ [])) }
 
         // After a crash at any moment the saves are unchanged, with or without this one added.
@@ -163,17 +163,17 @@ impl BandStore {
             LeavesOnly D.clock D.images_since disk.old disk.new (IsWithOrWithout saves (record { name = name.now; text = text.now })) }
 
         // When each error occurs, and what it changes.
-        ensures answer { IsSaveAnswer (checked self.old (D.space disk.old) (record { name = name.now; text = text.now })) result }
+        ensures value { IsSaveAnswer (checked self.old (D.space disk.old) (record { name = name.now; text = text.now })) result }
         ensures failed { result ≡ Err SaveFault.Disk → self.new ≡ closed }
-        ensures stays { IfErr result (λ fault. fault ≢ SaveFault.Disk → (self.new ≡ self.old) × (disk.new ≡ disk.old)) }
+        ensures unchanged { IfErr result (λ fault. fault ≢ SaveFault.Disk → (self.new ≡ self.old) × (disk.new ≡ disk.old)) }
         ensures cause { result ≡ Err SaveFault.Disk → Rose (D.faults disk.old) (D.faults disk.new) }
-        ensures quiet { result ≢ Err SaveFault.Disk → D.faults disk.new ≡ D.faults disk.old }
-        ensures later { D.faults disk.old ≤ D.faults disk.new }
+        ensures no_fault { result ≢ Err SaveFault.Disk → D.faults disk.new ≡ D.faults disk.old }
+        ensures never_falls { D.faults disk.old ≤ D.faults disk.new }
         ensures space { D.space disk.new ≡ D.space disk.old }
 
         // It requests four writes and syncs, and at most four if it fails.
-        ensures four { OnOk result (D.changes disk.new ≡ with_more 4 (D.changes disk.old)) }
-        ensures no_more { D.changes disk.new ≤ D.changes disk.old + 4 }
+        ensures changes { OnOk result (D.changes disk.new ≡ with_more 4 (D.changes disk.old)) }
+        ensures at_most { D.changes disk.new ≤ D.changes disk.old + 4 }
     {
         let (bytes, text) = (name.as_bytes(), text.as_slice());
         let gate = self.next_gate(disk.room(), bytes, text)?;
@@ -196,12 +196,12 @@ impl BandStore {
         requires { self.old.opened ≡ true → (saves : List Save) × IsReady self.old (D.bytes disk.old) (D.images disk.old) saves }
         ensures text { IfOk result (λ text. (saves : List Save) → IsReady self.old (D.bytes disk.old) (D.images disk.old) saves → named name.now (directory saves) ≡ Some text) }
         ensures none { result ≡ Err LoadFault.NoBand → (saves : List Save) → IsReady self.old (D.bytes disk.old) (D.images disk.old) saves → named name.now (directory saves) ≡ None }
-        ensures answer { IsLoadAnswer self.old result }
+        ensures value { IsLoadAnswer self.old result }
         ensures failed { result ≡ Err LoadFault.Disk → self.new ≡ closed }
-        ensures stays { result ≢ Err LoadFault.Disk → self.new ≡ self.old }
+        ensures unchanged { result ≢ Err LoadFault.Disk → self.new ≡ self.old }
         ensures cause { result ≡ Err LoadFault.Disk → Rose (D.faults disk.old) (D.faults disk.new) }
-        ensures quiet { result ≢ Err LoadFault.Disk → D.faults disk.new ≡ D.faults disk.old }
-        ensures later { D.faults disk.old ≤ D.faults disk.new }
+        ensures no_fault { result ≢ Err LoadFault.Disk → D.faults disk.new ≡ D.faults disk.old }
+        ensures never_falls { D.faults disk.old ≤ D.faults disk.new }
 
         // After a crash at any moment the bytes are unchanged, and no write or sync is requested.
         ensures reads { ReadsOnly D.bytes D.space D.images D.clock D.images_since disk.old disk.new }

@@ -11,10 +11,10 @@ use std::time::{Clock, Instant};
 fn push_back(lists: &mut Lists, nodes: u32, count: u32)
     requires nodes { lists.old.nodes ≡ nodes }
     requires lists { length lists.old.lists ≡ count }
-    requires some { 0 < nodes }
+    requires at_least { 0 < nodes }
     requires one { 0 < count }
-    ensures nodes { lists.new.nodes ≡ nodes }
-    ensures lists { length lists.new.lists ≡ count }
+    ensures unchanged { lists.new.nodes ≡ nodes }
+    ensures size { length lists.new.lists ≡ count }
 {
     for turn in 0..nodes {
         let node = page_at(turn, nodes);
@@ -35,9 +35,9 @@ enum Move {
 fn move_all(lists: &mut Lists, nodes: u32, count: u32, to: Move)
     requires nodes { lists.old.nodes ≡ nodes }
     requires lists { length lists.old.lists ≡ count }
-    requires some { 0 < nodes }
-    ensures nodes { lists.new.nodes ≡ nodes }
-    ensures lists { length lists.new.lists ≡ count }
+    requires at_least { 0 < nodes }
+    ensures unchanged { lists.new.nodes ≡ nodes }
+    ensures size { length lists.new.lists ≡ count }
 {
     for turn in 0..nodes {
         let node = page_at(turn, nodes);
@@ -53,7 +53,7 @@ fn move_all(lists: &mut Lists, nodes: u32, count: u32, to: Move)
 // The node after each node.
 fn next(lists: &Lists, nodes: u32) -> u64
     requires nodes { lists.now.nodes ≡ nodes }
-    requires some { 0 < nodes }
+    requires at_least { 0 < nodes }
 {
     let mut sum = 0u64;
     for turn in 0..nodes {
@@ -72,7 +72,7 @@ pub fn run(
     nodes: u32,
     count: u32,
 ) -> io::Result<()>
-    requires some { 0 < nodes }
+    requires at_least { 0 < nodes }
     requires one { 0 < count }
     requires room { nodes + count < 2 ^ 32 }
 {

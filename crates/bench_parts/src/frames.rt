@@ -26,7 +26,7 @@ fn take(pool: &mut FramePool, frames: u32) -> u64
 // Frames are used in a scattered order.
 fn touch(pool: &mut FramePool, frames: u32) -> u64
     requires size { frames_of pool.old ≡ frames }
-    requires some { 0 < frames }
+    requires at_least { 0 < frames }
     ensures { frames_of pool.new ≡ frames }
 {
     let mut sum = 0u64;
@@ -57,8 +57,8 @@ fn give_back(pool: &mut FramePool, frames: u32) -> u64
 
 /// Each frame is taken, used again, and given back.
 pub fn run(alloc: Global, rt: &(impl Clock + Print + Eprint), frames: u32) -> io::Result<()>
-    requires some { 0 < frames }
-    requires few { frames ≤ 4096 }
+    requires at_least { 0 < frames }
+    requires at_most { frames ≤ 4096 }
 {
     let Ok(mut pool) = FramePool::new(alloc, frames) else {
         return Err(no_memory());

@@ -10,7 +10,7 @@ use std::time::{Clock, Instant};
 // Every page goes to a place.
 fn set(map: &mut PageMap, pages: u32, place: PagePlace)
     requires size { length map.old.places ≡ pages }
-    requires some { 0 < pages }
+    requires at_least { 0 < pages }
     ensures { length map.new.places ≡ pages }
 {
     for turn in 0..pages {
@@ -21,7 +21,7 @@ fn set(map: &mut PageMap, pages: u32, place: PagePlace)
 // How many pages are swapped.
 fn count(map: &PageMap, pages: u32) -> u64
     requires size { length map.now.places ≡ pages }
-    requires some { 0 < pages }
+    requires at_least { 0 < pages }
 {
     let mut sum = 0u64;
     for turn in 0..pages {
@@ -32,8 +32,8 @@ fn count(map: &PageMap, pages: u32) -> u64
 
 /// Each page enters its bucket, moves in it, is looked up, and leaves it.
 pub fn run(alloc: Global, rt: &(impl Clock + Print + Eprint), pages: u32) -> io::Result<()>
-    requires some { 0 < pages }
-    requires few { pages ≤ 16384 }
+    requires at_least { 0 < pages }
+    requires at_most { pages ≤ 16384 }
 {
     let Ok(mut map) = PageMap::new(alloc, pages) else {
         return Err(no_memory());

@@ -16,7 +16,7 @@ fn level_of(turn: u32) -> Levels {
 // Notes rows that weren't in the table.
 fn note(table: &mut RefTable, pages: u32, rows: u32)
     requires size { length table.old.sets ≡ pages }
-    requires some { 0 < pages }
+    requires at_least { 0 < pages }
     ensures { length table.new.sets ≡ pages }
 {
     for turn in 0..rows {
@@ -39,7 +39,7 @@ fn search(table: &RefTable, pages: u32) -> u64
 // Reads each row.
 fn read(table: &RefTable, pages: u32) -> u64
     requires size { length table.now.sets ≡ pages }
-    requires some { 0 < pages }
+    requires at_least { 0 < pages }
 {
     let mut sum = 0u64;
     for turn in 0..pages {
@@ -51,7 +51,7 @@ fn read(table: &RefTable, pages: u32) -> u64
 // Takes the rows out again.
 fn forget(table: &mut RefTable, pages: u32, rows: u32)
     requires size { length table.old.sets ≡ pages }
-    requires some { 0 < pages }
+    requires at_least { 0 < pages }
     ensures { length table.new.sets ≡ pages }
 {
     for turn in 0..rows {
@@ -67,7 +67,7 @@ fn run_at(
     rows: u32,
 ) -> io::Result<()>
     requires size { length table.old.sets ≡ pages }
-    requires some { 0 < pages }
+    requires at_least { 0 < pages }
     ensures { length table.new.sets ≡ pages }
 {
     let mut noted = Measurement::new("RefTable::note", rows);
@@ -98,8 +98,8 @@ fn run_at(
 
 /// The calls at 64 rows, at 1,024, and at one for each page, so that the times show how `note` and `next_from` grow with the rows.
 pub fn run(alloc: Global, rt: &(impl Clock + Print + Eprint), pages: u32) -> io::Result<()>
-    requires some { 0 < pages }
-    requires few { pages ≤ 16384 }
+    requires at_least { 0 < pages }
+    requires at_most { pages ≤ 16384 }
 {
     let Ok(mut table) = RefTable::new(alloc, pages) else {
         return Err(no_memory());

@@ -21,9 +21,9 @@ use Rattle.transporter.specs.lisp_ground.After.{old_on}
 use Rattle.transporter.specs.lisp_ground.GroundInvariant.{GroundInvariant}
 use Rattle.transporter.proofs.lisp_ground.Finals.{final_is_place, name_in_use, one_final}
 use Rattle.transporter.proofs.lisp_ground.Storing.{kept_on_same}
-use Rattle.transporter.specs.LiveSame.{IsLiveWord, LiveSameBut}
-use Rattle.transporter.specs.Settling.{CanSettle, HasOld, IsKeptValue, IsSettleable, Settles, SettlesOn, readdressed, reference_of}
-use Rattle.transporter.specs.Transports.{LaterOn}
+use Rattle.transporter.specs.LiveWordsUnchanged.{IsLiveWord, LiveWordsUnchangedExcept}
+use Rattle.transporter.specs.Settling.{CanSettle, RefersToOld, IsKeptValue, IsSettleable, Settles, SettlesOn, readdressed, reference_of}
+use Rattle.transporter.specs.Transports.{RepresentedByLaterMap}
 use Rattle.transporter.proofs.Fetched.{later-read, settles-read}
 use Rattle.transporter.proofs.Moving.{moves-after_read, stored-writes, writes-moves}
 use Rattle.transporter.specs.Moving.{MovesAtMost}
@@ -44,7 +44,7 @@ read_can_find m t of x =
 pub reads_block : (m m1 : Memory.Store) (t : Table) (content : Content) → StoresNothing m m1 → KeepsBlock m t m1 t content
 reads_block m m1 t content stays k top areas registers s aim v can = later-read m m1 t k top areas s aim can.kept stays
 
-later_after : (m m1 m2 : Memory.Store) (t t2 : Table) (k : RoleMap) (top : ℕ) (areas : List AreaRule) (s : Store) (aim : Condemned) → StoresNothing m m1 → LaterOn m1 t m2 t2 k top areas s aim → LaterOn m t m2 t2 k top areas s aim
+later_after : (m m1 m2 : Memory.Store) (t t2 : Table) (k : RoleMap) (top : ℕ) (areas : List AreaRule) (s : Store) (aim : Condemned) → StoresNothing m m1 → RepresentedByLaterMap m1 t m2 t2 k top areas s aim → RepresentedByLaterMap m t m2 t2 k top areas s aim
 later_after m m1 m2 t t2 k top areas s aim stays x =
     let same : old_on m1 t s aim k.at ≡ old_on m t s aim k.at = refl in
     record { map = x.map; kept = x.kept; refines = x.refines; work = (let w = x.work in omega arith) }
@@ -117,7 +117,7 @@ module _ (m : Memory.Store) (t : Table) (content : Content) (index at : ℕ) (p 
         }
 
     -- or a swap error occurred
-    pub field_faulted : (m2 : Memory.Store) (t2 : Table) → ((k : RoleMap) (top : ℕ) (areas : List AreaRule) (registers : List Value) (s : Store) (aim : Condemned) (v : Value) → CanSettle m1 t k top areas registers s aim (word_at m1.words at) v → LaterOn m1 t m2 t2 k top areas s aim)
+    pub field_faulted : (m2 : Memory.Store) (t2 : Table) → ((k : RoleMap) (top : ℕ) (areas : List AreaRule) (registers : List Value) (s : Store) (aim : Condemned) (v : Value) → CanSettle m1 t k top areas registers s aim (word_at m1.words at) v → RepresentedByLaterMap m1 t m2 t2 k top areas s aim)
         → KeepsBlock m t m2 t2 content
     field_faulted m2 t2 later k top areas registers s aim v can =
         let r = refers k top areas s aim v can.kept can.value_is in
@@ -154,11 +154,11 @@ module _ (m m1 : Memory.Store) (t : Table) (of : Parts) (index at : ℕ) (x : Is
 settled_code : {t t' : Table} {old new : Parts} → Settles t t' old new → new.cdr ≡ old.cdr
 settled_code {t} {t'} {old} {new} x = go x.is
   where
-    go : (new ≡ old) ⊎ ((to : ℕ) × HasOld t old × (new ≡ readdressed old to)) → new.cdr ≡ old.cdr
+    go : (new ≡ old) ⊎ ((to : ℕ) × RefersToOld t old × (new ≡ readdressed old to)) → new.cdr ≡ old.cdr
     go (inl e) = ap (λ (w : Parts). w.cdr) e
     go (inr e) = ap (λ (w : Parts). w.cdr) e.2
 
-pub field_settled : (m m1 m2 : Memory.Store) (t t2 : Table) (content : Content) (index at : ℕ) (p : IsFieldPlace m.words content index at) (new : Parts) (word : Content) → StoresNothing m m1 → Settles t t2 (word_at m1.words at) new → word_at m2.words at ≡ new → LiveSameBut m1 t m2 t2 at
+pub field_settled : (m m1 m2 : Memory.Store) (t t2 : Table) (content : Content) (index at : ℕ) (p : IsFieldPlace m.words content index at) (new : Parts) (word : Content) → StoresNothing m m1 → Settles t t2 (word_at m1.words at) new → word_at m2.words at ≡ new → LiveWordsUnchangedExcept m1 t m2 t2 at
     → word ≡ new.content → (reference to : ℕ) → content ≡ StructAt reference → Final m.words reference to → SettlesAt m t m2 t2 (suc to + index) word
 field_settled m m1 m2 t t2 content index at p new word stays settles written others is reference to refers final =
     let base : p.head.at ≡ to = one_final m.words reference p.head.at to (subst (λ (c : ℕ). Final m.words c p.head.at) (same_reference p.is.reference reference (sym p.is.is ∙ refers)) p.is.final) final in

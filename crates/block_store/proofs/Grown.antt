@@ -38,12 +38,12 @@ use Rattle.transporter.proofs.lisp_ground.Places.{new_allowed}
 use Rattle.transporter.proofs.lisp_ground.RelaidOn.{block_grown_on}
 use Rattle.transporter.proofs.lisp_ground.Storing.{kept_on_same}
 use Rattle.transporter.specs.Growth.{OpensOrStays}
-use Rattle.transporter.specs.LiveSame.{IsLiveWord, LiveSame}
-use Rattle.transporter.specs.Preserving.{AllFresh, FreshOn, PreservesScanned}
-use Rattle.transporter.specs.Transports.{StaysOn}
+use Rattle.transporter.specs.LiveWordsUnchanged.{IsLiveWord, LiveWordsUnchanged}
+use Rattle.transporter.specs.Preserving.{NoOldAddresses, FreshOn, PreservesScanned}
+use Rattle.transporter.specs.Transports.{WordsUnchanged}
 use Rattle.transporter.specs.Writes.{Writes}
 use Rattle.transporter.proofs.Alive.{grows-same, live-opened, live-read, live-then, still-live}
-use Rattle.transporter.specs.Settling.{HasOld}
+use Rattle.transporter.specs.Settling.{RefersToOld}
 use Rattle.transporter.proofs.Extended.{Extends, committed-extends, end-alive}
 use Rattle.transporter.proofs.Landing.{opened-form, opened-words, within-written}
 use Rattle.transporter.proofs.Preserved.{fresh-grown, laid-stays_fresh, laid-preserves, live-fresh, opened-preserves}
@@ -63,7 +63,7 @@ pub record LeavesGrown (m : Memory.Store) (t : Table) (m' : Memory.Store) (t' : 
   pub husk : (reference here : ℕ) → content ≡ StructAt reference → Final m.words reference here → IsHusk m m' here at wanted
   pub placed : (reference here : ℕ) → content ≡ StructAt reference → Final m.words reference here → PlacesGrown m t t' here at wanted
   pub preserves : PreservesScanned m t m' t'
-  pub stays_fresh : AllFresh m t → AllFresh m' t'
+  pub stays_fresh : NoOldAddresses m t → NoOldAddresses m' t'
   pub marks : MarksFollow m t m' t'
 
 -- A block of `count` fields at `here` is written again at the end of its class, and its charge is committed there; its old words are a husk
@@ -168,10 +168,10 @@ module _ (m : Memory.Store) (t : Table) (of : Parts) (wanted : ℕ) (x : CanGrow
   on1 = kept_on_same m m1 t x.map x.top x.areas x.objects x.aim x.kept reads
 
   -- on a swap error nothing more is stored
-  pub grow_stays : (m3 : Memory.Store) → StoresNothing m2 m3 → StaysOn m t m3 t2
+  pub grow_stays : (m3 : Memory.Store) → StoresNothing m2 m3 → WordsUnchanged m t m3 t2
   grow_stays m3 stays = stays-faulted reads (opened_at_most m1 t x.map x.top x.areas x.objects x.aim on1 class.area class.level there.area_in there.level_in m2 t2 region opens m3 stays)
 
-  faulted_live : (m3 : Memory.Store) → StoresNothing m2 m3 → LiveSame m t m3 t2
+  faulted_live : (m3 : Memory.Store) → StoresNothing m2 m3 → LiveWordsUnchanged m t m3 t2
   faulted_live m3 stays = live-then (live-read reads) (opened_live m1 t x.map x.top x.areas x.objects x.aim on1 class.area class.level there.area_in there.level_in m2 t2 region opens m3 stays)
 
   pub room_or_same : OpensOrStays t t2
@@ -183,10 +183,10 @@ module _ (m : Memory.Store) (t : Table) (of : Parts) (wanted : ℕ) (x : CanGrow
   pub faulted_marks : (m3 : Memory.Store) → StoresNothing m2 m3 → MarksFollow m t m3 t2
   faulted_marks m3 stays = marks-then (marks-read t reads) (marks-then (marks-opened region x.kept.table there.area_in there.level_in opens) (marks-read t2 stays))
 
-  pub faulted_stays_fresh : (m3 : Memory.Store) → StoresNothing m2 m3 → AllFresh m t → AllFresh m3 t2
+  pub faulted_stays_fresh : (m3 : Memory.Store) → StoresNothing m2 m3 → NoOldAddresses m t → NoOldAddresses m3 t2
   faulted_stays_fresh m3 stays = opened-stays_fresh m m3 t t2 x.kept.table opens.sound (faulted_live m3 stays) room_or_same
 
-  here_stays : StaysOn m t m2 t2
+  here_stays : WordsUnchanged m t m2 t2
   here_stays = grow_stays m2 (record { words = refl; levels = refl; top = refl; unmarked = λ page e. e })
 
   words_same : m2.words ≡ m.words
@@ -198,7 +198,7 @@ module _ (m : Memory.Store) (t : Table) (of : Parts) (wanted : ℕ) (x : CanGrow
   same_slot : slot_of t class.area class.level ≡ slot_of t2 class.area class.level
   same_slot = ap (λ (n : ℕ). class.area * (n + 1) + class.level) (sym form.top)
 
-  grows : LiveSame m1 t m2 t2
+  grows : LiveWordsUnchanged m1 t m2 t2
   grows = live-opened region x.kept.table there.area_in there.level_in opens
 
   words_there : (j : ℕ) → j < head.length + 1 → IsLiveWord t2 (head.at + j) × ((head.at + j) / 4096 ≡ head.at / 4096)
@@ -384,7 +384,7 @@ module _ (m : Memory.Store) (t : Table) (of : Parts) (wanted : ℕ) (x : CanGrow
               out i low (inl l) y = let a = y.0 in omega arith
               out i low (inr l) y = let b = y.1 in omega arith
 
-              husk_young : (i : ℕ) → HasOld t3 (husk_word at i) → ⊥
+              husk_young : (i : ℕ) → RefersToOld t3 (husk_word at i) → ⊥
               husk_young zero old = absurd (let e : None ≡ Some old.0 = old.1 in cc)
               husk_young (suc i) old = absurd (let e : None ≡ Some old.0 = old.1 in cc)
 
@@ -400,7 +400,7 @@ module _ (m : Memory.Store) (t : Table) (of : Parts) (wanted : ℕ) (x : CanGrow
               laid-preserves m m3 t t2 t3 sound room_or_same (slot_of t2 class.area class.level) at (grown_length head.length wanted + 1) (omega arith) extends x.kept.table
               (λ a l apart. old_or_fresh a apart (cases_lt a head.at) (cases_lt a (head.at + (head.length + 1))))
 
-          new_fresh : AllFresh m t → (i : ℕ) → i < grown_length head.length wanted + 1 → FreshOn t3 (grown_word m.words head.at head.code head.length (grown_length head.length wanted) i).content
+          new_fresh : NoOldAddresses m t → (i : ℕ) → i < grown_length head.length wanted + 1 → FreshOn t3 (grown_word m.words head.at head.code head.length (grown_length head.length wanted) i).content
           new_fresh all zero low = none-fresh t3 (Header head.code (grown_length head.length wanted)) refl
           new_fresh all (suc i) low = go (cases_lt i head.length)
             where
@@ -414,7 +414,7 @@ module _ (m : Memory.Store) (t : Table) (of : Parts) (wanted : ℕ) (x : CanGrow
                   let same : grown_word m.words head.at head.code head.length (grown_length head.length wanted) (suc i) ≡ record { cdr = Next; content = NilWord } = rw (le-ltb i head.length past) refl in
                   subst (λ (w : Parts). FreshOn t3 w.content) (sym same) (none-fresh t3 NilWord refl)
 
-          pub block_stays_fresh : AllFresh m t → AllFresh m3 t3
+          pub block_stays_fresh : NoOldAddresses m t → NoOldAddresses m3 t3
           block_stays_fresh all =
               laid-stays_fresh m m3 t t2 t3 (slot_of t2 class.area class.level) at (grown_length head.length wanted + 1) x.kept.table sound room_or_same extends block_preserves
               (λ i low. subst (λ (w : Parts). FreshOn t3 w.content) (sym (grown_there i low)) (new_fresh all i low)) all

@@ -13,7 +13,7 @@ use Rattle.area_space.specs.Charges.{committed}
 use Rattle.area_space.specs.PageList.{Adds}
 use Rattle.area_space.specs.Sound.{IsTable}
 use Rattle.area_space.proofs.Extending.{end_region}
-use Rattle.transporter.specs.LiveSame.{LiveSame}
+use Rattle.transporter.specs.LiveWordsUnchanged.{LiveWordsUnchanged}
 use Rattle.transporter.specs.Writes.{Writes}
 
 module _ (m m2 : Memory.Store) (t t2 : Table) (v : IsTable t) (area level at words : ℕ) (word : ℕ → Parts) (end : IsEnd t (slot_of t area level) at words) (w : Writes m m2 at words word)
@@ -48,7 +48,7 @@ module _ (m m2 : Memory.Store) (t t2 : Table) (v : IsTable t) (area level at wor
       let u = ap (used_of t) same in
       omega arith
 
-  pub live_laid : LiveSame m t m2 t2
+  pub live_laid : LiveWordsUnchanged m t m2 t2
   live_laid = record {
     table = record {
       form = record { regions = in_table (λ u. u.regions); top = in_table (λ u. u.top); quotas = in_table (λ u. u.quotas); kinds = in_table (λ u. u.kinds) };

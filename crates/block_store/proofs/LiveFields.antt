@@ -18,7 +18,7 @@ use Rattle.transporter.proofs.lisp_meaning.Standing.{block_fits, field_fits}
 use Rattle.transporter.specs.lisp_ground.Image.{ground_image}
 use Rattle.transporter.specs.lisp_ground.GroundInvariant.{GroundInvariant}
 use Rattle.transporter.proofs.lisp_ground.StoredOn.{same_header_size}
-use Rattle.transporter.specs.LiveSame.{IsLiveWord}
+use Rattle.transporter.specs.LiveWordsUnchanged.{IsLiveWord}
 use Rattle.transporter.proofs.LiveWords as Live
 use Rattle.block_store.proofs.Finding.{head_role}
 

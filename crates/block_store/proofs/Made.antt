@@ -28,7 +28,7 @@ use Rattle.transporter.proofs.lisp_ground.Accounts.{areas_agree, levels_agree}
 use Rattle.transporter.proofs.lisp_ground.PlaceRoom.{new_room}
 use Rattle.transporter.proofs.lisp_ground.Places.{new_allowed, place_kept_on}
 use Rattle.transporter.proofs.lisp_ground.Making.{block_made_on}
-use Rattle.transporter.specs.LiveSame.{LiveSame}
+use Rattle.transporter.specs.LiveWordsUnchanged.{LiveWordsUnchanged}
 use Rattle.transporter.specs.Writes.{Writes}
 use Rattle.transporter.specs.Marking.{MarksFollow}
 use Rattle.transporter.proofs.Alive.{live-then}
@@ -98,7 +98,7 @@ module _ (m : Memory.Store) (t : Table) (area level count : ℕ) (can : CanMake 
 
     module _ (m2 : Memory.Store) (t2 : Table) (code : ℕ) (w : Writes m1 m2 at (count + 1) (block_word code count))
         (commit : t2 ≡ record (committed t1 (slot_of t1 area level) at (count + 1) (count + 1) New) { pages = t2.pages }) (pages : Adds (page_list t1) (page_list t2) (at / 256) ((at + (count + 1) - 1) / 256)) (sound : IsTable t2) where
-      pub block_live : LiveSame m t m2 t2
+      pub block_live : LiveWordsUnchanged m t m2 t2
       block_live =
           live-then (opened_live m t can.map can.top can.areas can.objects can.aim can.kept area level area_inside level_inside m1 t1 region opens m1 (record { words = refl; levels = refl; top = refl; unmarked = λ page e. e }))
           (live_laid m1 m2 t1 t2 opens.sound area level at (count + 1) (block_word code count) there w commit pages)

@@ -1,5 +1,5 @@
--- Which pages get marks by the words of a block that is made, and of one that grows.
-use Rattle.std.proofs.Common.{◌≡◌, ◌⊎◌, inl, inr, ℕ, zero, suc, refl, ◌+◌, ◌/◌, ◌<◌, ◌≤◌, sym, ◌∙◌, ap, subst, arith, List, Option, Some, None}
+-- Which pages get marks by the words of a block that grows.
+use Rattle.std.proofs.Common.{◌≡◌, ◌⊎◌, inl, inr, ℕ, zero, suc, refl, ◌+◌, ◌/◌, ◌<◌, ◌≤◌, sym, ◌∙◌, ap, subst, arith, List, Option}
 use Rattle.store_word.specs.Words.{Parts}
 use Rattle.store_word.specs.declared.word.Content.TheVariants.{Struct as StructAt}
 use Rattle.area_space.specs.lisp_graph.Effect.{grown_length}
@@ -7,26 +7,13 @@ use Rattle.mem_port.specs.Store.{Store, StoresNothing, level_of_word}
 use Rattle.area_space.specs.Table.{Table}
 use Rattle.obj_layout.specs.Forwards.{word_at, Final}
 use Rattle.transporter.specs.lisp_ground.Placing.{Opens}
-use Rattle.transporter.specs.Writes.{Writes}
 use Rattle.transporter.proofs.lisp_ground.Finals.{one_final}
 use Rattle.block_store.specs.declared.header.Head.{Head}
 use Rattle.block_store.specs.Growing.{LaysAnew}
 use Rattle.block_store.specs.Headers.{IsHead}
-use Rattle.block_store.specs.Marks.{MarksByWords, MarksGrown}
+use Rattle.transporter.proofs.WrittenMarks.{marks_written, marks_by_words}
+use Rattle.block_store.specs.Marks.{MarksGrown}
 use Rattle.block_store.proofs.Finding.{tells_length}
-
--- no page gets marks when a region is opened
-marks_opened : {m m1 : Store} {t t1 : Table} {area level : ℕ} (region : Option ℕ) → Opens m t m1 t1 region area level → (page : ℕ) → m1.marks page ≡ m.marks page
-marks_opened None opens page = ap (λ (s : Store). s.marks page) opens.behind
-marks_opened (Some r) opens page = ap (λ (s : Store). s.marks page) opens.region_level
-
--- nor when words are written, except by one of them
-marks_written : {m1 m2 : Store} {at count : ℕ} {word : ℕ → Parts} → Writes m1 m2 at count word → MarksByWords m1 m2 at count
-marks_written {m1} {m2} {at} {count} {word} writes page clean low =
-    writes.unmarked page clean (λ i less on. subst (λ (w : Parts). level_of_word m1.levels w ≡ 0) (writes.there i less) (subst (λ (levels : List ℕ). level_of_word levels (word_at m2.words (at + i)) ≡ 0) writes.levels (low i less on)))
-
-pub marks_by_words : {m m1 m2 : Store} {t t1 : Table} {area level at count : ℕ} {word : ℕ → Parts} (region : Option ℕ) → Opens m t m1 t1 region area level → Writes m1 m2 at count word → MarksByWords m m2 at count
-marks_by_words region opens writes page clean low = marks_written writes page (marks_opened region opens page ∙ clean) low
 
 -- A block grows
 

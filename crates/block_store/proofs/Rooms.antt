@@ -31,9 +31,9 @@ use Rattle.transporter.proofs.lisp_ground.Regions.{region_is, region_live}
 use Rattle.transporter.proofs.lisp_ground.Slots.{slot_area, slot_level}
 use Rattle.obj_layout.specs.Forwards.{word_at, forward_of}
 use Rattle.area_space.specs.lisp_graph.Graph.{value_at}
-use Rattle.transporter.specs.LiveSame.{IsLiveWord}
+use Rattle.transporter.specs.LiveWordsUnchanged.{IsLiveWord}
 use Rattle.transporter.specs.Marking.{IsForward}
-use Rattle.transporter.specs.Settling.{HasOld, reference_of}
+use Rattle.transporter.specs.Settling.{RefersToOld, reference_of}
 use Rattle.block_store.specs.declared.header.Head.{Head as Place}
 use Rattle.block_store.specs.Headers.{HasMeaning, IsHead, IsLiveIn, TellsArea}
 use Rattle.block_store.specs.Growing.{CanGrow, GrowsWithin}
@@ -113,7 +113,7 @@ module _ (m : Memory.Store) (t : Table) (content : Content) (head : Place) (is :
 
 -- A settled word that refers to a block refers to one in a live region
 
-module _ (m : Memory.Store) (t : Table) (of : Parts) (x : HasMeaning m t of.content) (young : HasOld t of → ⊥) (head : Place) (is : IsHead m.words of.content head) where
+module _ (m : Memory.Store) (t : Table) (of : Parts) (x : HasMeaning m t of.content) (young : RefersToOld t of → ⊥) (head : Place) (is : IsHead m.words of.content head) where
   meant : (n : ℕ) × (x.value ≡ V.Ref n)
   meant = ref_value (names_as AsBlock (x.map.role is.reference)) x.value (ap (value_of x.map.role) (sym is.is) ∙ x.value_is)
 

@@ -18,9 +18,9 @@ use Rattle.transporter.specs.lisp_ground.GroundInvariant.{GroundInvariant}
 use Rattle.transporter.specs.lisp_ground.After.{AfterStore}
 use Rattle.transporter.specs.Marking.{MarksFollowBut}
 use Rattle.transporter.specs.Settled.{MeansOn}
-use Rattle.transporter.specs.Settling.{HasOld}
+use Rattle.transporter.specs.Settling.{RefersToOld}
 pub use Rattle.transporter.specs.Reading.{CanRead, IsReadable}
-use Rattle.transporter.specs.Transports.{LaterOn}
+use Rattle.transporter.specs.Transports.{RepresentedByLaterMap}
 use Rattle.block_store.specs.declared.header.Head.{Head}
 use Rattle.block_store.specs.Headers.{IsHead}
 
@@ -54,7 +54,7 @@ pub record CanSet (m : Memory.Store) (t : Table) (content : Content) (written : 
   pub value_is : value_of map.role content ≡ Some value
   pub new : Value
   pub new_is : value_of map.role written.content ≡ Some new
-  pub young : HasOld t written → ⊥
+  pub young : RefersToOld t written → ⊥
 
 -- whatever objects the ground represented, it represents them by the same map, with the value of what was written in the field of this index
 abbrev pub SetsField : Memory.Store → Table → Memory.Store → Content → ℕ → Content → Type 0
@@ -85,4 +85,4 @@ ReadsField m t m' t' content index word =
 abbrev pub KeepsBlock : Memory.Store → Table → Memory.Store → Table → Content → Type 0
 KeepsBlock m t m' t' content =
     (k : RoleMap) (top : ℕ) (areas : List AreaRule) (registers : List Value) (s : Store) (aim : Condemned) (v : Value)
-    → CanRead m t k top areas registers s aim content v → LaterOn m t m' t' k top areas s aim
+    → CanRead m t k top areas registers s aim content v → RepresentedByLaterMap m t m' t' k top areas s aim

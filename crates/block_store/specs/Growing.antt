@@ -24,7 +24,7 @@ use Rattle.transporter.specs.lisp_ground.GroundInvariant.{GroundInvariant}
 use Rattle.transporter.specs.lisp_ground.After.{old_on}
 use Rattle.transporter.specs.lisp_ground.Writes.{Within}
 use Rattle.transporter.specs.Making.{PlacesNew}
-use Rattle.transporter.specs.Settling.{HasOld}
+use Rattle.transporter.specs.Settling.{RefersToOld}
 use Rattle.transporter.specs.Writes.{Writes}
 use Rattle.block_store.specs.declared.header.Head.{Head}
 use Rattle.block_store.specs.Headers.{TellsArea, TellsLength}
@@ -88,7 +88,7 @@ pub record CanGrow (m : Memory.Store) (t : Table) (of : Parts) (wanted : ℕ) : 
   pub kept : GroundInvariant m t map top areas objects aim
   pub value : Value
   pub value_is : value_of map.role of.content ≡ Some value
-  pub young : HasOld t of → ⊥
+  pub young : RefersToOld t of → ⊥
   pub fewer : (n code : ℕ) (fields : List Value) → value ≡ V.Ref n → (object objects n).body ≡ Block code fields → length fields < wanted
   pub quota : (n code : ℕ) (fields : List Value) → value ≡ V.Ref n → (object objects n).body ≡ Block code fields
       → account top objects aim (object objects n).area + suc (grown_length (length fields) wanted) ≤ (rule_of areas (object objects n).area).quota

@@ -3,9 +3,9 @@ use Rattle.std.specs.Prelude.{◌≡◌, ◌≢◌, ◌↔◌, ℕ, ◌+◌, ◌
 use Rattle.store_word.specs.Words.{Parts, tag_of}
 use Rattle.store_word.specs.declared.word.Tag.TheVariants.{Struct as StructTag}
 use Rattle.mem_port.specs.Store.{StoresNothing}
-use Rattle.mem_port.specs.View.{TellsIf}
+use Rattle.mem_port.specs.View.{AccountsForFaultsIf}
 use Rattle.area_space.specs.View.{GroundView}
-use Rattle.transporter.specs.Views.{AllFresh, PreservesScanned}
+use Rattle.transporter.specs.Views.{NoOldAddresses, PreservesScanned}
 use Rattle.block_store.specs.Faults.{is_fault}
 use Rattle.block_store.specs.declared.fault.BlockFault.{BlockFault}
 use Rattle.block_store.specs.declared.fault.BlockFault.TheVariants.{NotABlock, NoField}
@@ -17,6 +17,6 @@ pub record LooksAtBlock {T : Type 0} (v v' : GroundView) (of : Parts) (result : 
   pub stays : StoresNothing v.mem.store v'.mem.store
   pub table : v'.table ≡ v.table
   pub preserves : PreservesScanned v v'
-  pub stays_fresh : AllFresh v → AllFresh v'
-  pub tells : TellsIf v.mem v'.mem steps steps' (is_fault result)
+  pub stays_fresh : NoOldAddresses v → NoOldAddresses v'
+  pub tells : AccountsForFaultsIf v.mem v'.mem steps steps' (is_fault result)
   pub cost : steps' ≤ steps + 13

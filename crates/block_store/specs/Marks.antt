@@ -1,4 +1,4 @@
--- Which pages get marks by the words of a block that is made, and of one that grows.
+-- Which pages get marks by the words of a block that grows.
 use Rattle.std.specs.Prelude.{◌≡◌, ℕ, ◌+◌, ◌/◌, ◌<◌}
 use Rattle.store_word.specs.declared.word.Content.{Content}
 use Rattle.store_word.specs.declared.word.Content.TheVariants.{Header}
@@ -8,12 +8,7 @@ use Rattle.area_space.specs.Table.{Table}
 use Rattle.obj_layout.specs.Forwards.{word_at}
 use Rattle.block_store.specs.Headers.{TellsLength}
 
--- a page without marks gets some only if one of these `count` words is on it and has an address of level 1 or more
-abbrev pub MarksByWords : Store → Store → ℕ → ℕ → Type 0
-MarksByWords old new at count =
-    (page : ℕ) → old.marks page ≡ 0 → ((i : ℕ) → i < count → (at + i) / 256 ≡ page → level_of_word new.levels (word_at new.words (at + i)) ≡ 0) → new.marks page ≡ 0
-
--- For a block that grows these are the words of the wider one, and the first of its husk.
+-- a page without marks gets some only if a word of the wider block, or the first word of its husk, is on it and has an address of level 1 or more
 pub record MarksGrown (old : Store) (t : Table) (new : Store) (content : Content) (here at wanted : ℕ) : Type 0 where
   pub code : ℕ
   pub count : ℕ

@@ -1,24 +1,24 @@
 //! Reads and writes fields.
 ghost use Rattle.std.specs.Prelude.{◌≡◌, ◌≢◌, ◌↔◌, ℕ, suc, ◌+◌, ◌<◌, ◌≤◌, Err, IfOk, OnOk, OnErr};
-ghost use Rattle.mem_port.specs.View.{TellsIf, shown};
+ghost use Rattle.mem_port.specs.View.{AccountsForFaultsIf, shown};
 ghost use Rattle.area_space.specs.View.{view};
 ghost use Rattle.block_store.specs.Faults.{is_fault};
 ghost use Rattle.block_store.specs.Views.{CanSet, IsReadable, KeepsBlock, MarksField, ReadsField, SetsField, TellsLength};
-ghost use Rattle.transporter.specs.Views.{AllFresh, FetchMoves, LiveSame, MovesAtMost, SettlesAt, PreservesScanned};
+ghost use Rattle.transporter.specs.Views.{NoOldAddresses, FetchMoves, LiveWordsUnchanged, MovesAtMost, SettlesAt, PreservesScanned};
 ghost use Rattle.store_word.specs.Words.{tag_of};
 ghost use Rattle.store_word.specs.declared.word.Content.TheVariants.{Struct as StructAt};
 ghost use Rattle.mem_port.specs.Store.{StoresNothing};
 ghost use Rattle.obj_layout.specs.Forwards.{Final};
-ghost use Rattle.transporter.specs.LiveSame.{OnlyGrows};
+ghost use Rattle.transporter.specs.LiveWordsUnchanged.{OnlyGrows};
 ghost use Rattle.transporter.specs.Reads.{KeepsGround, ReadCosts};
-ghost use Rattle.transporter.specs.Settling.{HasOld};
+ghost use Rattle.transporter.specs.Settling.{RefersToOld};
 ghost use Rattle.block_store.specs.Headers.{CanFind};
 ghost use Rattle.block_store.specs.Fields.{IsFieldPlace, LacksField, WritesField};
 
 use crate::fault::BlockFault;
 use crate::header::find;
 use area_space::Ground;
-use mem_port::{Memory, known};
+use mem_port::{Memory, assert_invariant};
 use std::sync::ledger::Ledger;
 use store_word::{CdrCode, Steps, SwapFault, Tag, Word};
 use transporter::fetch;
@@ -33,14 +33,14 @@ fn find_field<M: Memory, L: Ledger>(
 ) -> Result<u32, BlockFault>
     requires { CanFind (M.seen mem.old).words of.content }
     ensures place { IfOk result (IsFieldPlace (M.seen mem.old).words of.content index) }
-    ensures not_a_block { (result ≡ Err BlockFault.NotABlock) ↔ (tag_of of.content ≢ Tag.Struct) }
+    ensures refused { (result ≡ Err BlockFault.NotABlock) ↔ (tag_of of.content ≢ Tag.Struct) }
     ensures no_field { (count : ℕ) → result ≡ Err (BlockFault.NoField count) → LacksField (M.seen mem.old).words of.content index count }
-    ensures stays { StoresNothing (M.seen mem.old) (M.seen mem.new) }
-    ensures tells { TellsIf (shown M.Memory mem.old) (shown M.Memory mem.new) steps.old steps.new (is_fault result) }
+    ensures unchanged { StoresNothing (M.seen mem.old) (M.seen mem.new) }
+    ensures accounted { AccountsForFaultsIf (shown M.Memory mem.old) (shown M.Memory mem.new) steps.old steps.new (is_fault result) }
     ensures cost { steps.new ≤ steps.old + 13 }
 {
     // No address of a memory overflows, as this call's contract says.
-    known(mem);
+    assert_invariant(mem);
     let head = find(mem, of, steps)?;
     if index >= head.length as u32 {
         return Err(BlockFault::NoField {
@@ -68,22 +68,22 @@ pub fn set_field<M: Memory, L: Ledger>(
     // What is written.
     ensures set { OnOk result (SetsField (view ground.old) (view ground.new).mem.store of.content index value.content) }
     ensures written { OnOk result (WritesField (view ground.old).mem.store (view ground.new).mem.store of.content index value) }
-    ensures inside { OnOk result ((count : ℕ) × TellsLength (view ground.old) of.content count × (index < count)) }
+    ensures in_range { OnOk result ((count : ℕ) × TellsLength (view ground.old) of.content count × (index < count)) }
 
     // What is refused, and what a refusal leaves unchanged.
-    ensures not_a_block { (result ≡ Err BlockFault.NotABlock) ↔ (tag_of of.content ≢ Tag.Struct) }
+    ensures refused { (result ≡ Err BlockFault.NotABlock) ↔ (tag_of of.content ≢ Tag.Struct) }
     ensures no_field { (count : ℕ) → result ≡ Err (BlockFault.NoField count) → TellsLength (view ground.old) of.content count × (count ≤ index) }
-    ensures stays { OnErr result (StoresNothing (view ground.old).mem.store (view ground.new).mem.store) }
+    ensures unchanged { OnErr result (StoresNothing (view ground.old).mem.store (view ground.new).mem.store) }
 
     // What is unchanged in the ground.
     ensures table { ground.new.table ≡ ground.old.table }
-    ensures moves { (HasOld ground.old.table of → ⊥) → MovesAtMost (view ground.old) (view ground.new) 0 }
+    ensures moves { (RefersToOld ground.old.table of → ⊥) → MovesAtMost (view ground.old) (view ground.new) 0 }
     ensures preserves { PreservesScanned (view ground.old) (view ground.new) }
-    ensures stays_fresh { AllFresh (view ground.old) → AllFresh (view ground.new) }
+    ensures stays_fresh { NoOldAddresses (view ground.old) → NoOldAddresses (view ground.new) }
     ensures marks { MarksField (view ground.old) (view ground.new) of.content index }
 
     // Swap errors and the cost.
-    ensures tells { TellsIf (view ground.old).mem (view ground.new).mem steps.old steps.new (is_fault result) }
+    ensures accounted { AccountsForFaultsIf (view ground.old).mem (view ground.new).mem steps.old steps.new (is_fault result) }
     ensures cost { steps.new ≤ steps.old + 15 }
 {
     let at = find_field(&mut ground.mem, of, index, steps)?;
@@ -109,27 +109,27 @@ pub fn field<M: Memory, L: Ledger>(
     requires { IsReadable (view ground.old) of }
 
     // What is returned, and what is written back for it.
-    ensures field { IfOk result (ReadsField (view ground.old) (view ground.new) of.content index) }
-    ensures fresh { IfOk result (λ word. HasOld ground.new.table word → ⊥) }
-    ensures plain { IfOk result (λ word. word.cdr ≡ CdrCode.Next) }
+    ensures value { IfOk result (ReadsField (view ground.old) (view ground.new) of.content index) }
+    ensures fresh { IfOk result (λ word. RefersToOld ground.new.table word → ⊥) }
+    ensures word { IfOk result (λ word. word.cdr ≡ CdrCode.Next) }
     ensures written { IfOk result (λ word. (at to : ℕ) → of.content ≡ StructAt at → Final (view ground.old).mem.store.words at to
         → SettlesAt (view ground.old) (view ground.new) (suc to + index) word.content) }
-    ensures inside { OnOk result ((count : ℕ) × TellsLength (view ground.old) of.content count × (index < count)) }
+    ensures in_range { OnOk result ((count : ℕ) × TellsLength (view ground.old) of.content count × (index < count)) }
     ensures words { OnOk result ((at to : ℕ) → of.content ≡ StructAt at → Final (view ground.old).mem.store.words at to
         → FetchMoves (view ground.old) (view ground.new) (suc to + index)) }
 
     // What is refused.
-    ensures not_a_block { (result ≡ Err BlockFault.NotABlock) ↔ (tag_of of.content ≢ Tag.Struct) }
+    ensures refused { (result ≡ Err BlockFault.NotABlock) ↔ (tag_of of.content ≢ Tag.Struct) }
     ensures no_field { (count : ℕ) → result ≡ Err (BlockFault.NoField count) → TellsLength (view ground.old) of.content count × (count ≤ index) }
 
     // What is unchanged in the ground.
-    ensures keeps { KeepsGround (view ground.old) (view ground.new) }
+    ensures stays_ground { KeepsGround (view ground.old) (view ground.new) }
     ensures grows { OnlyGrows ground.old.table ground.new.table }
-    ensures live { OnErr result (LiveSame (view ground.old) (view ground.new)) }
+    ensures live { OnErr result (LiveWordsUnchanged (view ground.old) (view ground.new)) }
     ensures fault { OnErr result (KeepsBlock (view ground.old) (view ground.new) of.content) }
 
     // Swap errors and the cost.
-    ensures tells { TellsIf (view ground.old).mem (view ground.new).mem steps.old steps.new (is_fault result) }
+    ensures accounted { AccountsForFaultsIf (view ground.old).mem (view ground.new).mem steps.old steps.new (is_fault result) }
     ensures costs { ReadCosts (view ground.old) (view ground.new) steps.old steps.new (is_fault result) 61 }
 {
     let at = find_field(&mut ground.mem, of, index, steps)?;

@@ -1,10 +1,10 @@
 //! A block that has fewer fields than requested grows.
 ghost use Rattle.std.specs.Prelude.{◌≡◌, ◌≢◌, ◌↔◌, ℕ, ◌+◌, ◌*◌, ◌<◌, ◌≤◌, ◌^◌, Err, IfOk, OnErr};
-ghost use Rattle.mem_port.specs.View.{TellsIf};
+ghost use Rattle.mem_port.specs.View.{AccountsForFaultsIf};
 ghost use Rattle.area_space.specs.View.{view};
 ghost use Rattle.block_store.specs.Faults.{is_fault};
 ghost use Rattle.block_store.specs.Views.{CanGrow, GrowsBlock, GrowsWithin, MarksGrown, OpensForGrown, PlacesGrown};
-ghost use Rattle.transporter.specs.Views.{AllFresh, MarksFollow, StaysOn, PreservesScanned};
+ghost use Rattle.transporter.specs.Views.{NoOldAddresses, MarksFollow, WordsUnchanged, PreservesScanned};
 ghost use Rattle.store_word.specs.Words.{tag_of};
 ghost use Rattle.store_word.specs.declared.word.Content.TheVariants.{Struct as StructAt};
 ghost use Rattle.area_space.specs.lisp_graph.Effect.{grown_length as length_grown};
@@ -25,8 +25,8 @@ use transporter::place_for;
 /// more than its length and at most 2,047: `wanted`, or twice its length and one more, but at most 2,047,
 /// whichever is more.
 pub fn grown_length(length: u16, wanted: u16) -> u16
-    requires more { length < wanted }
-    requires few { wanted ≤ 2047 }
+    requires order { length < wanted }
+    requires at_most { wanted ≤ 2047 }
     ensures { result ≡ length_grown length wanted }
 {
     wanted.max((2 * length + 1).min(2047))
@@ -47,14 +47,14 @@ pub fn grow<M: Memory, L: Ledger>(
     wanted: u16,
     steps: &mut Steps<L>,
 ) -> Result<u32, BlockFault>
-    requires few { wanted ≤ 2047 }
+    requires at_most { wanted ≤ 2047 }
     requires can { CanGrow (view ground.old) of wanted }
 
     // What grows, to which address, and what remains at the old place.
-    ensures grown { IfOk result (GrowsBlock (view ground.old) (view ground.new) of.content wanted) }
-    ensures within { IfOk result (λ at. GrowsWithin (view ground.old) of.content wanted) }
-    ensures below { IfOk result (λ at. at < 2 ^ 28) }
-    ensures husk { IfOk result (λ at. (reference here : ℕ) → of.content ≡ StructAt reference → Final (view ground.old).mem.store.words reference here
+    ensures grows { IfOk result (GrowsBlock (view ground.old) (view ground.new) of.content wanted) }
+    ensures size { IfOk result (λ at. GrowsWithin (view ground.old) of.content wanted) }
+    ensures in_range { IfOk result (λ at. at < 2 ^ 28) }
+    ensures left { IfOk result (λ at. (reference here : ℕ) → of.content ≡ StructAt reference → Final (view ground.old).mem.store.words reference here
         → IsHusk (view ground.old).mem.store (view ground.new).mem.store here at wanted) }
     ensures placed { IfOk result (λ at. (reference here : ℕ) → of.content ≡ StructAt reference → Final (view ground.old).mem.store.words reference here
         → PlacesGrown (view ground.old) ground.new.table here at wanted) }
@@ -63,23 +63,23 @@ pub fn grow<M: Memory, L: Ledger>(
     ensures needed { OpensForGrown (view ground.old) ground.new.table of.content wanted }
 
     // What is refused.
-    ensures not_a_block { (result ≡ Err BlockFault.NotABlock) ↔ (tag_of of.content ≢ Tag.Struct) }
-    ensures every_field { (count : ℕ) → result ≢ Err (BlockFault.NoField count) }
+    ensures refused { (result ≡ Err BlockFault.NotABlock) ↔ (tag_of of.content ≢ Tag.Struct) }
+    ensures no_field { (count : ℕ) → result ≢ Err (BlockFault.NoField count) }
 
     // What is unchanged in the ground.
     ensures preserves { PreservesScanned (view ground.old) (view ground.new) }
-    ensures stays_fresh { AllFresh (view ground.old) → AllFresh (view ground.new) }
+    ensures stays_fresh { NoOldAddresses (view ground.old) → NoOldAddresses (view ground.new) }
     ensures marks { MarksFollow (view ground.old) (view ground.new) }
 
     // After a swap error, and that it is counted.
     ensures opened { OnErr result (OpensOrStays ground.old.table ground.new.table) }
-    ensures fault { OnErr result (StaysOn (view ground.old) (view ground.new)) }
-    ensures tells { TellsIf (view ground.old).mem (view ground.new).mem steps.old steps.new (is_fault result) }
+    ensures fault { OnErr result (WordsUnchanged (view ground.old) (view ground.new)) }
+    ensures accounted { AccountsForFaultsIf (view ground.old).mem (view ground.new).mem steps.old steps.new (is_fault result) }
 
     // The cost.
     ensures cost { steps.new ≤ steps.old + 4 * wanted + 40 }
 {
-    ground.table.known();
+    ground.table.assert_invariant();
     let head = find(&mut ground.mem, of, steps)?;
     let class = class_of_live(&ground.table, head.at);
     let wide = grown_length(head.length, wanted);
@@ -88,6 +88,6 @@ pub fn grow<M: Memory, L: Ledger>(
     lay_anew(&mut ground.mem, head, placed.at, wide, steps)?;
     ground.commit(&placed, words, words, Origin::New);
     ground.note_husk(head.at, head.length as u32 + 1);
-    ground.table.known();
+    ground.table.assert_invariant();
     Ok(placed.at)
 }

@@ -1,13 +1,13 @@
 //! Finds a block by a reference, and reads its header.
 ghost use Rattle.std.specs.Prelude.{◌≡◌, ◌≢◌, ◌↔◌, ◌+◌, ◌/◌, ◌<◌, ◌≤◌, ℕ, Err, IfOk};
-ghost use Rattle.mem_port.specs.View.{TellsIf, shown};
+ghost use Rattle.mem_port.specs.View.{AccountsForFaultsIf, shown};
 ghost use Rattle.area_space.specs.View.{view};
 ghost use Rattle.block_store.specs.Faults.{is_fault};
 ghost use Rattle.block_store.specs.Views.{HasMeaning, TellsArea, TellsCode, TellsLength};
 ghost use Rattle.store_word.specs.Words.{tag_of};
 ghost use Rattle.mem_port.specs.Store.{StoresNothing};
 ghost use Rattle.area_space.specs.Table.{areas_of, IsLive};
-ghost use Rattle.transporter.specs.Settling.{HasOld};
+ghost use Rattle.transporter.specs.Settling.{RefersToOld};
 ghost use Rattle.block_store.specs.Headers.{CanFind, IsHead, IsLiveIn};
 ghost use Rattle.block_store.specs.Looks.{LooksAtBlock};
 
@@ -33,12 +33,12 @@ pub(crate) fn find<M: Memory, L: Ledger>(
     steps: &mut Steps<L>,
 ) -> Result<Head, BlockFault>
     requires { CanFind (M.seen mem.old).words of.content }
-    ensures head { IfOk result (IsHead (M.seen mem.old).words of.content) }
-    ensures few { IfOk result (λ head. head.length ≤ 2047) }
-    ensures not_a_block { (result ≡ Err BlockFault.NotABlock) ↔ (tag_of of.content ≢ Tag.Struct) }
-    ensures every_field { (count : ℕ) → result ≢ Err (BlockFault.NoField count) }
-    ensures stays { StoresNothing (M.seen mem.old) (M.seen mem.new) }
-    ensures tells { TellsIf (shown M.Memory mem.old) (shown M.Memory mem.new) steps.old steps.new (is_fault result) }
+    ensures value { IfOk result (IsHead (M.seen mem.old).words of.content) }
+    ensures at_most { IfOk result (λ head. head.length ≤ 2047) }
+    ensures refused { (result ≡ Err BlockFault.NotABlock) ↔ (tag_of of.content ≢ Tag.Struct) }
+    ensures no_field { (count : ℕ) → result ≢ Err (BlockFault.NoField count) }
+    ensures unchanged { StoresNothing (M.seen mem.old) (M.seen mem.new) }
+    ensures accounted { AccountsForFaultsIf (shown M.Memory mem.old) (shown M.Memory mem.new) steps.old steps.new (is_fault result) }
     ensures cost { steps.new ≤ steps.old + 13 }
 {
     match of.content() {
@@ -65,8 +65,8 @@ pub fn length<M: Memory, L: Ledger>(
 ) -> Result<u16, BlockFault>
     requires { HasMeaning (view ground.old) of.content }
     ensures value { IfOk result (TellsLength (view ground.old) of.content) }
-    ensures few { IfOk result (λ count. count ≤ 2047) }
-    ensures looks { LooksAtBlock (view ground.old) (view ground.new) of result steps.old steps.new }
+    ensures at_most { IfOk result (λ count. count ≤ 2047) }
+    ensures costs { LooksAtBlock (view ground.old) (view ground.new) of result steps.old steps.new }
 {
     let head = find(&mut ground.mem, of, steps)?;
     Ok(head.length)
@@ -81,7 +81,7 @@ pub fn code<M: Memory, L: Ledger>(
 ) -> Result<u16, BlockFault>
     requires { HasMeaning (view ground.old) of.content }
     ensures value { IfOk result (TellsCode (view ground.old) of.content) }
-    ensures looks { LooksAtBlock (view ground.old) (view ground.new) of result steps.old steps.new }
+    ensures costs { LooksAtBlock (view ground.old) (view ground.new) of result steps.old steps.new }
 {
     let head = find(&mut ground.mem, of, steps)?;
     Ok(head.code)
@@ -89,11 +89,11 @@ pub fn code<M: Memory, L: Ledger>(
 
 // The class of an address in a live region.
 pub(crate) fn class_of_live(table: &RegionTable, at: u32) -> Class
-    requires inside { at / 4096 < table.now.regions }
+    requires in_range { at / 4096 < table.now.regions }
     requires live { IsLive table.now (at / 4096) }
     ensures { IsLiveIn table.now at result }
 {
-    table.known();
+    table.assert_invariant();
     match table.class_of(at) {
         Some(class) => class,
         None => unreachable!(),
@@ -102,28 +102,28 @@ pub(crate) fn class_of_live(table: &RegionTable, at: u32) -> Class
 
 /// How many fields a block has, and the place of its area in the world's list.
 #[derive(Clone, Copy, Debug)]
-pub struct Extent {
+pub struct BlockSize {
     pub length: u16,
     pub area: u8,
 }
 
 /// The number of fields and the area of the block to which a settled word refers, with the same
 /// refusals. It takes at most 13 memory accesses, and stores nothing.
-pub fn measure<M: Memory, L: Ledger>(
+pub fn block_size<M: Memory, L: Ledger>(
     ground: &mut Ground<M>,
     of: Word,
     steps: &mut Steps<L>,
-) -> Result<Extent, BlockFault>
-    requires meaning { HasMeaning (view ground.old) of.content }
-    requires young { HasOld ground.old.table of → ⊥ }
-    ensures length { IfOk result (λ extent. TellsLength (view ground.old) of.content extent.length) }
+) -> Result<BlockSize, BlockFault>
+    requires represented { HasMeaning (view ground.old) of.content }
+    requires fresh { RefersToOld ground.old.table of → ⊥ }
+    ensures size { IfOk result (λ extent. TellsLength (view ground.old) of.content extent.length) }
     ensures area { IfOk result (λ extent. TellsArea (view ground.old) of.content extent.area) }
-    ensures inside { IfOk result (λ extent. extent.area < areas_of ground.old.table) }
-    ensures looks { LooksAtBlock (view ground.old) (view ground.new) of result steps.old steps.new }
+    ensures in_range { IfOk result (λ extent. extent.area < areas_of ground.old.table) }
+    ensures costs { LooksAtBlock (view ground.old) (view ground.new) of result steps.old steps.new }
 {
     let head = find(&mut ground.mem, of, steps)?;
     let class = class_of_live(&ground.table, head.at);
-    Ok(Extent {
+    Ok(BlockSize {
         length: head.length,
         area: class.area,
     })

@@ -16,5 +16,5 @@ mod widening;
 pub use fault::BlockFault;
 pub use fields::{field, set_field};
 pub use growing::{grow, grown_length};
-pub use header::{Extent, code, length, measure};
+pub use header::{BlockSize, block_size, code, length};
 pub use making::make_block;

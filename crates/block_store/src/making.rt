@@ -1,9 +1,9 @@
 //! A new block in its class.
 ghost use Rattle.std.specs.Prelude.{◌≡◌, ◌+◌, ◌<◌, ◌≤◌, ◌^◌, ℕ, IsOk, IfOk, OnOk, OnErr, length as list_length};
-ghost use Rattle.mem_port.specs.View.{Quiet, Tells, shown};
+ghost use Rattle.mem_port.specs.View.{WithoutFault, AccountsForFaults, shown};
 ghost use Rattle.area_space.specs.View.{view};
 ghost use Rattle.block_store.specs.Views.{CanMake, MakesBlock};
-ghost use Rattle.transporter.specs.Views.{AllFresh, LiveSame, MarksFollow, StaysOn, PreservesScanned};
+ghost use Rattle.transporter.specs.Views.{NoOldAddresses, LiveWordsUnchanged, MarksFollow, WordsUnchanged, PreservesScanned};
 ghost use Rattle.mem_port.specs.Spans.{HoldsSpan};
 ghost use Rattle.mem_port.specs.Store.{StoresNothing};
 ghost use Rattle.mem_port.specs.declared.spans.Span.{Span};
@@ -12,13 +12,13 @@ ghost use Rattle.transporter.specs.Growth.{OpensOrStays};
 ghost use Rattle.transporter.specs.Making.{PlacesNew};
 ghost use Rattle.transporter.specs.Writes.{Writes};
 ghost use Rattle.block_store.specs.Making.{block_word};
-ghost use Rattle.block_store.specs.Marks.{MarksByWords};
+ghost use Rattle.transporter.specs.WrittenMarks.{MarksByWords};
 ghost use Rattle.block_store.specs.Opening.{OpensAsNeeded};
 ghost use Rattle.area_space.specs.Table.{slot_of};
 
 use crate::widening::fill;
 use area_space::{Ground, Origin};
-use mem_port::{Memory, Span, hold_spans, known};
+use mem_port::{Memory, Span, assert_invariant, hold_spans};
 use std::sync::ledger::Ledger;
 use store_word::{Steps, SwapFault, Word};
 use transporter::place_for;
@@ -32,16 +32,16 @@ fn write_block<M: Memory, L: Ledger>(
     length: u16,
     steps: &mut Steps<L>,
 ) -> Result<(), SwapFault>
-    requires few { length ≤ 2047 }
-    requires inside { at + length + 1 ≤ list_length (M.seen mem.old).words }
+    requires at_most { length ≤ 2047 }
+    requires in_range { at + length + 1 ≤ list_length (M.seen mem.old).words }
     requires held { HoldsSpan (M.held mem.old) (record { at = at; words = length + 1 }) }
-    ensures sure { IsOk result }
+    ensures succeeds { IsOk result }
     ensures written { Writes (M.seen mem.old) (M.seen mem.new) at (length + 1) (block_word code length) }
-    ensures quiet { Quiet (shown M.Memory mem.old) (shown M.Memory mem.new) steps.old steps.new }
+    ensures no_fault { WithoutFault (shown M.Memory mem.old) (shown M.Memory mem.new) steps.old steps.new }
     ensures cost { steps.new ≡ steps.old + length + 1 }
 {
     // No address of a memory overflows, as this call's contract says.
-    known(mem);
+    assert_invariant(mem);
     mem.write(at, Word::header(code, length), steps)?;
     fill(mem, at + 1, length as u32, Word::nil(), steps)
 }
@@ -54,11 +54,11 @@ fn hold_and_write<M: Memory, L: Ledger>(
     length: u16,
     steps: &mut Steps<L>,
 ) -> Result<(), SwapFault>
-    requires few { length ≤ 2047 }
-    requires inside { at + length + 1 ≤ list_length (M.seen mem.old).words }
+    requires at_most { length ≤ 2047 }
+    requires in_range { at + length + 1 ≤ list_length (M.seen mem.old).words }
     ensures ok { OnOk result (Writes (M.seen mem.old) (M.seen mem.new) at (length + 1) (block_word code length)) }
     ensures err { OnErr result (StoresNothing (M.seen mem.old) (M.seen mem.new)) }
-    ensures tells { Tells (shown M.Memory mem.old) (shown M.Memory mem.new) steps.old steps.new result }
+    ensures accounted { AccountsForFaults (shown M.Memory mem.old) (shown M.Memory mem.new) steps.old steps.new result }
     ensures cost { steps.new ≤ steps.old + length + 10 }
 {
     let block = Span {
@@ -85,27 +85,27 @@ pub fn make_block<M: Memory, L: Ledger>(
     length: u16,
     steps: &mut Steps<L>,
 ) -> Result<u32, SwapFault>
-    requires few { length ≤ 2047 }
+    requires at_most { length ≤ 2047 }
     requires can { CanMake (view ground.old) area level length }
 
     // What is made, and at which address.
     ensures made { IfOk result (MakesBlock (view ground.old) (view ground.new) area level code length) }
-    ensures below { IfOk result (λ at. at < 2 ^ 28) }
+    ensures in_range { IfOk result (λ at. at < 2 ^ 28) }
     ensures words { IfOk result (λ at. (i : ℕ) → i < length + 1 → word_at (view ground.new).mem.store.words (at + i) ≡ block_word code length i) }
     ensures placed { IfOk result (λ at. PlacesNew ground.old.table ground.new.table area level at (length + 1) (length + 1)) }
     ensures unmarked { IfOk result (λ at. MarksByWords (view ground.old).mem.store (view ground.new).mem.store at (length + 1)) }
     ensures needed { OpensAsNeeded ground.old.table ground.new.table (slot_of ground.old.table area level) (length + 1) }
 
     // What is unchanged in the ground.
-    ensures live { LiveSame (view ground.old) (view ground.new) }
+    ensures live { LiveWordsUnchanged (view ground.old) (view ground.new) }
     ensures preserves { PreservesScanned (view ground.old) (view ground.new) }
-    ensures stays_fresh { AllFresh (view ground.old) → AllFresh (view ground.new) }
+    ensures stays_fresh { NoOldAddresses (view ground.old) → NoOldAddresses (view ground.new) }
     ensures marks { MarksFollow (view ground.old) (view ground.new) }
 
     // After a swap error, and that it is counted.
     ensures opened { OnErr result (OpensOrStays ground.old.table ground.new.table) }
-    ensures fault { OnErr result (StaysOn (view ground.old) (view ground.new)) }
-    ensures tells { Tells (view ground.old).mem (view ground.new).mem steps.old steps.new result }
+    ensures fault { OnErr result (WordsUnchanged (view ground.old) (view ground.new)) }
+    ensures accounted { AccountsForFaults (view ground.old).mem (view ground.new).mem steps.old steps.new result }
 
     // The cost.
     ensures cost { steps.new ≤ steps.old + length + 10 }

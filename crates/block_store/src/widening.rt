@@ -1,6 +1,6 @@
 //! Writes the words of a block again, wider, and turns the old ones into a husk.
 ghost use Rattle.std.specs.Prelude.{◌≡◌, ◌+◌, ◌*◌, ◌<◌, ◌≤◌, ℕ, IsOk, OnOk, OnErr, length as list_length, ◌%◌};
-ghost use Rattle.mem_port.specs.View.{Quiet, Tells, shown};
+ghost use Rattle.mem_port.specs.View.{WithoutFault, AccountsForFaults, shown};
 ghost use Rattle.mem_port.specs.Spans.{HoldsSpan};
 ghost use Rattle.mem_port.specs.Store.{StoresNothing};
 ghost use Rattle.mem_port.specs.declared.spans.Span.{Span};
@@ -8,7 +8,7 @@ ghost use Rattle.transporter.specs.Writes.{Writes};
 ghost use Rattle.block_store.specs.Growing.{CanLayAnew, LaysAnew, grown_word, husk_word};
 
 use crate::header::Head;
-use mem_port::{Memory, Span, hold_spans, known};
+use mem_port::{Memory, Span, assert_invariant, hold_spans};
 use std::sync::ledger::Ledger;
 use store_word::{Steps, SwapFault, Word};
 use transporter::copy_words;
@@ -17,7 +17,7 @@ use transporter::copy_words;
 fn on_one_page(at: u32, left: u32) -> u32
     requires { 0 < left }
     ensures some { 0 < result }
-    ensures few { result ≤ left }
+    ensures at_most { result ≤ left }
     ensures page { at % 256 + result ≤ 256 }
 {
     left.min(256 - at % 256)
@@ -32,16 +32,16 @@ pub(crate) fn fill<M: Memory, L: Ledger>(
     word: Word,
     steps: &mut Steps<L>,
 ) -> Result<(), SwapFault>
-    requires inside { at + count ≤ list_length (M.seen mem.old).words }
+    requires in_range { at + count ≤ list_length (M.seen mem.old).words }
     requires held { HoldsSpan (M.held mem.old) (record { at = at; words = count }) }
-    ensures sure { IsOk result }
+    ensures succeeds { IsOk result }
     ensures written { Writes (M.seen mem.old) (M.seen mem.new) at count (λ i. word) }
-    ensures held { (page : ℕ) → M.held mem.old page → M.held mem.new page }
-    ensures quiet { Quiet (shown M.Memory mem.old) (shown M.Memory mem.new) steps.old steps.new }
+    ensures stays_held { (page : ℕ) → M.held mem.old page → M.held mem.new page }
+    ensures no_fault { WithoutFault (shown M.Memory mem.old) (shown M.Memory mem.new) steps.old steps.new }
     ensures cost { steps.new ≡ steps.old + count }
 {
     // No address of a memory overflows, as this call's contract says.
-    known(mem);
+    assert_invariant(mem);
     let mut done = 0;
     while done < count {
         let piece = on_one_page(at + done, count - done);
@@ -67,16 +67,16 @@ fn write_wide<M: Memory, L: Ledger>(
     requires to_held { HoldsSpan (M.held mem.old) (record { at = to; words = wide + 1 }) }
 
     // No swap error occurs, and the block is written.
-    ensures sure { IsOk result }
+    ensures succeeds { IsOk result }
     ensures written { Writes (M.seen mem.old) (M.seen mem.new) to (wide + 1) (grown_word (M.seen mem.old).words head.at head.code head.length wide) }
 
     // What stays held, swap errors and the cost.
-    ensures held { (page : ℕ) → M.held mem.old page → M.held mem.new page }
-    ensures quiet { Quiet (shown M.Memory mem.old) (shown M.Memory mem.new) steps.old steps.new }
+    ensures stays_held { (page : ℕ) → M.held mem.old page → M.held mem.new page }
+    ensures no_fault { WithoutFault (shown M.Memory mem.old) (shown M.Memory mem.new) steps.old steps.new }
     ensures cost { steps.new ≡ steps.old + head.length + wide + 1 }
 {
     // No address of a memory overflows, as this call's contract says.
-    known(mem);
+    assert_invariant(mem);
     let fields = head.length as u32;
     mem.write(to, Word::header(head.code, wide), steps)?;
     copy_words(mem, head.at + 1, to + 1, fields, steps)?;
@@ -97,16 +97,16 @@ fn leave_husk<M: Memory, L: Ledger>(
     to: u32,
     steps: &mut Steps<L>,
 ) -> Result<(), SwapFault>
-    requires inside { head.at + head.length + 1 ≤ list_length (M.seen mem.old).words }
-    requires to_inside { to < list_length (M.seen mem.old).words }
+    requires in_range { head.at + head.length + 1 ≤ list_length (M.seen mem.old).words }
+    requires to { to < list_length (M.seen mem.old).words }
     requires held { HoldsSpan (M.held mem.old) (record { at = head.at; words = head.length + 1 }) }
-    ensures sure { IsOk result }
+    ensures succeeds { IsOk result }
     ensures written { Writes (M.seen mem.old) (M.seen mem.new) head.at (head.length + 1) (husk_word to) }
-    ensures quiet { Quiet (shown M.Memory mem.old) (shown M.Memory mem.new) steps.old steps.new }
+    ensures no_fault { WithoutFault (shown M.Memory mem.old) (shown M.Memory mem.new) steps.old steps.new }
     ensures cost { steps.new ≡ steps.old + head.length + 1 }
 {
     // No address of a memory overflows, as this call's contract says.
-    known(mem);
+    assert_invariant(mem);
     mem.write(head.at, Word::header_forward(to), steps)?;
     fill(mem, head.at + 1, head.length as u32, Word::null(), steps)
 }
@@ -127,7 +127,7 @@ pub(crate) fn lay_anew<M: Memory, L: Ledger>(
     ensures err { OnErr result (StoresNothing (M.seen mem.old) (M.seen mem.new)) }
 
     // Swap errors and the cost.
-    ensures tells { Tells (shown M.Memory mem.old) (shown M.Memory mem.new) steps.old steps.new result }
+    ensures accounted { AccountsForFaults (shown M.Memory mem.old) (shown M.Memory mem.new) steps.old steps.new result }
     ensures cost { steps.new ≤ steps.old + 2 * head.length + wide + 20 }
 {
     let from = Span {

@@ -2,7 +2,7 @@
 use Rattle.std.proofs.Common.{◌≡◌, ◌≢◌, ◌⊎◌, ◌∙◌, ap, subst, inl, inr, ℕ, List, [], Option, Some, None, refl}
 use Rattle.std.specs.Prelude.{is_some}
 use Rattle.outer_ports.specs.Ports.{Rose}
-use Rattle.paged_machine.specs.Holding.{Holding, MeansFor}
+use Rattle.paged_machine.specs.Holding.{Holding, HasReading}
 use Rattle.line_input.specs.declared.statuses.status.Status.{Status}
 use Rattle.line_input.specs.declared.statuses.status.Status.TheVariants.{NoMemory, Usage as UsageStatus}
 use Rattle.line_input.specs.declared.statuses.status.RunError.TheVariants.{Memory, Usage}
@@ -19,17 +19,17 @@ use Rattle.inside_run.specs.Outcome.{Shows}
 use Rattle.byte_run.specs.Answered.{Does, ShowsFor}
 
 pub does_of : (mode : Option Mode) {input written left old : List ℕ} {last : ℕ} (machine : Holding) (rose number : ℕ) → old ≡ []
-    → (mode ≡ Some M.Replay → (status : Status) × (number ≡ code status) × (i b w : List ℕ) × Ran (Some input) (Some left) (λ had. old ≡ had) (λ had. written ≡ had) (observes i b last w (MeansFor machine.heap) (is_some machine.heap) (Rose 0 0) rose) status)
-    → ((seed count : ℕ) → mode ≡ Some (M.Exercise seed count) → (status : Status) × (number ≡ code status) × Exercised seed count (λ had. old ≡ had) (λ had. written ≡ had) (MeansFor machine.heap) (is_some machine.heap) rose status)
+    → (mode ≡ Some M.Replay → (status : Status) × (number ≡ code status) × (i b w : List ℕ) × Ran (Some input) (Some left) (λ had. old ≡ had) (λ had. written ≡ had) (observes i b last w (HasReading machine.heap) (is_some machine.heap) (Rose 0 0) rose) status)
+    → ((seed count : ℕ) → mode ≡ Some (M.Exercise seed count) → (status : Status) × (number ≡ code status) × Exercised seed count (λ had. old ≡ had) (λ had. written ≡ had) (HasReading machine.heap) (is_some machine.heap) rose status)
     → ((asked : FileMode) → mode ≡ Some (M.OfFile asked) → (status : Status) × (number ≡ code status) × files.Ran asked (Some input) (Some left) (λ had. old ≡ had) (λ had. written ≡ had) (Rose 0 0) status)
     → (mode ≡ None → (status : Status) × (number ≡ code status) × Refused (λ had. old ≡ had) (λ had. written ≡ had) status)
     → (status : Status) × (number ≡ code status) × Does mode input written status
 does_of (Some M.Replay) {input} {written} {left} {last = last} machine rose number none ran exercised asked usage =
     let r = ran refl in
-    (r.0, r.1, (left, machine, rose, last, r.2, r.3, r.4, subst (λ o. Ran (Some input) (Some left) (λ had. o ≡ had) (λ had. written ≡ had) (observes r.2 r.3 last r.4 (MeansFor machine.heap) (is_some machine.heap) (Rose 0 0) rose) r.0) none r.5))
+    (r.0, r.1, (left, machine, rose, last, r.2, r.3, r.4, subst (λ o. Ran (Some input) (Some left) (λ had. o ≡ had) (λ had. written ≡ had) (observes r.2 r.3 last r.4 (HasReading machine.heap) (is_some machine.heap) (Rose 0 0) rose) r.0) none r.5))
 does_of (Some (M.Exercise seed count)) {written = written} machine rose number none ran exercised asked usage =
     let r = exercised seed count refl in
-    (r.0, r.1, (machine, rose, subst (λ o. Exercised seed count (λ had. o ≡ had) (λ had. written ≡ had) (MeansFor machine.heap) (is_some machine.heap) rose r.0) none r.2))
+    (r.0, r.1, (machine, rose, subst (λ o. Exercised seed count (λ had. o ≡ had) (λ had. written ≡ had) (HasReading machine.heap) (is_some machine.heap) rose r.0) none r.2))
 does_of (Some (M.OfFile mode)) {input} {written} {left} machine rose number none ran exercised asked usage =
     let r = asked mode refl in
     (r.0, r.1, (left, subst (λ o. files.Ran mode (Some input) (Some left) (λ had. o ≡ had) (λ had. written ≡ had) (Rose 0 0) r.0) none r.2))

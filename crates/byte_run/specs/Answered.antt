@@ -2,7 +2,7 @@
 use Rattle.std.specs.Prelude.{◌≡◌, ◌⊎◌, ℕ, List, [], Option, is_some, Some, None}
 use Rattle.std.specs.Option.{option_and_then}
 use Rattle.outer_ports.specs.Ports.{Rose}
-use Rattle.paged_machine.specs.Holding.{Holding, MeansFor}
+use Rattle.paged_machine.specs.Holding.{Holding, HasReading}
 use Rattle.line_input.specs.declared.statuses.status.Status.{Status}
 use Rattle.line_input.specs.declared.statuses.status.RunError.TheVariants.{Memory}
 use Rattle.line_input.specs.Statuses.{code, trouble_line}
@@ -34,9 +34,9 @@ HasFail bytes fail = ((arguments : List (List ℕ)) × AreArguments bytes argume
 abbrev pub Does : Option Mode → List ℕ → List ℕ → Status → Type 0
 Does (Some M.Replay) input written status =
     (left : List ℕ) × (machine : Holding) × (rose : ℕ) × (last : ℕ) × (i b w : List ℕ) × Ran (Some input) (Some left) (λ had. [] ≡ had) (λ had. written ≡ had)
-    (record { input = i; taken = b; last = last; written = w; stands = MeansFor machine.heap; loaded = is_some machine.heap; source_rose = Rose 0 0; swap_rose = rose }) status
+    (record { input = i; taken = b; last = last; written = w; stands = HasReading machine.heap; loaded = is_some machine.heap; source_rose = Rose 0 0; swap_rose = rose }) status
 Does (Some (M.Exercise number count)) input written status =
-    (machine : Holding) × (rose : ℕ) × Exercised number count (λ had. [] ≡ had) (λ had. written ≡ had) (MeansFor machine.heap) (is_some machine.heap) rose status
+    (machine : Holding) × (rose : ℕ) × Exercised number count (λ had. [] ≡ had) (λ had. written ≡ had) (HasReading machine.heap) (is_some machine.heap) rose status
 Does (Some (M.OfFile mode)) input written status = (left : List ℕ) × files.Ran mode (Some input) (Some left) (λ had. [] ≡ had) (λ had. written ≡ had) (Rose 0 0) status
 Does None input written status = Refused (λ had. [] ≡ had) (λ had. written ≡ had) status
 

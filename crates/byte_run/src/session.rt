@@ -18,9 +18,9 @@ pub struct ByteSession {
 impl ByteSession {
     /// A session that was fed nothing.
     pub fn new(alloc: Global) -> Result<ByteSession, NoMemory>
-        ensures fed { IfOk result (λ s. Does [] [] s.session) }
+        ensures does { IfOk result (λ s. Does [] [] s.session) }
         ensures open { IfOk result (λ s. s.session.state ≡ SessionState.Open) }
-        ensures answer { IfOk result (λ s. s.session.answer ≡ []) }
+        ensures empty { IfOk result (λ s. s.session.answer ≡ []) }
     {
         let machine = Machine::idle(SwapMemory::new(alloc, 0));
         let session = Session::new(alloc, machine)?;
@@ -65,7 +65,7 @@ impl ByteSession {
     /// Feeds the next line to an open session, as `Session::line` says.
     pub fn line(&mut self, alloc: Global, text: &[u8])
         requires open { self.old.session.state ≡ SessionState.Open }
-        requires one { no_feed text.now ≡ true }
+        requires at_least { no_feed text.now ≡ true }
         ensures does { (fed written : List ℕ) → Does fed written self.old.session → Does (fed ++ fed_of text.now) (written ++ self.new.session.answer) self.new.session }
         ensures ended { self.new.session.state ≢ SessionState.Ended Status.Done }
         ensures write { self.new.session.state ≢ SessionState.Ended Status.WriteFailed }

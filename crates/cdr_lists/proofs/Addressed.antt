@@ -15,8 +15,8 @@ use Rattle.transporter.specs.lisp_meaning.Roles.{AsCons, RoleMap, as_ref, names_
 use Rattle.transporter.proofs.lisp_ground.Leading.{references_lead}
 use Rattle.transporter.specs.lisp_ground.GroundInvariant.{GroundInvariant}
 use Rattle.transporter.specs.Settled.{MeansOn}
-use Rattle.transporter.specs.Settling.{HasOld, IsKeptValue, reference_of}
-use Rattle.transporter.specs.Transports.{LaterOn}
+use Rattle.transporter.specs.Settling.{RefersToOld, IsKeptValue, reference_of}
+use Rattle.transporter.specs.Transports.{RepresentedByLaterMap}
 use Rattle.cdr_lists.specs.Reading.{CanRead, IsReadable, KeepsCons, ReadsCar, ReadsCdr}
 use Rattle.cdr_lists.specs.Parts.{CanSet, SetOn, SetsCar, SetsCdr}
 use Rattle.cdr_lists.specs.Words.{plain}
@@ -52,7 +52,7 @@ pub record CanSetAt (m : Memory.Store) (t : Table) (at : ℕ) (word : Parts) : T
   pub fresh : IsOld t (at / 4096) → ⊥
   pub value : Value
   pub value_is : value_of map.role word.content ≡ Some value
-  pub young : HasOld t word → ⊥
+  pub young : RefersToOld t word → ⊥
 
 abbrev pub ReadsCarAt : Memory.Store → Table → Memory.Store → Table → ℕ → Parts → Type 0
 ReadsCarAt m t m' t' at word =
@@ -67,7 +67,7 @@ ReadsCdrAt m t m' t' at word =
 abbrev pub KeepsConsAt : Memory.Store → Table → Memory.Store → Table → ℕ → Type 0
 KeepsConsAt m t m' t' at =
     (k : RoleMap) (top : ℕ) (areas : List AreaRule) (registers : List Value) (s : Store) (aim : Condemned) (n : ℕ)
-    → CanReadAt m t k top areas registers s aim at n → LaterOn m t m' t' k top areas s aim
+    → CanReadAt m t k top areas registers s aim at n → RepresentedByLaterMap m t m' t' k top areas s aim
 
 abbrev pub SetsCarAt : Memory.Store → Table → Memory.Store → Table → ℕ → Content → Type 0
 SetsCarAt m t m' t' at written =

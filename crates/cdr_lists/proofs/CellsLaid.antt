@@ -44,8 +44,8 @@ use Rattle.cdr_lists.proofs.Addressed.{CanSetAt, SetsCdrAt}
 use Rattle.cdr_lists.specs.Words.{plain}
 use Rattle.area_space.specs.PageList.{Adds}
 use Rattle.transporter.specs.Growth.{OpensOrStays}
-use Rattle.transporter.specs.LiveSame.{IsLiveWord, LiveSameBut}
-use Rattle.transporter.specs.Preserving.{AllFresh, FreshOn, PreservesScanned}
+use Rattle.transporter.specs.LiveWordsUnchanged.{IsLiveWord, LiveWordsUnchangedExcept}
+use Rattle.transporter.specs.Preserving.{NoOldAddresses, FreshOn, PreservesScanned}
 use Rattle.transporter.proofs.Extended.{Extends, committed-extends}
 use Rattle.transporter.proofs.Preserved.{fresh-grown, fresh-value}
 use Rattle.cdr_lists.proofs.Relaid.{relay_stays_fresh, relay_first, relay_forward, relay_others, relay_second, relay_preserves, relay_rest, relay_marks}
@@ -200,7 +200,7 @@ module _ (m : Memory.Store) (t : Table) (cell : ℕ) (car cdr : Parts) (can : Ca
             marks-then (opened_marks m t can.map can.top can.areas can.objects can.aim can.can.kept class.area class.level area_in level_in m1 t1 region opens at end)
             (relay_marks m m1 m2 t t1 t2 can.can.kept.table sound words_same opened_only (slot_of t1 class.area class.level) at cell first second extends w cell_inside live_cell (no-forward _ no_forward))
 
-        pub cell_others : LiveSameBut m t m2 t2 cell
+        pub cell_others : LiveWordsUnchangedExcept m t m2 t2 cell
         cell_others = relay_others m m1 m2 t t1 t2 can.can.kept.table sound words_same opened_only (slot_of t1 class.area class.level) at cell first second extends w
 
         pub cell_laid : OpensIfNeeded t t1 class.area class.level 2 → first ≡ record car { cdr = Normal } → second ≡ record cdr { cdr = Next } → LaysPair m t m2 t2 cell car cdr
@@ -220,7 +220,7 @@ module _ (m : Memory.Store) (t : Table) (cell : ℕ) (car cdr : Parts) (can : Ca
           rest = relay_rest m m1 m2 t t1 t2 can.can.kept.table sound words_same opened_only (slot_of t1 class.area class.level) at cell first second extends w;
         }
 
-        pub cell_stays_fresh : first ≡ record car { cdr = Normal } → second ≡ record cdr { cdr = Next } → FreshOn t car.content → AllFresh m t → AllFresh m2 t2
+        pub cell_stays_fresh : first ≡ record car { cdr = Normal } → second ≡ record cdr { cdr = Next } → FreshOn t car.content → NoOldAddresses m t → NoOldAddresses m2 t2
         cell_stays_fresh is_first is_second fresh =
             let preserves = cell_preserves in
             let first_fresh = subst (λ (p : Parts). FreshOn t2 p.content) (sym is_first) (fresh-grown car.content preserves.grows fresh) in

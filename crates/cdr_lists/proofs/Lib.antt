@@ -7,7 +7,6 @@ pub mod Finding
 pub mod LaidNew
 pub mod Listing
 pub mod LiveParts
-pub mod NewMarks
 pub mod NewPlaces
 pub mod Pairing
 pub mod PartsSet

@@ -26,7 +26,7 @@ use Rattle.cdr_lists.proofs.LaidNew.{laid_live}
 use Rattle.transporter.specs.Making.{PlacesNew}
 use Rattle.area_space.specs.PageList.{Adds}
 use Rattle.obj_layout.specs.Forwards.{word_at}
-use Rattle.transporter.specs.LiveSame.{LiveSame, OnlyGrows}
+use Rattle.transporter.specs.LiveWordsUnchanged.{LiveWordsUnchanged, OnlyGrows}
 use Rattle.transporter.specs.Preserving.{FreshOn}
 use Rattle.transporter.proofs.Preserved.{fresh-grown}
 use Rattle.transporter.specs.Marking.{MarksFollow}
@@ -117,7 +117,7 @@ module _ (m : Memory.Store) (t : Table) (area level : ℕ) (registers : List Par
           marks-then (opened_marks m t can.map can.top can.areas can.objects can.aim can.kept area level list_area list_level m1 t1 region opens at end)
           (marks-placed sound (committed-extends t1 t2 (slot_of t1 area level) at (length items) (3 * length items) New t2.pages t1.last there commit pages) writes)
 
-      pub list_live : LiveSame m t m2 t2
+      pub list_live : LiveWordsUnchanged m t m2 t2
       list_live =
           live-then (opened_live m t can.map can.top can.areas can.objects can.aim can.kept area level list_area list_level m1 t1 region opens at end m1 (record { words = refl; levels = refl; top = refl; unmarked = λ page e. e }))
           (laid_live m1 m2 t1 t2 (slot_of t1 area level) at (length items) (committed-extends t1 t2 (slot_of t1 area level) at (length items) (3 * length items) New t2.pages t1.last there commit pages) (within-written writes))

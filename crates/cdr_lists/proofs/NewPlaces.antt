@@ -17,10 +17,10 @@ use Rattle.transporter.specs.lisp_ground.After.{old_on}
 use Rattle.transporter.proofs.lisp_ground.Places.{place_kept_on}
 use Rattle.transporter.proofs.Moved.{old-opened}
 use Rattle.transporter.specs.Growth.{OpensOrStays}
-use Rattle.transporter.specs.LiveSame.{LiveSame}
+use Rattle.transporter.specs.LiveWordsUnchanged.{LiveWordsUnchanged}
 use Rattle.transporter.specs.Relocations.{OpensIfFull}
-use Rattle.transporter.specs.Preserving.{AllFresh}
-use Rattle.transporter.specs.Transports.{StaysOn}
+use Rattle.transporter.specs.Preserving.{NoOldAddresses}
+use Rattle.transporter.specs.Transports.{WordsUnchanged}
 use Rattle.transporter.specs.Marking.{MarksFollow}
 use Rattle.transporter.specs.Moving.{MovesAtMost}
 use Rattle.transporter.proofs.Moving.{writes-moves}
@@ -104,7 +104,7 @@ module _ (m : Memory.Store) (t : Table) (k : RoleMap) (top : ℕ) (areas : List 
   pub opened_marks : MarksFollow m t m1 t1
   opened_marks = marks-opened region on.table area_in level_in opens
 
-  pub opened_stays : (m2 : Memory.Store) → StoresNothing m1 m2 → StaysOn m t m2 t1
+  pub opened_stays : (m2 : Memory.Store) → StoresNothing m1 m2 → WordsUnchanged m t m2 t1
   opened_stays = Opened.opened_stays m t k top areas s aim on area level area_in level_in m1 t1 region opens
 
   -- and nothing is placed
@@ -117,7 +117,7 @@ module _ (m : Memory.Store) (t : Table) (k : RoleMap) (top : ℕ) (areas : List 
     codes = λ a. ap (λ (ws : List Parts). (word_at ws a).cdr) (opened_stays m2 stays).words;
   })
 
-  pub opened_live : (m2 : Memory.Store) → StoresNothing m1 m2 → LiveSame m t m2 t1
+  pub opened_live : (m2 : Memory.Store) → StoresNothing m1 m2 → LiveWordsUnchanged m t m2 t1
   opened_live = Opened.opened_live m t k top areas s aim on area level area_in level_in m1 t1 region opens
 
   pub opened_or_same : OpensOrStays t t1
@@ -128,7 +128,7 @@ module _ (m : Memory.Store) (t : Table) (k : RoleMap) (top : ℕ) (areas : List 
   same_used (inr o) r = ap (λ (u : Table). used_of u r) o.table
 
   -- after a swap error all words are as fresh as before
-  pub opened_stays_fresh : (m2 : Memory.Store) → StoresNothing m1 m2 → AllFresh m t → AllFresh m2 t1
+  pub opened_stays_fresh : (m2 : Memory.Store) → StoresNothing m1 m2 → NoOldAddresses m t → NoOldAddresses m2 t1
   opened_stays_fresh m2 stays = stays_fresh-tended m m2 t t1 on.table opens.sound (opened-preserves (opened_live m2 stays) opened_or_same) (λ a l past.
       let same = same_used opened_or_same (a / 4096) in
       let used = l.used in

@@ -19,7 +19,7 @@ use Rattle.transporter.proofs.lisp_ground.Making.{pair_made_on}
 use Rattle.area_space.specs.PageList.{Adds}
 use Rattle.transporter.specs.lisp_meaning.Fits.{PairCode}
 use Rattle.obj_layout.specs.Forwards.{word_at}
-use Rattle.transporter.specs.LiveSame.{LiveSame, OnlyGrows}
+use Rattle.transporter.specs.LiveWordsUnchanged.{LiveWordsUnchanged, OnlyGrows}
 use Rattle.transporter.specs.Preserving.{FreshOn}
 use Rattle.transporter.proofs.Preserved.{fresh-grown}
 use Rattle.transporter.proofs.Alive.{live-then}
@@ -116,7 +116,7 @@ module _ (m : Memory.Store) (t : Table) (area level charge : ℕ) (car cdr : Par
           marks-then (opened_marks m t can.map can.top can.areas can.objects can.aim can.kept area level area_inside level_inside m1 t1 region opens at end)
           (marks-placed sound (committed-extends t1 t2 (slot_of t1 area level) at 2 charge New t2.pages t1.last there commit pages) written)
 
-      pub pair_live : LiveSame m t m2 t2
+      pub pair_live : LiveWordsUnchanged m t m2 t2
       pair_live =
           live-then (opened_live m t can.map can.top can.areas can.objects can.aim can.kept area level area_inside level_inside m1 t1 region opens at end m1 (record { words = refl; levels = refl; top = refl; unmarked = λ page e. e }))
           (laid_live m1 m2 t1 t2 (slot_of t1 area level) at 2 (committed-extends t1 t2 (slot_of t1 area level) at 2 charge New t2.pages t1.last there commit pages) writes)

@@ -10,8 +10,8 @@ use Rattle.obj_layout.specs.Forwards.{word_at}
 use Rattle.transporter.specs.lisp_ground.Writes.{Within}
 use Rattle.transporter.proofs.lisp_ground.Words.{get_or_same}
 use Rattle.transporter.specs.Growth.{OpensOrStays}
-use Rattle.transporter.specs.LiveSame.{IsLiveWord, LiveSameBut}
-use Rattle.transporter.specs.Preserving.{AllFresh, FreshOn, PreservesScanned}
+use Rattle.transporter.specs.LiveWordsUnchanged.{IsLiveWord, LiveWordsUnchangedExcept}
+use Rattle.transporter.specs.Preserving.{NoOldAddresses, FreshOn, PreservesScanned}
 use Rattle.transporter.specs.Marking.{IsForward, MarksFollow}
 use Rattle.transporter.proofs.lisp_ground.Writing.{stores_within}
 use Rattle.transporter.proofs.Extended.{Extends, end-alive, used-apart}
@@ -48,7 +48,7 @@ module _ (m m1 m2 : Memory.Store) (t room t2 : Table) (v : IsTable t) (v2 : IsTa
   behind_live : (a : ℕ) → IsLiveWord t a → Within at 2 a → ⊥
   behind_live a l = used-apart room t2 slot at 2 x a (let u = l.used in let r = (opened-grows v opens).used (a / 4096) in omega arith)
 
-  pub relay_others : LiveSameBut m t m2 t2 cell
+  pub relay_others : LiveWordsUnchangedExcept m t m2 t2 cell
   relay_others = record {
     table = relay_preserves.grows;
     words = λ a ne l. relay_rest a ne (behind_live a l);
@@ -72,7 +72,7 @@ module _ (m m1 m2 : Memory.Store) (t room t2 : Table) (v : IsTable t) (v2 : IsTa
   relay_forward = got-word_at m2.words cell _ w.forward_at
 
   -- if the words of the pair are fresh
-  pub relay_stays_fresh : IsLiveWord t cell → FreshOn t2 first.content → FreshOn t2 second.content → AllFresh m t → AllFresh m2 t2
+  pub relay_stays_fresh : IsLiveWord t cell → FreshOn t2 first.content → FreshOn t2 second.content → NoOldAddresses m t → NoOldAddresses m2 t2
   relay_stays_fresh live car cdr = laid-stays_fresh m m2 t room t2 slot at 2 v v2 opens x relay_preserves new
     where
       apart : (a : ℕ) → Within at 2 a → a ≡ cell → ⊥

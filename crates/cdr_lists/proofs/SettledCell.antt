@@ -14,11 +14,11 @@ use Rattle.transporter.specs.lisp_meaning.State.{Condemned, Store}
 use Rattle.transporter.specs.lisp_meaning.Roles.{RoleMap, value_of}
 use Rattle.transporter.proofs.lisp_meaning.Frames.{refined}
 use Rattle.transporter.specs.Growth.{Grows}
-use Rattle.transporter.specs.LiveSame.{IsLiveWord, LiveSame, LiveSameBut, OnlyGrows}
+use Rattle.transporter.specs.LiveWordsUnchanged.{IsLiveWord, LiveWordsUnchanged, LiveWordsUnchangedExcept, OnlyGrows}
 use Rattle.transporter.specs.Moving.{FetchMoves, MovesAtMost}
-use Rattle.transporter.specs.Settling.{CanSettle, HasOld, IsSettleable, Settles, SettlesOn, content_to, readdressed}
-use Rattle.transporter.specs.Preserving.{AllFresh, FreshOn}
-use Rattle.transporter.specs.Transports.{LaterOn, StaysOn}
+use Rattle.transporter.specs.Settling.{CanSettle, RefersToOld, IsSettleable, Settles, SettlesOn, content_to, readdressed}
+use Rattle.transporter.specs.Preserving.{NoOldAddresses, FreshOn}
+use Rattle.transporter.specs.Transports.{RepresentedByLaterMap, WordsUnchanged}
 use Rattle.transporter.proofs.Alive.{grows-then, old-before, still-live}
 use Rattle.transporter.proofs.Fetched.{live-inside}
 use Rattle.cdr_lists.specs.Parts.{IsCellAt, LaysPair, RelaysCell, SettlesWord}
@@ -37,7 +37,7 @@ pub readable : (m : Memory.Store) (t : Table) (at : ℕ) (word : Parts) → CanS
 readable m t at word can = record { map = can.map; top = can.top; areas = can.areas; registers = can.registers; objects = can.objects; aim = can.aim; name = can.name; can = can.can; fresh = can.fresh }
 
 -- a cons that can be read can be read by a later map, too
-pub read_later : (m m2 : Memory.Store) (t t2 : Table) (k : RoleMap) (top : ℕ) (areas : List AreaRule) (registers : List Value) (s : Store) (aim : Condemned) (at n : ℕ) → CanReadAt m t k top areas registers s aim at n → OnlyGrows t t2 → (x : LaterOn m t m2 t2 k top areas s aim)
+pub read_later : (m m2 : Memory.Store) (t t2 : Table) (k : RoleMap) (top : ℕ) (areas : List AreaRule) (registers : List Value) (s : Store) (aim : Condemned) (at n : ℕ) → CanReadAt m t k top areas registers s aim at n → OnlyGrows t t2 → (x : RepresentedByLaterMap m t m2 t2 k top areas s aim)
     → CanReadAt m2 t2 x.map top areas registers s aim at n
 read_later m m2 t t2 k top areas registers s aim at n can grows x = record {
   kept = x.kept;
@@ -46,7 +46,7 @@ read_later m m2 t t2 k top areas registers s aim at n can grows x = record {
 }
 
 -- and set
-pub set_later : (m m2 : Memory.Store) (t t2 : Table) (at : ℕ) (word : Parts) (can : CanSetAt m t at word) → OnlyGrows t t2 → (x : LaterOn m t m2 t2 can.map can.top can.areas can.objects can.aim) → CanSetAt m2 t2 at word
+pub set_later : (m m2 : Memory.Store) (t t2 : Table) (at : ℕ) (word : Parts) (can : CanSetAt m t at word) → OnlyGrows t t2 → (x : RepresentedByLaterMap m t m2 t2 can.map can.top can.areas can.objects can.aim) → CanSetAt m2 t2 at word
 set_later m m2 t t2 at word can grows x = record {
   map = x.map;
   top = can.top;
@@ -71,7 +71,7 @@ settled_forward {t} {t'} {old} {new} x none = go x.is
     other (StructAt a) to e = refl
     other c to e = e
 
-    go : (new ≡ old) ⊎ ((to : ℕ) × HasOld t old × (new ≡ readdressed old to)) → forward_of new.content ≡ None
+    go : (new ≡ old) ⊎ ((to : ℕ) × RefersToOld t old × (new ≡ readdressed old to)) → forward_of new.content ≡ None
     go (inl e) = ap (λ (w : Parts). forward_of w.content) e ∙ none
     go (inr e) = ap (λ (w : Parts). forward_of w.content) e.2 ∙ other old.content e.0 none
 
@@ -84,7 +84,7 @@ module _ (m : Memory.Store) (t : Table) (cell : ℕ) (cdr : Parts) (can : CanSet
 
   -- a swap error occurred when the car was settled
   pub cell_faulted : (m2 : Memory.Store) (t2 : Table)
-      → ((k : RoleMap) (top : ℕ) (areas : List AreaRule) (registers : List Value) (s : Store) (aim : Condemned) (v : Value) → CanSettle m t k top areas registers s aim (word_at m.words cell) v → LaterOn m t m2 t2 k top areas s aim) → KeepsConsAt m t m2 t2 cell
+      → ((k : RoleMap) (top : ℕ) (areas : List AreaRule) (registers : List Value) (s : Store) (aim : Condemned) (v : Value) → CanSettle m t k top areas registers s aim (word_at m.words cell) v → RepresentedByLaterMap m t m2 t2 k top areas s aim) → KeepsConsAt m t m2 t2 cell
   cell_faulted m2 t2 later = car_faulted m m m2 t t2 cell cell (no_change m) (final_itself m.words cell is.final) later
 
   module _ (m2 : Memory.Store) (t2 : Table) (car : Parts)
@@ -96,7 +96,7 @@ module _ (m : Memory.Store) (t : Table) (cell : ℕ) (cdr : Parts) (can : CanSet
         let c = cons_here m t k top areas registers s aim cell n x in
         (settles k top areas registers s aim c.car (car_settles m t k top areas registers s aim cell n x cell (final_itself m.words cell is.final) c.car c.cdr c.body)).later
 
-    later : LaterOn m t m2 t2 can.map can.top can.areas can.objects can.aim
+    later : RepresentedByLaterMap m t m2 t2 can.map can.top can.areas can.objects can.aim
     later = fetched_later can.map can.top can.areas can.registers can.objects can.aim can.name can.can
 
     pub fetched_set : CanSetAt m2 t2 cell cdr
@@ -124,7 +124,7 @@ module _ (m : Memory.Store) (t : Table) (cell : ℕ) (cdr : Parts) (can : CanSet
             work = (let u = l.work in let v = y.work in omega arith);
           }
 
-      pub laid_faulted : StaysOn m2 t2 m3 t3 → KeepsConsAt m t m3 t3 cell
+      pub laid_faulted : WordsUnchanged m2 t2 m3 t3 → KeepsConsAt m t m3 t3 cell
       laid_faulted stays k top areas registers s aim n x =
           let l = fetched_later k top areas registers s aim n x in
           let old = stays.old l.map top areas s aim l.kept in
@@ -132,8 +132,8 @@ module _ (m : Memory.Store) (t : Table) (cell : ℕ) (cdr : Parts) (can : CanSet
           record { map = l.map; kept = stays.kept l.map top areas s aim l.kept; refines = l.refines; work = (let u = l.work in omega arith) }
 
 -- a cell whose car was settled was relocated
-pub cell_relaid : {m m2 m3 : Memory.Store} {t t2 t3 : Table} {cell : ℕ} {car cdr : Parts} → Settles t t2 (word_at m.words cell) car → word_at m2.words cell ≡ car → FetchMoves m t m2 t2 cell → MovesAtMost m t m2 t2 1 → Grows t t2 → LiveSameBut m t m2 t2 cell
-    → LaysPair m2 t2 m3 t3 cell car cdr × LiveSameBut m2 t2 m3 t3 cell → RelaysCell m t m3 t3 cell cdr
+pub cell_relaid : {m m2 m3 : Memory.Store} {t t2 t3 : Table} {cell : ℕ} {car cdr : Parts} → Settles t t2 (word_at m.words cell) car → word_at m2.words cell ≡ car → FetchMoves m t m2 t2 cell → MovesAtMost m t m2 t2 1 → Grows t t2 → LiveWordsUnchangedExcept m t m2 t2 cell
+    → LaysPair m2 t2 m3 t3 cell car cdr × LiveWordsUnchangedExcept m2 t2 m3 t3 cell → RelaysCell m t m3 t3 cell cdr
 cell_relaid {m} {m2} {m3} {t} {t2} {t3} {cell} {car} {cdr} settled written moves few grows x y = record {
   between = m2;
   table = t2;
@@ -146,7 +146,7 @@ cell_relaid {m} {m2} {m3} {t} {t2} {t3} {cell} {car} {cdr} settled written moves
 }
 
 -- or a swap error occurred after that
-pub cell_settled : {m m2 m3 : Memory.Store} {t t2 t3 : Table} {cell : ℕ} {car : Parts} → Settles t t2 (word_at m.words cell) car → word_at m2.words cell ≡ car → LiveSameBut m t m2 t2 cell → IsLiveWord t cell → LiveSame m2 t2 m3 t3
+pub cell_settled : {m m2 m3 : Memory.Store} {t t2 t3 : Table} {cell : ℕ} {car : Parts} → Settles t t2 (word_at m.words cell) car → word_at m2.words cell ≡ car → LiveWordsUnchangedExcept m t m2 t2 cell → IsLiveWord t cell → LiveWordsUnchanged m2 t2 m3 t3
     → SettlesWord m t m3 t3 cell
 cell_settled {m} {m2} {m3} {t} {t2} {t3} {cell} {car} settled written x l y = record {
   settled = subst (λ (w : Parts). Settles t t3 (word_at m.words cell) w) (sym (y.words cell (still-live x.table l) ∙ written)) (record { is = settled.is; fresh = λ old. settled.fresh (old.0, old.1, old-before y.table old.2) });
@@ -154,7 +154,7 @@ cell_settled {m} {m2} {m3} {t} {t2} {t3} {cell} {car} settled written x l y = re
 }
 
 -- a settled word that was written is fresh if all are
-pub fetched_fresh : (m2 : Memory.Store) {t t2 : Table} {cell : ℕ} {car : Parts} → OnlyGrows t t2 → IsLiveWord t cell → word_at m2.words cell ≡ car → AllFresh m2 t2 → FreshOn t2 car.content
+pub fetched_fresh : (m2 : Memory.Store) {t t2 : Table} {cell : ℕ} {car : Parts} → OnlyGrows t t2 → IsLiveWord t cell → word_at m2.words cell ≡ car → NoOldAddresses m2 t2 → FreshOn t2 car.content
 fetched_fresh m2 {t} {t2} {cell} {car} grows live written all = subst (λ (w : Parts). FreshOn t2 w.content) written (all cell (still-live grows live))
 
 -- a fact holds of a result, whether it is one or not

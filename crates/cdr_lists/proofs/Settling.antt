@@ -22,9 +22,9 @@ use Rattle.transporter.proofs.lisp_meaning.ClosedSets.{car_inside, cdr_inside, i
 use Rattle.transporter.specs.lisp_ground.After.{old_on}
 use Rattle.transporter.proofs.lisp_ground.Finals.{final_is_place, name_in_use}
 use Rattle.transporter.proofs.lisp_ground.Storing.{kept_on_same}
-use Rattle.transporter.specs.LiveSame.{IsLiveWord, LiveSameBut}
-use Rattle.transporter.specs.Settling.{CanSettle, HasOld, IsKeptValue, IsSettleable, Settles, SettlesOn, readdressed, reference_of}
-use Rattle.transporter.specs.Transports.{LaterOn}
+use Rattle.transporter.specs.LiveWordsUnchanged.{IsLiveWord, LiveWordsUnchangedExcept}
+use Rattle.transporter.specs.Settling.{CanSettle, RefersToOld, IsKeptValue, IsSettleable, Settles, SettlesOn, readdressed, reference_of}
+use Rattle.transporter.specs.Transports.{RepresentedByLaterMap}
 use Rattle.transporter.specs.Moving.{FetchMoves, stays as stays_put}
 use Rattle.transporter.proofs.Alive.{live-read}
 use Rattle.transporter.proofs.Fetched.{same-but, settles-read}
@@ -47,7 +47,7 @@ same_cdr body a d x y e f = let z = sym e ∙ f in cc
 pub can_read_after : (m m1 : Memory.Store) (t : Table) (k : RoleMap) (top : ℕ) (areas : List AreaRule) (registers : List Value) (s : Store) (aim : Condemned) (at n : ℕ) → CanReadAt m t k top areas registers s aim at n → StoresNothing m m1 → CanReadAt m1 t k top areas registers s aim at n
 can_read_after m m1 t k top areas registers s aim at n can stays = record { kept = kept_on_same m m1 t k top areas s aim can.kept stays; named = can.named; survives = can.survives }
 
-pub later_after : (m m1 m2 : Memory.Store) (t t2 : Table) (k : RoleMap) (top : ℕ) (areas : List AreaRule) (s : Store) (aim : Condemned) → StoresNothing m m1 → LaterOn m1 t m2 t2 k top areas s aim → LaterOn m t m2 t2 k top areas s aim
+pub later_after : (m m1 m2 : Memory.Store) (t t2 : Table) (k : RoleMap) (top : ℕ) (areas : List AreaRule) (s : Store) (aim : Condemned) → StoresNothing m m1 → RepresentedByLaterMap m1 t m2 t2 k top areas s aim → RepresentedByLaterMap m t m2 t2 k top areas s aim
 later_after m m1 m2 t t2 k top areas s aim stays x =
     let same : old_on m1 t s aim k.at ≡ old_on m t s aim k.at = refl in
     record { map = x.map; kept = x.kept; refines = x.refines; work = (let w = x.work in omega arith) }
@@ -182,7 +182,7 @@ module _ (m m1 m2 : Memory.Store) (t t2 : Table) (at to : ℕ) (stays : StoresNo
       }
 
   -- or a swap error occurred
-  pub car_faulted : ((k : RoleMap) (top : ℕ) (areas : List AreaRule) (registers : List Value) (s : Store) (aim : Condemned) (v : Value) → CanSettle m1 t k top areas registers s aim (word_at m1.words to) v → LaterOn m1 t m2 t2 k top areas s aim) → KeepsConsAt m t m2 t2 at
+  pub car_faulted : ((k : RoleMap) (top : ℕ) (areas : List AreaRule) (registers : List Value) (s : Store) (aim : Condemned) (v : Value) → CanSettle m1 t k top areas registers s aim (word_at m1.words to) v → RepresentedByLaterMap m1 t m2 t2 k top areas s aim) → KeepsConsAt m t m2 t2 at
   car_faulted later k top areas registers s aim n can =
       let can1 = can_read k top areas registers s aim n can in
       let c = cons_here m1 t k top areas registers s aim at n can1 in
@@ -208,7 +208,7 @@ module _ (m m1 m2 : Memory.Store) (t t2 : Table) (at to : ℕ) (stays : StoresNo
               ∙ y.value cdr (ap (λ (a : ℕ). value_of k.role (word_at m1.words a).content) place ∙ second_value m1 t k top areas registers s aim at n (can_read k top areas registers s aim n can) to final_read car cdr body code);
         }
 
-    pub cdr_faulted : ((k : RoleMap) (top : ℕ) (areas : List AreaRule) (registers : List Value) (s : Store) (aim : Condemned) (v : Value) → CanSettle m1 t k top areas registers s aim (word_at m1.words next) v → LaterOn m1 t m2 t2 k top areas s aim) → KeepsConsAt m t m2 t2 at
+    pub cdr_faulted : ((k : RoleMap) (top : ℕ) (areas : List AreaRule) (registers : List Value) (s : Store) (aim : Condemned) (v : Value) → CanSettle m1 t k top areas registers s aim (word_at m1.words next) v → RepresentedByLaterMap m1 t m2 t2 k top areas s aim) → KeepsConsAt m t m2 t2 at
     cdr_faulted later k top areas registers s aim n can =
         let c = cons_here m1 t k top areas registers s aim at n (can_read k top areas registers s aim n can) in
         later_after m m1 m2 t t2 k top areas s aim stays (later k top areas registers s aim c.cdr (settles_next k top areas registers s aim n can c.car c.cdr c.body))
@@ -217,11 +217,11 @@ module _ (m m1 m2 : Memory.Store) (t t2 : Table) (at to : ℕ) (stays : StoresNo
 pub settled_code : {t t' : Table} {old new : Parts} → Settles t t' old new → new.cdr ≡ old.cdr
 settled_code {t} {t'} {old} {new} x = go x.is
   where
-    go : (new ≡ old) ⊎ ((to : ℕ) × HasOld t old × (new ≡ readdressed old to)) → new.cdr ≡ old.cdr
+    go : (new ≡ old) ⊎ ((to : ℕ) × RefersToOld t old × (new ≡ readdressed old to)) → new.cdr ≡ old.cdr
     go (inl e) = ap (λ (w : Parts). w.cdr) e
     go (inr e) = ap (λ (w : Parts). w.cdr) e.2
 
-pub settled_at : (m m1 m2 : Memory.Store) (t t2 : Table) (a b : ℕ) (new : Parts) (content : Content) → StoresNothing m m1 → Settles t t2 (word_at m1.words a) new → word_at m2.words a ≡ new → LiveSameBut m1 t m2 t2 a → content ≡ new.content → b ≡ a
+pub settled_at : (m m1 m2 : Memory.Store) (t t2 : Table) (a b : ℕ) (new : Parts) (content : Content) → StoresNothing m m1 → Settles t t2 (word_at m1.words a) new → word_at m2.words a ≡ new → LiveWordsUnchangedExcept m1 t m2 t2 a → content ≡ new.content → b ≡ a
     → SettlesAt m t m2 t2 b content
 settled_at m m1 m2 t t2 a b new content stays settles written others is place = subst (λ (x : ℕ). SettlesAt m t m2 t2 x content) (sym place) (record {
   code = ap (λ (w : Parts). w.cdr) written ∙ settled_code settles ∙ ap (λ (ws : List Parts). (word_at ws a).cdr) stays.words;
@@ -248,7 +248,7 @@ module _ (m m1 : Memory.Store) (t : Table) (to : ℕ) (first : Parts) (stays : S
       car_fetched m m1 m1 t t at to stays final (word_at m1.words to) word (λ k top areas registers s aim v can. settles-same m1 t k top areas s aim (word_at m1.words to) can.kept)
       (same ∙ ap (λ (w : Parts). w.content) first_after)
 
-  module _ (young : HasOld t first → ⊥) where
+  module _ (young : RefersToOld t first → ⊥) where
     -- nothing is written back
     pub first_settled : (b : ℕ) (content : Content) → content ≡ first.content → b ≡ to → SettlesAt m t m1 t b content
     first_settled b content same there =
@@ -261,7 +261,7 @@ module _ (m m1 : Memory.Store) (t : Table) (to : ℕ) (first : Parts) (stays : S
 
 -- the list that follows a cell has no old address
 pub list_fresh : (m m1 : Memory.Store) (t : Table) (at : ℕ) (x : IsReadableAt m t at) (stays : StoresNothing m m1) (to : ℕ) (final : Final m.words at to) (last : IsFinal m.words to)
-    → ((word_at m1.words to).cdr ≡ CdrNil → ⊥) → ((word_at m1.words to).cdr ≡ Normal → ⊥) → (word : Parts) (next : ℕ) → next ≡ suc to → word.content ≡ ListAt next → HasOld t word → ⊥
+    → ((word_at m1.words to).cdr ≡ CdrNil → ⊥) → ((word_at m1.words to).cdr ≡ Normal → ⊥) → (word : Parts) (next : ℕ) → next ≡ suc to → word.content ≡ ListAt next → RefersToOld t word → ⊥
 list_fresh m m1 t at x stays to final last no_nil no_normal word next place is old =
     let on = kept_on_same m m1 t x.map x.top x.areas x.objects x.aim x.can.kept stays in
     let final1 = subst (λ (ws : List Parts). Final ws at to) (sym stays.words) final in

@@ -1,6 +1,5 @@
 pub mod Faults
 pub mod Lists
-pub mod Marks
 pub mod Opening
 pub mod Pairs
 pub mod Parts

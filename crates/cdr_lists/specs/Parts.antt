@@ -21,10 +21,10 @@ use Rattle.transporter.specs.lisp_ground.GroundInvariant.{GroundInvariant}
 use Rattle.transporter.specs.lisp_ground.After.{old_on}
 use Rattle.transporter.specs.lisp_ground.Writes.{Within}
 use Rattle.transporter.specs.Growth.{Grows, OpensOrStays}
-use Rattle.transporter.specs.LiveSame.{LiveSame, LiveSameBut}
+use Rattle.transporter.specs.LiveWordsUnchanged.{LiveWordsUnchanged, LiveWordsUnchangedExcept}
 use Rattle.transporter.specs.Marking.{MarksFollow, MarksFollowBut}
 use Rattle.transporter.specs.Moving.{FetchMoves, MovesAtMost}
-use Rattle.transporter.specs.Settling.{HasOld, Settles}
+use Rattle.transporter.specs.Settling.{RefersToOld, Settles}
 use Rattle.transporter.specs.Writes.{Writes}
 use Rattle.cdr_lists.specs.Opening.{OpensIfNeeded}
 use Rattle.cdr_lists.specs.Pairs.{first_word, second_word, words_of_pair}
@@ -36,7 +36,7 @@ pub record CanSet (m : Memory.Store) (t : Table) (of value : Parts) : Type 0 whe
   pub can : IsReadable m t of
   pub new : Value
   pub new_is : value_of can.map.role value.content ≡ Some new
-  pub young : HasOld t value → ⊥
+  pub young : RefersToOld t value → ⊥
 
 -- The ground represents other objects by a later map, under which what meant a name still means it. The words placed and the charges in old regions together grow by at most this number.
 pub record SetOn (m : Memory.Store) (t : Table) (m' : Memory.Store) (t' : Table) (k : RoleMap) (top : ℕ) (areas : List AreaRule) (s s' : Store) (aim : Condemned) (more : ℕ) : Type 0 where
@@ -117,7 +117,7 @@ pub record RelaysCell (m : Memory.Store) (t : Table) (m' : Memory.Store) (t' : T
   pub grows : Grows t table
   pub settled : Settles t table (word_at m.words cell) (word_at between.words cell)
   pub lays : LaysPair between table m' t' cell (word_at between.words cell) cdr
-  pub others : LiveSameBut m t m' t' cell
+  pub others : LiveWordsUnchangedExcept m t m' t' cell
 
 -- if the cons to which the content refers is a cell, this is done with it
 abbrev pub RelaysCdr : Memory.Store → Table → Memory.Store → Table → Content → Parts → Type 0
@@ -126,11 +126,11 @@ RelaysCdr m t m' t' content cdr = (at : ℕ) → IsConsPlace m.words content at 
 -- the word at an address was settled in its place, and no other used word of a live region has changed
 pub record SettlesWord (m : Memory.Store) (t : Table) (m' : Memory.Store) (t' : Table) (at : ℕ) : Type 0 where
   pub settled : Settles t t' (word_at m.words at) (word_at m'.words at)
-  pub others : LiveSameBut m t m' t' at
+  pub others : LiveWordsUnchangedExcept m t m' t' at
 
 -- no used word of a live region has changed, except that this one may have been settled
 abbrev pub SettlesWordAtMost : Memory.Store → Table → Memory.Store → Table → ℕ → Type 0
-SettlesWordAtMost m t m' t' at = LiveSame m t m' t' ⊎ SettlesWord m t m' t' at
+SettlesWordAtMost m t m' t' at = LiveWordsUnchanged m t m' t' ⊎ SettlesWord m t m' t' at
 
 -- the cons to which the content refers is a cell, and its word was settled, and no other was
 pub record SettlesCell (m : Memory.Store) (t : Table) (m' : Memory.Store) (t' : Table) (content : Content) : Type 0 where
@@ -141,4 +141,4 @@ pub record SettlesCell (m : Memory.Store) (t : Table) (m' : Memory.Store) (t' : 
 
 -- no used word of a live region has changed, except that the cell's may have been settled
 abbrev pub SettlesCellAtMost : Memory.Store → Table → Memory.Store → Table → Content → Type 0
-SettlesCellAtMost m t m' t' content = LiveSame m t m' t' ⊎ SettlesCell m t m' t' content
+SettlesCellAtMost m t m' t' content = LiveWordsUnchanged m t m' t' ⊎ SettlesCell m t m' t' content

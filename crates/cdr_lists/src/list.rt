@@ -1,11 +1,11 @@
 //! A new list, as a compact run of cells in its class.
 ghost use Rattle.std.specs.Prelude.{ℕ, ◌≡◌, ◌+◌, ◌*◌, ◌<◌, ◌≤◌, ◌^◌, length, IsOk, IfOk, OnOk, OnErr};
-ghost use Rattle.mem_port.specs.View.{Quiet, Tells, shown};
+ghost use Rattle.mem_port.specs.View.{WithoutFault, AccountsForFaults, shown};
 ghost use Rattle.area_space.specs.View.{view};
-ghost use Rattle.cdr_lists.specs.Marks.{MarksByWords};
+ghost use Rattle.transporter.specs.WrittenMarks.{MarksByWords};
 ghost use Rattle.cdr_lists.specs.Opening.{OpensIfNeeded};
 ghost use Rattle.cdr_lists.specs.Views.{CanList, ListedOn};
-ghost use Rattle.transporter.specs.Views.{AllFresh, LiveSame, MarksFollow, StaysOn, PreservesScanned};
+ghost use Rattle.transporter.specs.Views.{NoOldAddresses, LiveWordsUnchanged, MarksFollow, WordsUnchanged, PreservesScanned};
 ghost use Rattle.mem_port.specs.Store.{StoresNothing};
 ghost use Rattle.mem_port.specs.Spans.{HoldsSpan};
 ghost use Rattle.mem_port.specs.declared.spans.Span.{Span};
@@ -49,9 +49,9 @@ fn write_cells<M: Memory, L: Ledger>(
 ) -> Result<(), SwapFault>
     requires can { CanLay (M.seen mem.old).words at registers.now items.now }
     requires held { HoldsSpan (M.held mem.old) (record { at = at; words = length items.now }) }
-    ensures sure { IsOk result }
+    ensures succeeds { IsOk result }
     ensures cells { Writes (M.seen mem.old) (M.seen mem.new) at (length items.now) (cell_word registers.now items.now) }
-    ensures quiet { Quiet (shown M.Memory mem.old) (shown M.Memory mem.new) steps.old steps.new }
+    ensures no_fault { WithoutFault (shown M.Memory mem.old) (shown M.Memory mem.new) steps.old steps.new }
     ensures cost { steps.new ≡ steps.old + length items.now }
 {
     for i in 0..items.len() {
@@ -73,7 +73,7 @@ fn lay_cells<M: Memory, L: Ledger>(
     requires { CanLay (M.seen mem.old).words at registers.now items.now }
     ensures cells { OnOk result (Writes (M.seen mem.old) (M.seen mem.new) at (length items.now) (cell_word registers.now items.now)) }
     ensures err { OnErr result (StoresNothing (M.seen mem.old) (M.seen mem.new)) }
-    ensures tells { Tells (shown M.Memory mem.old) (shown M.Memory mem.new) steps.old steps.new result }
+    ensures accounted { AccountsForFaults (shown M.Memory mem.old) (shown M.Memory mem.new) steps.old steps.new result }
     ensures cost { steps.new ≤ steps.old + length items.now + 5 }
 {
     let cells = Span {
@@ -101,23 +101,23 @@ pub fn make_list<M: Memory, L: Ledger>(
 
     // What is made, and at which address.
     ensures made { IfOk result (ListedOn (view ground.old) (view ground.new) area level registers.now items.now) }
-    ensures below { IfOk result (λ at. at < 2 ^ 28) }
+    ensures in_range { IfOk result (λ at. at < 2 ^ 28) }
     ensures words { IfOk result (λ at. (i : ℕ) → i < length items.now → word_at (view ground.new).mem.store.words (at + i) ≡ cell_word registers.now items.now i) }
     ensures placed { IfOk result (λ at. PlacesNew ground.old.table ground.new.table area level at (length items.now) (3 * length items.now)) }
     ensures unmarked { IfOk result (λ at. MarksByWords (view ground.old).mem.store (view ground.new).mem.store at (length items.now)) }
     ensures needed { OpensIfNeeded ground.old.table ground.new.table area level (length items.now) }
 
     // What is unchanged in the ground.
-    ensures live { LiveSame (view ground.old) (view ground.new) }
+    ensures live { LiveWordsUnchanged (view ground.old) (view ground.new) }
     ensures preserves { PreservesScanned (view ground.old) (view ground.new) }
-    ensures stays_fresh { ((i : ℕ) → i < length items.now → FreshOn ground.old.table (item_word registers.now items.now i).content) → AllFresh (view ground.old)
-        → AllFresh (view ground.new) }
+    ensures stays_fresh { ((i : ℕ) → i < length items.now → FreshOn ground.old.table (item_word registers.now items.now i).content) → NoOldAddresses (view ground.old)
+        → NoOldAddresses (view ground.new) }
     ensures marks { MarksFollow (view ground.old) (view ground.new) }
 
     // After a swap error, and that it is counted.
     ensures opened { OnErr result (OpensOrStays ground.old.table ground.new.table) }
-    ensures fault { OnErr result (StaysOn (view ground.old) (view ground.new)) }
-    ensures tells { Tells (view ground.old).mem (view ground.new).mem steps.old steps.new result }
+    ensures fault { OnErr result (WordsUnchanged (view ground.old) (view ground.new)) }
+    ensures accounted { AccountsForFaults (view ground.old).mem (view ground.new).mem steps.old steps.new result }
 
     // The cost.
     ensures cost { steps.new ≤ steps.old + length items.now + 5 }

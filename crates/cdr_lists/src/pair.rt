@@ -1,11 +1,11 @@
 //! A new cons, as a pair in its class.
 ghost use Rattle.std.specs.Prelude.{◌≡◌, ◌+◌, ◌/◌, ◌<◌, ◌≤◌, ◌^◌, length, slice_get, Some, IfOk, OnOk, OnErr};
-ghost use Rattle.mem_port.specs.View.{Tells, shown};
+ghost use Rattle.mem_port.specs.View.{AccountsForFaults, shown};
 ghost use Rattle.area_space.specs.View.{view};
-ghost use Rattle.cdr_lists.specs.Marks.{MarksByWords};
+ghost use Rattle.transporter.specs.WrittenMarks.{MarksByWords};
 ghost use Rattle.cdr_lists.specs.Opening.{OpensIfNeeded};
 ghost use Rattle.cdr_lists.specs.Views.{CanPair, PairedOn};
-ghost use Rattle.transporter.specs.Views.{AllFresh, LiveSame, MarksFollow, StaysOn, PreservesScanned};
+ghost use Rattle.transporter.specs.Views.{NoOldAddresses, LiveWordsUnchanged, MarksFollow, WordsUnchanged, PreservesScanned};
 ghost use Rattle.obj_layout.specs.Forwards.{word_at};
 ghost use Rattle.transporter.specs.Growth.{OpensOrStays};
 ghost use Rattle.mem_port.specs.Store.{StoresNothing};
@@ -30,12 +30,12 @@ fn hold_both<M: Memory, L: Ledger>(
     at: u32,
     steps: &mut Steps<L>,
 ) -> Result<(), SwapFault>
-    requires inside { at + 1 < length (M.seen mem.old).words }
-    requires small { length (M.seen mem.old).words ≤ 4194304 }
+    requires in_range { at + 1 < length (M.seen mem.old).words }
+    requires at_most { length (M.seen mem.old).words ≤ 4194304 }
     ensures first { OnOk result (M.held mem.new (at / 256)) }
     ensures second { OnOk result (M.held mem.new ((at + 1) / 256)) }
-    ensures stays { StoresNothing (M.seen mem.old) (M.seen mem.new) }
-    ensures tells { Tells (shown M.Memory mem.old) (shown M.Memory mem.new) steps.old steps.new result }
+    ensures unchanged { StoresNothing (M.seen mem.old) (M.seen mem.new) }
+    ensures accounted { AccountsForFaults (shown M.Memory mem.old) (shown M.Memory mem.new) steps.old steps.new result }
     ensures cost { steps.new ≤ steps.old + 2 }
 {
     let page = at / 256;
@@ -55,13 +55,13 @@ fn write_pair<M: Memory, L: Ledger>(
     second: Word,
     steps: &mut Steps<L>,
 ) -> Result<(), SwapFault>
-    requires inside { at + 1 < length (M.seen mem.old).words }
-    requires small { length (M.seen mem.old).words ≤ 4194304 }
+    requires in_range { at + 1 < length (M.seen mem.old).words }
+    requires at_most { length (M.seen mem.old).words ≤ 4194304 }
     ensures pair { OnOk result (Writes (M.seen mem.old) (M.seen mem.new) at 2 (words_of_pair first second)) }
     ensures first { OnOk result (slice_get (M.seen mem.new).words at ≡ Some first) }
     ensures second { OnOk result (slice_get (M.seen mem.new).words (at + 1) ≡ Some second) }
     ensures err { OnErr result (StoresNothing (M.seen mem.old) (M.seen mem.new)) }
-    ensures tells { Tells (shown M.Memory mem.old) (shown M.Memory mem.new) steps.old steps.new result }
+    ensures accounted { AccountsForFaults (shown M.Memory mem.old) (shown M.Memory mem.new) steps.old steps.new result }
     ensures cost { steps.new ≤ steps.old + 4 }
 {
     hold_both(mem, at, steps)?;
@@ -96,22 +96,22 @@ pub fn make_pair<M: Memory, L: Ledger>(
 
     // What is made, and at which address.
     ensures made { IfOk result (PairedOn (view ground.old) (view ground.new) area level 2 car cdr) }
-    ensures below { IfOk result (λ at. at < 2 ^ 28) }
+    ensures in_range { IfOk result (λ at. at < 2 ^ 28) }
     ensures words { IfOk result (λ at. (word_at (view ground.new).mem.store.words at ≡ first_word car) × (word_at (view ground.new).mem.store.words (at + 1) ≡ second_word 2 cdr)) }
     ensures placed { IfOk result (λ at. PlacesNew ground.old.table ground.new.table area level at 2 2) }
     ensures unmarked { IfOk result (λ at. MarksByWords (view ground.old).mem.store (view ground.new).mem.store at 2) }
     ensures needed { OpensIfNeeded ground.old.table ground.new.table area level 2 }
 
     // What is unchanged in the ground.
-    ensures live { LiveSame (view ground.old) (view ground.new) }
+    ensures live { LiveWordsUnchanged (view ground.old) (view ground.new) }
     ensures preserves { PreservesScanned (view ground.old) (view ground.new) }
-    ensures stays_fresh { FreshOn ground.old.table car.content → FreshOn ground.old.table cdr.content → AllFresh (view ground.old) → AllFresh (view ground.new) }
+    ensures stays_fresh { FreshOn ground.old.table car.content → FreshOn ground.old.table cdr.content → NoOldAddresses (view ground.old) → NoOldAddresses (view ground.new) }
     ensures marks { MarksFollow (view ground.old) (view ground.new) }
 
     // After a swap error, and that it is counted.
     ensures opened { OnErr result (OpensOrStays ground.old.table ground.new.table) }
-    ensures fault { OnErr result (StaysOn (view ground.old) (view ground.new)) }
-    ensures tells { Tells (view ground.old).mem (view ground.new).mem steps.old steps.new result }
+    ensures fault { OnErr result (WordsUnchanged (view ground.old) (view ground.new)) }
+    ensures accounted { AccountsForFaults (view ground.old).mem (view ground.new).mem steps.old steps.new result }
 
     // The cost.
     ensures cost { steps.new ≤ steps.old + 4 }
@@ -133,22 +133,22 @@ pub fn make_pair_of<M: Memory, L: Ledger>(
 
     // What is made, and at which address.
     ensures made { IfOk result (PairedOn (view ground.old) (view ground.new) area level charge car cdr) }
-    ensures below { IfOk result (λ at. at < 2 ^ 28) }
+    ensures in_range { IfOk result (λ at. at < 2 ^ 28) }
     ensures words { IfOk result (λ at. (word_at (view ground.new).mem.store.words at ≡ first_word car) × (word_at (view ground.new).mem.store.words (at + 1) ≡ second_word charge cdr)) }
     ensures placed { IfOk result (λ at. PlacesNew ground.old.table ground.new.table area level at 2 charge) }
     ensures unmarked { IfOk result (λ at. MarksByWords (view ground.old).mem.store (view ground.new).mem.store at 2) }
     ensures needed { OpensIfNeeded ground.old.table ground.new.table area level 2 }
 
     // What is unchanged in the ground.
-    ensures live { LiveSame (view ground.old) (view ground.new) }
+    ensures live { LiveWordsUnchanged (view ground.old) (view ground.new) }
     ensures preserves { PreservesScanned (view ground.old) (view ground.new) }
-    ensures stays_fresh { FreshOn ground.old.table car.content → FreshOn ground.old.table cdr.content → AllFresh (view ground.old) → AllFresh (view ground.new) }
+    ensures stays_fresh { FreshOn ground.old.table car.content → FreshOn ground.old.table cdr.content → NoOldAddresses (view ground.old) → NoOldAddresses (view ground.new) }
     ensures marks { MarksFollow (view ground.old) (view ground.new) }
 
     // After a swap error, and that it is counted.
     ensures opened { OnErr result (OpensOrStays ground.old.table ground.new.table) }
-    ensures fault { OnErr result (StaysOn (view ground.old) (view ground.new)) }
-    ensures tells { Tells (view ground.old).mem (view ground.new).mem steps.old steps.new result }
+    ensures fault { OnErr result (WordsUnchanged (view ground.old) (view ground.new)) }
+    ensures accounted { AccountsForFaults (view ground.old).mem (view ground.new).mem steps.old steps.new result }
 
     // The cost.
     ensures cost { steps.new ≤ steps.old + 4 }

@@ -1,10 +1,10 @@
 //! Writes the parts of a cons.
 ghost use Rattle.std.specs.Prelude.{◌≡◌, ◌≢◌, ◌↔◌, ℕ, ◌+◌, ◌-◌, ◌*◌, ◌<◌, ◌≤◌, length, Err, OnOk, OnErr};
-ghost use Rattle.mem_port.specs.View.{Tells, TellsIf, shown};
+ghost use Rattle.mem_port.specs.View.{AccountsForFaults, AccountsForFaultsIf, shown};
 ghost use Rattle.area_space.specs.View.{view};
 ghost use Rattle.cdr_lists.specs.Faults.{is_fault};
 ghost use Rattle.cdr_lists.specs.Views.{CanSet, IsCellAt, IsConsPlace, KeepsCons, LaysPair, MarksCar, MarksCdr, RelaysCdr, RelaysCell, SetsCar, SetsCdr, SettlesCellAtMost, SettlesWordAtMost};
-ghost use Rattle.transporter.specs.Views.{AllFresh, LiveSame, LiveSameBut, MarksFollow, MovesAtMost, StaysOn, PreservesScanned};
+ghost use Rattle.transporter.specs.Views.{NoOldAddresses, LiveWordsUnchanged, LiveWordsUnchangedExcept, MarksFollow, MovesAtMost, WordsUnchanged, PreservesScanned};
 ghost use Rattle.store_word.specs.Words.{tag_of};
 ghost use Rattle.store_word.specs.declared.word.Content.TheVariants.{List as ListAt};
 ghost use Rattle.mem_port.specs.Store.{StoresNothing};
@@ -42,19 +42,19 @@ pub fn set_car<M: Memory, L: Ledger>(
     ensures written { OnOk result (WritesCar (view ground.old).mem.store (view ground.new).mem.store of.content value) }
 
     // What is refused, and what a refusal leaves unchanged.
-    ensures not_a_cons { (result ≡ Err ListFault.NotACons) ↔ (tag_of of.content ≢ Tag.List) }
+    ensures refused { (result ≡ Err ListFault.NotACons) ↔ (tag_of of.content ≢ Tag.List) }
     ensures unread { result ≡ Err ListFault.NotACons → steps.new ≡ steps.old }
-    ensures stays { OnErr result (StoresNothing (view ground.old).mem.store (view ground.new).mem.store) }
+    ensures unchanged { OnErr result (StoresNothing (view ground.old).mem.store (view ground.new).mem.store) }
 
     // What is unchanged in the ground.
     ensures table { ground.new.table ≡ ground.old.table }
     ensures moves { MovesAtMost (view ground.old) (view ground.new) 0 }
     ensures preserves { PreservesScanned (view ground.old) (view ground.new) }
-    ensures stays_fresh { AllFresh (view ground.old) → AllFresh (view ground.new) }
+    ensures stays_fresh { NoOldAddresses (view ground.old) → NoOldAddresses (view ground.new) }
     ensures marks { MarksCar (view ground.old) (view ground.new) of.content }
 
     // Swap errors and the cost.
-    ensures tells { TellsIf (view ground.old).mem (view ground.new).mem steps.old steps.new (is_fault result) }
+    ensures accounted { AccountsForFaultsIf (view ground.old).mem (view ground.new).mem steps.old steps.new (is_fault result) }
     ensures cost { steps.new ≤ steps.old + 14 }
 {
     let cons = read_cons(&mut ground.mem, of, steps)?;
@@ -82,30 +82,30 @@ pub fn set_cdr<M: Memory, L: Ledger>(
     // What is written, and what moves for it.
     ensures set { OnOk result (SetsCdr (view ground.old) (view ground.new) of.content value.content) }
     ensures written { OnOk result (WritesCdr (view ground.old).mem.store (view ground.new).mem.store of.content value) }
-    ensures relaid { OnOk result (RelaysCdr (view ground.old) (view ground.new) of.content value) }
+    ensures laid { OnOk result (RelaysCdr (view ground.old) (view ground.new) of.content value) }
     ensures table { OnOk result ((at : ℕ) → IsConsPlace (view ground.old) of.content at → (word_at (view ground.old).mem.store.words at).cdr ≡ Normal
         → ground.new.table ≡ ground.old.table) }
-    ensures stored { OnOk result ((at : ℕ) → IsConsPlace (view ground.old) of.content at → (word_at (view ground.old).mem.store.words at).cdr ≡ Normal
+    ensures cells { OnOk result ((at : ℕ) → IsConsPlace (view ground.old) of.content at → (word_at (view ground.old).mem.store.words at).cdr ≡ Normal
         → MovesAtMost (view ground.old) (view ground.new) 0) }
 
     // What is refused, and what a refusal leaves unchanged.
-    ensures not_a_cons { (result ≡ Err ListFault.NotACons) ↔ (tag_of of.content ≢ Tag.List) }
+    ensures refused { (result ≡ Err ListFault.NotACons) ↔ (tag_of of.content ≢ Tag.List) }
     ensures unread { result ≡ Err ListFault.NotACons → steps.new ≡ steps.old }
-    ensures unstored { result ≡ Err ListFault.NotACons → StaysWhole (view ground.old) (view ground.new) }
+    ensures unchanged { result ≡ Err ListFault.NotACons → StaysWhole (view ground.old) (view ground.new) }
     ensures fault { OnErr result (KeepsCons (view ground.old) (view ground.new) of.content) }
-    ensures others { OnErr result (SettlesCellAtMost (view ground.old) (view ground.new) of.content) }
+    ensures registers { OnErr result (SettlesCellAtMost (view ground.old) (view ground.new) of.content) }
     ensures moves { OnErr result (MovesAtMost (view ground.old) (view ground.new) 1) }
 
     // What is unchanged in the ground.
     ensures preserves { PreservesScanned (view ground.old) (view ground.new) }
-    ensures stays_fresh { AllFresh (view ground.old) → AllFresh (view ground.new) }
+    ensures stays_fresh { NoOldAddresses (view ground.old) → NoOldAddresses (view ground.new) }
     ensures marks { MarksCdr (view ground.old) (view ground.new) of.content }
 
     // Swap errors.
-    ensures tells { TellsIf (view ground.old).mem (view ground.new).mem steps.old steps.new (is_fault result) }
+    ensures accounted { AccountsForFaultsIf (view ground.old).mem (view ground.new).mem steps.old steps.new (is_fault result) }
 
     // What is placed, and the cost.
-    ensures few { ground.new.table.placed ≤ ground.old.table.placed + 2050 }
+    ensures at_most { ground.new.table.placed ≤ ground.old.table.placed + 2050 }
     ensures cost { OnOk result (steps.new ≤ steps.old + 4 * (ground.new.table.placed - ground.old.table.placed) + 67) }
 {
     let cons = read_cons(&mut ground.mem, of, steps)?;
@@ -128,26 +128,26 @@ fn lay_pair<M: Memory, L: Ledger>(
     cdr: Word,
     steps: &mut Steps<L>,
 ) -> Result<(), SwapFault>
-    requires set { CanSet (view ground.old) (plain (ListAt cell)) cdr }
+    requires can { CanSet (view ground.old) (plain (ListAt cell)) cdr }
     requires cell { IsCellAt (view ground.old) cell (word_at (view ground.old).mem.store.words cell) }
 
     // What is written, and what moves for it.
     ensures set { OnOk result (SetsCdr (view ground.old) (view ground.new) (ListAt cell) cdr.content) }
-    ensures relaid { OnOk result (RelaysCell (view ground.old) (view ground.new) cell cdr) }
+    ensures laid { OnOk result (RelaysCell (view ground.old) (view ground.new) cell cdr) }
 
     // After a swap error, and what is unchanged.
     ensures fault { OnErr result (KeepsCons (view ground.old) (view ground.new) (ListAt cell)) }
-    ensures others { OnErr result (SettlesWordAtMost (view ground.old) (view ground.new) cell) }
+    ensures registers { OnErr result (SettlesWordAtMost (view ground.old) (view ground.new) cell) }
     ensures moves { OnErr result (MovesAtMost (view ground.old) (view ground.new) 1) }
     ensures preserves { PreservesScanned (view ground.old) (view ground.new) }
-    ensures stays_fresh { AllFresh (view ground.old) → AllFresh (view ground.new) }
+    ensures stays_fresh { NoOldAddresses (view ground.old) → NoOldAddresses (view ground.new) }
     ensures marks { MarksFollow (view ground.old) (view ground.new) }
 
     // Swap errors.
-    ensures tells { Tells (view ground.old).mem (view ground.new).mem steps.old steps.new result }
+    ensures accounted { AccountsForFaults (view ground.old).mem (view ground.new).mem steps.old steps.new result }
 
     // What is placed, and the cost.
-    ensures few { ground.new.table.placed ≤ ground.old.table.placed + 2050 }
+    ensures at_most { ground.new.table.placed ≤ ground.old.table.placed + 2050 }
     ensures cost { OnOk result (steps.new ≤ steps.old + 4 * (ground.new.table.placed - ground.old.table.placed) + 54) }
 {
     let car = fetch(ground, cell, steps)?;
@@ -162,25 +162,25 @@ fn lay_settled<M: Memory, L: Ledger>(
     cdr: Word,
     steps: &mut Steps<L>,
 ) -> Result<(), SwapFault>
-    requires set { CanSet (view ground.old) (plain (ListAt cell)) cdr }
+    requires can { CanSet (view ground.old) (plain (ListAt cell)) cdr }
     requires cell { IsCellAt (view ground.old) cell car }
 
     // What is written, and at which address.
     ensures set { OnOk result (SetsCdr (view ground.old) (view ground.new) (ListAt cell) cdr.content) }
     ensures laid { OnOk result (LaysPair (view ground.old) (view ground.new) cell car cdr
-        × LiveSameBut (view ground.old) (view ground.new) cell) }
+        × LiveWordsUnchangedExcept (view ground.old) (view ground.new) cell) }
 
     // After a swap error, and what is unchanged.
-    ensures fault { OnErr result (StaysOn (view ground.old) (view ground.new)) }
-    ensures live { OnErr result (LiveSame (view ground.old) (view ground.new)) }
+    ensures fault { OnErr result (WordsUnchanged (view ground.old) (view ground.new)) }
+    ensures live { OnErr result (LiveWordsUnchanged (view ground.old) (view ground.new)) }
     ensures moves { OnErr result (MovesAtMost (view ground.old) (view ground.new) 0) }
     ensures preserves { PreservesScanned (view ground.old) (view ground.new) }
-    ensures stays_fresh { FreshOn ground.old.table car.content → AllFresh (view ground.old) → AllFresh (view ground.new) }
+    ensures stays_fresh { FreshOn ground.old.table car.content → NoOldAddresses (view ground.old) → NoOldAddresses (view ground.new) }
     ensures marks { MarksFollow (view ground.old) (view ground.new) }
 
     // What is placed, swap errors and the cost.
-    ensures few { ground.new.table.placed ≤ ground.old.table.placed + 2 }
-    ensures tells { Tells (view ground.old).mem (view ground.new).mem steps.old steps.new result }
+    ensures at_most { ground.new.table.placed ≤ ground.old.table.placed + 2 }
+    ensures accounted { AccountsForFaults (view ground.old).mem (view ground.new).mem steps.old steps.new result }
     ensures cost { steps.new ≤ steps.old + 6 }
 {
     let class = match ground.table.class_of(cell) {
@@ -207,10 +207,10 @@ fn write_relay<M: Memory, L: Ledger>(
 ) -> Result<(), SwapFault>
     requires cell { cell < length (M.seen mem.old).words }
     requires pair { at + 1 < length (M.seen mem.old).words }
-    requires small { length (M.seen mem.old).words ≤ 4194304 }
+    requires at_most { length (M.seen mem.old).words ≤ 4194304 }
     ensures ok { OnOk result (WritesRelay (M.seen mem.old) (M.seen mem.new) cell at first second) }
     ensures err { OnErr result (StoresNothing (M.seen mem.old) (M.seen mem.new)) }
-    ensures tells { Tells (shown M.Memory mem.old) (shown M.Memory mem.new) steps.old steps.new result }
+    ensures accounted { AccountsForFaults (shown M.Memory mem.old) (shown M.Memory mem.new) steps.old steps.new result }
     ensures cost { steps.new ≤ steps.old + 6 }
 {
     mem.hold(&[cell / 256, at / 256, (at + 1) / 256], steps)?;

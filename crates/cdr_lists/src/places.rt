@@ -1,6 +1,6 @@
 //! Finds a cons by a reference.
 ghost use Rattle.std.specs.Prelude.{◌≡◌, ◌≢◌, ◌↔◌, ◌+◌, ◌<◌, ◌≤◌, Err, IfOk, IfSome};
-ghost use Rattle.mem_port.specs.View.{TellsIf, shown};
+ghost use Rattle.mem_port.specs.View.{AccountsForFaultsIf, shown};
 ghost use Rattle.store_word.specs.Words.{tag_of};
 ghost use Rattle.mem_port.specs.Store.{StoresNothing};
 ghost use Rattle.obj_layout.specs.Forwards.{word_at};
@@ -31,10 +31,10 @@ pub(crate) fn find_first<M: Memory, L: Ledger>(
     requires { CanFind (M.seen mem.old).words of.content }
     ensures place { IfOk result (λ found. IsConsPlace (M.seen mem.old).words of.content found.at) }
     ensures first { IfOk result (λ found. IfSome found.first (λ word. word ≡ word_at (M.seen mem.old).words found.at)) }
-    ensures not_a_cons { (result ≡ Err ListFault.NotACons) ↔ (tag_of of.content ≢ Tag.List) }
+    ensures refused { (result ≡ Err ListFault.NotACons) ↔ (tag_of of.content ≢ Tag.List) }
     ensures unread { result ≡ Err ListFault.NotACons → steps.new ≡ steps.old }
-    ensures stays { StoresNothing (M.seen mem.old) (M.seen mem.new) }
-    ensures tells { TellsIf (shown M.Memory mem.old) (shown M.Memory mem.new) steps.old steps.new (is_fault result) }
+    ensures unchanged { StoresNothing (M.seen mem.old) (M.seen mem.new) }
+    ensures accounted { AccountsForFaultsIf (shown M.Memory mem.old) (shown M.Memory mem.new) steps.old steps.new (is_fault result) }
     ensures cost { steps.new ≤ steps.old + 12 }
 {
     match of.content() {
@@ -53,11 +53,11 @@ pub(crate) fn read_cons<M: Memory, L: Ledger>(
     steps: &mut Steps<L>,
 ) -> Result<ConsHead, ListFault>
     requires { CanFind (M.seen mem.old).words of.content }
-    ensures cons { IfOk result (IsConsAt (M.seen mem.old).words of.content) }
-    ensures not_a_cons { (result ≡ Err ListFault.NotACons) ↔ (tag_of of.content ≢ Tag.List) }
+    ensures value { IfOk result (IsConsAt (M.seen mem.old).words of.content) }
+    ensures refused { (result ≡ Err ListFault.NotACons) ↔ (tag_of of.content ≢ Tag.List) }
     ensures unread { result ≡ Err ListFault.NotACons → steps.new ≡ steps.old }
-    ensures stays { StoresNothing (M.seen mem.old) (M.seen mem.new) }
-    ensures tells { TellsIf (shown M.Memory mem.old) (shown M.Memory mem.new) steps.old steps.new (is_fault result) }
+    ensures unchanged { StoresNothing (M.seen mem.old) (M.seen mem.new) }
+    ensures accounted { AccountsForFaultsIf (shown M.Memory mem.old) (shown M.Memory mem.new) steps.old steps.new (is_fault result) }
     ensures cost { steps.new ≤ steps.old + 13 }
 {
     let found = find_first(mem, of, steps)?;

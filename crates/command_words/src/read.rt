@@ -67,8 +67,8 @@ fn asked(
 /// decimal digits, without a sign or a leading zero: from 0 to 1,000,000 for `count`, and from 0 to 4,294,967,295 for the others.
 /// It fails only if memory runs out.
 pub fn read_words(alloc: Global, words: &[String]) -> Result<Option<Mode>, NoMemory>
-    ensures mode { IfOk result (λ mode. mode ≡ mode_of words.now) }
-    ensures few { IfOk result IsInRange }
+    ensures value { IfOk result (λ mode. mode ≡ mode_of words.now) }
+    ensures at_most { IfOk result IsInRange }
 {
     let command = match command(alloc) {
         Ok(command) => command,

@@ -13,8 +13,8 @@ use Rattle.trace_text.specs.lisp_graph.World.{IsSpace}
 use Rattle.trace_text.specs.lisp_graph.declared.object.Value.TheVariants.{Nil}
 use Rattle.trace_text.specs.lisp_graph.declared.world.AreaRule.{AreaRule}
 use Rattle.trace_text.specs.lisp_graph.declared.world.World.{World}
-use Rattle.trace_text.specs.world_text.declared.reading.reader.Part.{Part}
-use Rattle.trace_text.specs.world_text.declared.reading.reader.Part.TheVariants.{FirstArea, Areas, Objects}
+use Rattle.trace_text.specs.world_text.declared.reading.reader.Section.{Section}
+use Rattle.trace_text.specs.world_text.declared.reading.reader.Section.TheVariants.{FirstArea, Areas, Objects}
 use Rattle.trace_text.specs.world_text.declared.reading.reader.WorldReader.{WorldReader}
 use Rattle.trace_text.specs.world_text.Numbers.{area_of}
 use Rattle.trace_text.specs.world_text.Header.{room, rule_room}
@@ -65,7 +65,7 @@ before_named first rule rest named =
     subst (λ (name : List ℕ). is_name name ≡ true) (named_at first rule rest) (named.names (length first) (omega (arith, length-append first (rule ∷ rest))))
 
 -- the part after these area lines
-abbrev pub part_behind : Part → List AreaRule → Part
+abbrev pub part_behind : Section → List AreaRule → Section
 part_behind part [] = part
 part_behind part (rule ∷ rules) = Areas
 

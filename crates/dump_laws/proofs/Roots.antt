@@ -9,8 +9,8 @@ use Rattle.trace_text.specs.lisp_graph.declared.object.Value.{Value}
 use Rattle.trace_text.specs.lisp_graph.declared.object.Value.TheVariants.{Fix, Nil, Ref}
 use Rattle.trace_text.specs.lisp_graph.declared.world.AreaRule.{AreaRule}
 use Rattle.trace_text.specs.world_text.declared.fault.WorldStep.TheVariants.{TraceBegins, WorldEnds}
-use Rattle.trace_text.specs.world_text.declared.reading.reader.Part.{Part}
-use Rattle.trace_text.specs.world_text.declared.reading.reader.Part.TheVariants.{Opening, Sizing, FirstArea, Areas, Objects, Roots, Closed}
+use Rattle.trace_text.specs.world_text.declared.reading.reader.Section.{Section}
+use Rattle.trace_text.specs.world_text.declared.reading.reader.Section.TheVariants.{Opening, Sizing, FirstArea, Areas, Objects, Roots, Closed}
 use Rattle.trace_text.specs.world_text.declared.reading.reader.WorldReader.{WorldReader}
 use Rattle.trace_text.specs.world_text.Closing.{closing_word, has_root}
 use Rattle.trace_text.specs.world_text.Line.{line_at}
@@ -23,7 +23,7 @@ use Rattle.trace_text.proofs.world_text.reading_laws.Reached.{known_at}
 use Rattle.dump_laws.proofs.Reading.{LeadTo, lead_more, lead_none, lead_on}
 
 -- when object lines are allowed, so are root lines
-pub object_then_root : (second : Bool) (part : Part) → takes_object second part ≡ true → takes_root second part ≡ true
+pub object_then_root : (second : Bool) (part : Section) → takes_object second part ≡ true → takes_root second part ≡ true
 object_then_root second Opening takes = takes
 object_then_root second Sizing takes = takes
 object_then_root second FirstArea takes = takes

@@ -11,7 +11,7 @@ use Rattle.trace_text.specs.lisp_graph.declared.world.World.{World}
 use Rattle.trace_text.specs.lisp_graph.declared.command.Command.TheVariants.{Dump}
 use Rattle.trace_text.specs.world_text.declared.fault.WorldFault.{WorldFault}
 use Rattle.trace_text.specs.world_text.declared.fault.WorldStep.TheVariants.{TraceBegins, WorldEnds}
-use Rattle.trace_text.specs.world_text.declared.reading.reader.Part.TheVariants.{Closed}
+use Rattle.trace_text.specs.world_text.declared.reading.reader.Section.TheVariants.{Closed}
 use Rattle.trace_text.specs.world_text.declared.reading.reader.WorldReader.{WorldReader}
 use Rattle.trace_text.specs.world_text.Next.{◌>>=◌}
 use Rattle.trace_text.specs.world_text.Reader.{opening_place}

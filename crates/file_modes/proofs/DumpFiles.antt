@@ -11,8 +11,8 @@ use Rattle.world_text.specs.declared.fault.WorldFault.TheVariants.{Bad}
 use Rattle.world_text.specs.declared.fault.WorldStep.{WorldStep}
 use Rattle.world_text.specs.declared.fault.WorldStep.TheVariants.{WorldEnds}
 use Rattle.world_text.specs.declared.reading.reason.Reason.TheVariants.{BadLine}
-use Rattle.world_text.specs.declared.reading.reader.Part.{Part}
-use Rattle.world_text.specs.declared.reading.reader.Part.TheVariants.{Opening, Sizing, FirstArea, Areas, Objects, Roots, Closed}
+use Rattle.world_text.specs.declared.reading.reader.Section.{Section}
+use Rattle.world_text.specs.declared.reading.reader.Section.TheVariants.{Opening, Sizing, FirstArea, Areas, Objects, Roots, Closed}
 use Rattle.world_text.specs.declared.reading.reader.WorldReader.{WorldReader}
 use Rattle.world_text.specs.Dump.{IsDump}
 use Rattle.world_text.specs.Line.{line_at, line_in as world_line_in}
@@ -48,7 +48,7 @@ accepts_going : (place : WorldReader) (text : List ℕ) (said : WorldStep × Wor
 unfolding world_line_in
 accepts_going place text said is = go place.part refl
   where
-    go : (part : Part) → place.part ≡ part → is_closed part ≡ false
+    go : (part : Section) → place.part ≡ part → is_closed part ≡ false
     go Opening e = refl
     go Sizing e = refl
     go FirstArea e = refl

@@ -16,7 +16,7 @@ use why_held::{why, why_text};
 /// Why an object of a world is held, as a text.
 fn why_of(alloc: Global, world: &World, object: u64) -> Result<Text, NoMemory>
     requires accepted { IsAccepted world.now }
-    requires object { object < length world.now.objects }
+    requires in_range { object < length world.now.objects }
     ensures { IfOk result (IsWhyText world.now object) }
 {
     let answer = why(alloc, world, object)?;

@@ -20,11 +20,11 @@ use std::alloc::Global;
 /// The world of a world file, which is read through one buffer of 32,769 bytes up to its end or its first bad line. The trouble is that of
 /// the first line that breaks a rule; or the source failed, or memory ran out.
 pub fn read_world<S: Source>(alloc: Global, source: &mut S) -> Result<World, RunError>
-    ensures was_read { lines.WasRead file_rules start (S.left source.old) (S.left source.new) result }
+    ensures judged { lines.WasRead file_rules start (S.left source.old) (S.left source.new) result }
     ensures read { IfErr result (λ trouble. trouble ≡ Read → Rose (S.faults source.old) (S.faults source.new)) }
-    ensures quiet { result ≢ Err Read → S.faults source.new ≡ S.faults source.old }
+    ensures no_fault { result ≢ Err Read → S.faults source.new ≡ S.faults source.old }
     ensures accepted { IfOk result IsAccepted }
-    ensures later { S.faults source.old ≤ S.faults source.new }
+    ensures never_falls { S.faults source.old ≤ S.faults source.new }
 {
     read_lines(alloc, WorldFile::start(alloc), source)
 }
@@ -35,9 +35,9 @@ pub fn read_file<S: Source>(
     mode: FileMode,
     source: &mut S,
 ) -> Result<World, FileError>
-    ensures was_read { WasRead mode (S.left source.old) (S.left source.new) result }
+    ensures judged { WasRead mode (S.left source.old) (S.left source.new) result }
     ensures read { IfErr result (λ trouble. trouble ≡ Input Read → Rose (S.faults source.old) (S.faults source.new)) }
-    ensures quiet { result ≢ Err (Input Read) → S.faults source.new ≡ S.faults source.old }
+    ensures no_fault { result ≢ Err (Input Read) → S.faults source.new ≡ S.faults source.old }
     ensures fits { IfOk result (IsFor mode) }
 {
     match mode {

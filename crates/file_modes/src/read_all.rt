@@ -25,12 +25,12 @@ fn gather<S: Source>(
     piece: &mut [u8],
     bytes: Vec<u8>,
 ) -> Result<Vec<u8>, RunError>
-    requires limit { limit ≤ 2 ^ 40 }
-    requires piece { 0 < length piece.old }
-    requires none { bytes.items ≡ [] }
+    requires at_most { limit ≤ 2 ^ 40 }
+    requires at_least { 0 < length piece.old }
+    requires empty { bytes.items ≡ [] }
     ensures taken { WasTaken limit (S.left source.old) (S.left source.new) result }
     ensures read { IfErr result (λ trouble. trouble ≡ Read → Rose (S.faults source.old) (S.faults source.new)) }
-    ensures quiet { result ≢ Err Read → S.faults source.new ≡ S.faults source.old }
+    ensures no_fault { result ≢ Err Read → S.faults source.new ≡ S.faults source.old }
 {
     let mut bytes = bytes;
     while bytes.len() <= limit {
@@ -54,7 +54,7 @@ pub fn read_all<S: Source>(alloc: Global, limit: usize, source: &mut S) -> Resul
     requires { limit ≤ 2 ^ 40 }
     ensures taken { WasTaken limit (S.left source.old) (S.left source.new) result }
     ensures read { IfErr result (λ trouble. trouble ≡ Read → Rose (S.faults source.old) (S.faults source.new)) }
-    ensures quiet { result ≢ Err Read → S.faults source.new ≡ S.faults source.old }
+    ensures no_fault { result ≢ Err Read → S.faults source.new ≡ S.faults source.old }
 {
     match piece_buffer(alloc) {
         Ok(mut piece) => gather(limit, source, &mut piece, Vec::new(alloc)),

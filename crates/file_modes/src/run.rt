@@ -18,9 +18,9 @@ use std::alloc::Global;
 
 /// The answer to a file: the text that the mode requests, or the trouble.
 fn answer<S: Source>(alloc: Global, mode: FileMode, source: &mut S) -> Result<Text, FileError>
-    ensures answered { WasAnswered mode (S.left source.old) (S.left source.new) result }
+    ensures value { WasAnswered mode (S.left source.old) (S.left source.new) result }
     ensures read { IfErr result (λ trouble. trouble ≡ Input Read → Rose (S.faults source.old) (S.faults source.new)) }
-    ensures quiet { result ≢ Err (Input Read) → S.faults source.new ≡ S.faults source.old }
+    ensures no_fault { result ≢ Err (Input Read) → S.faults source.new ≡ S.faults source.old }
 {
     let world = read_file(alloc, mode, source)?;
     match text_of(alloc, mode, &world) {
@@ -31,10 +31,10 @@ fn answer<S: Source>(alloc: Global, mode: FileMode, source: &mut S) -> Result<Te
 
 /// Writes an answer, or the error line of a trouble, and returns how the run ended.
 fn write_answer<K: Sink>(sink: &mut K, answer: &Result<Text, FileError>) -> Status
-    ensures wrote { Closed (K.stands sink.old) (K.stands sink.new) (outcome_text answer.now) (outcome_status answer.now) result }
+    ensures written { Closed (K.stands sink.old) (K.stands sink.new) (outcome_text answer.now) (outcome_status answer.now) result }
     ensures write { result ≡ write_failed → Rose (K.faults sink.old) (K.faults sink.new) }
     ensures last { result ≡ write_failed → FailedLast (K.faults sink.old) (K.faults sink.new) (K.failed sink.new) }
-    ensures quiet { result ≢ write_failed → K.faults sink.new ≡ K.faults sink.old }
+    ensures no_fault { result ≢ write_failed → K.faults sink.new ≡ K.faults sink.old }
 {
     match answer {
         Ok(text) => match give_all(sink, text.as_slice()) {
@@ -65,8 +65,8 @@ pub fn run_mode<S: Source, K: Sink>(
     ensures read { result ≡ read_failed → Rose (S.faults source.old) (S.faults source.new) }
     ensures write { result ≡ write_failed → Rose (K.faults sink.old) (K.faults sink.new) }
     ensures last { result ≡ write_failed → FailedLast (K.faults sink.old) (K.faults sink.new) (K.failed sink.new) }
-    ensures quiet_source { result ≢ read_failed → result ≢ write_failed → S.faults source.new ≡ S.faults source.old }
-    ensures quiet_sink { result ≢ write_failed → K.faults sink.new ≡ K.faults sink.old }
+    ensures source_no_fault { result ≢ read_failed → result ≢ write_failed → S.faults source.new ≡ S.faults source.old }
+    ensures sink_no_fault { result ≢ write_failed → K.faults sink.new ≡ K.faults sink.old }
 {
     let answer = answer(alloc, mode, source);
     write_answer(sink, &answer)

@@ -31,10 +31,10 @@ fn trouble_of(fault: SexprFault) -> FileError
 /// The world that a text of S-expressions means. The text is taken up to its end, or until it has more than 2^40 bytes. Quotas aren't
 /// checked.
 pub fn read_sexpr<S: Source>(alloc: Global, source: &mut S) -> Result<World, FileError>
-    ensures was_read { WasRead FileMode.Compile (S.left source.old) (S.left source.new) result }
+    ensures judged { WasRead FileMode.Compile (S.left source.old) (S.left source.new) result }
     ensures read { IfErr result (λ trouble. trouble ≡ Input Read → Rose (S.faults source.old) (S.faults source.new)) }
-    ensures quiet { result ≢ Err (Input Read) → S.faults source.new ≡ S.faults source.old }
-    ensures dumpable { IfOk result IsDumpable }
+    ensures no_fault { result ≢ Err (Input Read) → S.faults source.new ≡ S.faults source.old }
+    ensures ok { IfOk result IsDumpable }
 {
     let bytes = match read_all(alloc, LONGEST, source) {
         Ok(bytes) => bytes,

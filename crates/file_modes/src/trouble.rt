@@ -42,7 +42,7 @@ fn fixed_words(reason: SexprReason) -> &'static [u8]
 
 /// Writes the error line for a line that names a label that doesn't exist.
 fn write_no_label<K: Sink>(sink: &mut K, line: u64, label: u32) -> Result<(), SinkFault>
-    ensures wrote { Wrote (K.stands sink.old) (K.stands sink.new) (error_line line (label_words label)) result }
+    ensures written { Wrote (K.stands sink.old) (K.stands sink.new) (error_line line (label_words label)) result }
     ensures cause { HasCause (K.faults sink.old) (K.faults sink.new) result }
     ensures last { OnErr result (FailedLast (K.faults sink.old) (K.faults sink.new) (K.failed sink.new)) }
 {
@@ -58,11 +58,11 @@ fn write_no_label<K: Sink>(sink: &mut K, line: u64, label: u32) -> Result<(), Si
 
 /// Writes the error line for a line that names a label that doesn't exist, and returns `Refused`, or `WriteFailed` if the sink failed.
 fn tell_label<K: Sink>(sink: &mut K, line: u64, label: u32) -> Status
-    ensures wrote { Closed (K.stands sink.old) (K.stands sink.new) (error_line line (label_words label)) Status.Refused result }
+    ensures written { Closed (K.stands sink.old) (K.stands sink.new) (error_line line (label_words label)) Status.Refused result }
     ensures write { result ≡ Status.WriteFailed → Rose (K.faults sink.old) (K.faults sink.new) }
     ensures last { result ≡ Status.WriteFailed → FailedLast (K.faults sink.old) (K.faults sink.new) (K.failed sink.new) }
-    ensures later { K.faults sink.old ≤ K.faults sink.new }
-    ensures quiet { result ≢ Status.WriteFailed → K.faults sink.new ≡ K.faults sink.old }
+    ensures never_falls { K.faults sink.old ≤ K.faults sink.new }
+    ensures no_fault { result ≢ Status.WriteFailed → K.faults sink.new ≡ K.faults sink.old }
 {
     match write_no_label(sink, line, label) {
         Ok(()) => Status::Refused,
@@ -72,11 +72,11 @@ fn tell_label<K: Sink>(sink: &mut K, line: u64, label: u32) -> Status
 
 /// Writes the error line with this reason for the line of this number, and returns `Refused`, or `WriteFailed` if the sink failed.
 fn tell_reason<K: Sink>(sink: &mut K, line: u64, reason: SexprReason) -> Status
-    ensures wrote { Closed (K.stands sink.old) (K.stands sink.new) (reason_line line reason) Status.Refused result }
+    ensures written { Closed (K.stands sink.old) (K.stands sink.new) (reason_line line reason) Status.Refused result }
     ensures write { result ≡ Status.WriteFailed → Rose (K.faults sink.old) (K.faults sink.new) }
     ensures last { result ≡ Status.WriteFailed → FailedLast (K.faults sink.old) (K.faults sink.new) (K.failed sink.new) }
-    ensures later { K.faults sink.old ≤ K.faults sink.new }
-    ensures quiet { result ≢ Status.WriteFailed → K.faults sink.new ≡ K.faults sink.old }
+    ensures never_falls { K.faults sink.old ≤ K.faults sink.new }
+    ensures no_fault { result ≢ Status.WriteFailed → K.faults sink.new ≡ K.faults sink.old }
 {
     match reason {
         SexprReason::Header(reason) => line_input::report(sink, &RunError::Line(line, reason)),
@@ -87,11 +87,11 @@ fn tell_reason<K: Sink>(sink: &mut K, line: u64, reason: SexprReason) -> Status
 
 /// Writes the error line of a text that gives no world, and returns its status, or `WriteFailed` if the sink failed.
 fn tell_fault<K: Sink>(sink: &mut K, fault: SexprFault) -> Status
-    ensures wrote { Closed (K.stands sink.old) (K.stands sink.new) (fault_line fault) (fault_status fault) result }
+    ensures written { Closed (K.stands sink.old) (K.stands sink.new) (fault_line fault) (fault_status fault) result }
     ensures write { result ≡ Status.WriteFailed → Rose (K.faults sink.old) (K.faults sink.new) }
     ensures last { result ≡ Status.WriteFailed → FailedLast (K.faults sink.old) (K.faults sink.new) (K.failed sink.new) }
-    ensures later { K.faults sink.old ≤ K.faults sink.new }
-    ensures quiet { result ≢ Status.WriteFailed → K.faults sink.new ≡ K.faults sink.old }
+    ensures never_falls { K.faults sink.old ≤ K.faults sink.new }
+    ensures no_fault { result ≢ Status.WriteFailed → K.faults sink.new ≡ K.faults sink.old }
 {
     match fault {
         SexprFault::Bad { line, reason } => tell_reason(sink, line, reason),
@@ -102,11 +102,11 @@ fn tell_fault<K: Sink>(sink: &mut K, fault: SexprFault) -> Status
 
 /// Writes the error line of a trouble, and returns its status, or `WriteFailed` if the sink failed.
 pub fn report_file_error<K: Sink>(sink: &mut K, trouble: &FileError) -> Status
-    ensures wrote { Closed (K.stands sink.old) (K.stands sink.new) (trouble_line trouble.now) (status_of trouble.now) result }
+    ensures written { Closed (K.stands sink.old) (K.stands sink.new) (trouble_line trouble.now) (status_of trouble.now) result }
     ensures write { result ≡ Status.WriteFailed → Rose (K.faults sink.old) (K.faults sink.new) }
     ensures last { result ≡ Status.WriteFailed → FailedLast (K.faults sink.old) (K.faults sink.new) (K.failed sink.new) }
-    ensures later { K.faults sink.old ≤ K.faults sink.new }
-    ensures quiet { result ≢ Status.WriteFailed → K.faults sink.new ≡ K.faults sink.old }
+    ensures never_falls { K.faults sink.old ≤ K.faults sink.new }
+    ensures no_fault { result ≢ Status.WriteFailed → K.faults sink.new ≡ K.faults sink.old }
 {
     match trouble {
         FileError::Input(trouble) => line_input::report(sink, trouble),

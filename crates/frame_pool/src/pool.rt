@@ -89,7 +89,7 @@ impl FramePool {
         requires { Contains self.old.free frame }
         ensures taken { Takes self.old self.new frame page (λ _. Some null_word) }
         ensures used { Contains self.new.used frame }
-        ensures inside { frame < frames_of self.new }
+        ensures in_range { frame < frames_of self.new }
         ensures sound { IsPool self.new }
     {
         self.claim(frame, page);
@@ -103,7 +103,7 @@ impl FramePool {
         requires page { length from.now ≡ 256 }
         ensures taken { Takes self.old self.new frame page (slice_get from.now) }
         ensures used { Contains self.new.used frame }
-        ensures inside { frame < frames_of self.new }
+        ensures in_range { frame < frames_of self.new }
         ensures sound { IsPool self.new }
     {
         self.claim(frame, page);
@@ -113,9 +113,9 @@ impl FramePool {
     // A page takes a free frame, whose words are unchanged. The frame is untagged, and used last.
     fn claim(&mut self, frame: u32, page: u32)
         requires { Contains self.old.free frame }
-        ensures claimed { self.new ≡ with_taken self.old frame page }
+        ensures after { self.new ≡ with_taken self.old frame page }
         ensures used { Contains self.new.used frame }
-        ensures inside { frame < frames_of self.new }
+        ensures in_range { frame < frames_of self.new }
         ensures sound { IsPool self.new }
     {
         self.chains.remove(frame);
@@ -130,7 +130,7 @@ impl FramePool {
     fn clear(&mut self, frame: u32)
         requires { frame < frames_of self.old }
         ensures words { Fills self.old.words self.new.words frame (λ _. Some null_word) }
-        ensures rest { self.new ≡ record (self.old) { words = self.new.words } }
+        ensures unchanged { self.new ≡ record (self.old) { words = self.new.words } }
         ensures sound { IsPool self.new }
     {
         self.words.clear(frame);
@@ -153,9 +153,9 @@ impl FramePool {
     /// A taken frame becomes the most recently used. If it is that already, nothing is written.
     pub fn touch(&mut self, frame: u32)
         requires { Contains self.old.used frame }
-        ensures touched { self.new ≡ with_latest self.old frame }
+        ensures after { self.new ≡ with_latest self.old frame }
         ensures used { Contains self.new.used frame }
-        ensures inside { frame < frames_of self.new }
+        ensures in_range { frame < frames_of self.new }
         ensures sound { IsPool self.new }
     {
         if self.latest_frame == frame {
@@ -170,7 +170,7 @@ impl FramePool {
     /// returned would change nothing.
     pub fn latest_of(&self, page: u32) -> Option<u32>
         ensures used { IfSome result (Contains self.now.used) }
-        ensures same { IfSome result (λ frame. with_latest self.now frame ≡ self.now) }
+        ensures unchanged { IfSome result (λ frame. with_latest self.now frame ≡ self.now) }
         ensures page { IfSome result (λ frame. page_at self.now frame ≡ page) }
         ensures none { IsNone result → (frame : ℕ) → last_of self.now.used ≡ Some frame → page_at self.now frame ≢ page }
         ensures sound { IsPool self.now }
@@ -187,7 +187,7 @@ impl FramePool {
         ensures first { result ≡ first_of self.now.used }
         ensures none { IsNone result ↔ (self.now.used ≡ []) }
         ensures used { IfSome result (Contains self.now.used) }
-        ensures inside { IfSome result (λ frame. frame < frames_of self.now) }
+        ensures in_range { IfSome result (λ frame. frame < frames_of self.now) }
         ensures sound { IsPool self.now }
     {
         self.chains.front(USED)
@@ -196,9 +196,9 @@ impl FramePool {
     /// The taken frame that was used next after this one; None if this is the most recently used.
     pub fn after(&self, frame: u32) -> Option<u32>
         requires { Contains self.now.used frame }
-        ensures next { result ≡ next_in self.now.used frame }
+        ensures value { result ≡ next_in self.now.used frame }
         ensures used { IfSome result (Contains self.now.used) }
-        ensures inside { IfSome result (λ next. next < frames_of self.now) }
+        ensures in_range { IfSome result (λ next. next < frames_of self.now) }
         ensures sound { IsPool self.now }
     {
         self.chains.next(frame)
@@ -234,7 +234,7 @@ impl FramePool {
     /// Changes one word of a frame. The offset is below 256.
     pub fn set_word(&mut self, frame: u32, offset: u32, word: Word)
         requires frame { frame < frames_of self.old }
-        requires offset { offset < 256 }
+        requires in_range { offset < 256 }
         ensures set { self.new
             ≡ record (self.old) { words = slice_set self.old.words (256 * frame + offset) word } }
         ensures sound { IsPool self.new }
@@ -247,7 +247,7 @@ impl FramePool {
         requires frame { frame < frames_of self.old }
         requires page { length from.now ≡ 256 }
         ensures words { Fills self.old.words self.new.words frame (slice_get from.now) }
-        ensures rest { self.new ≡ record (self.old) { words = self.new.words } }
+        ensures unchanged { self.new ≡ record (self.old) { words = self.new.words } }
         ensures sound { IsPool self.new }
     {
         self.words.fill(frame, from);
@@ -256,12 +256,12 @@ impl FramePool {
     /// Copies `count` words of a frame, from an offset on, to an offset of a frame, perhaps the
     /// same one. Both places are within their frame.
     pub fn copy_words(&mut self, from_frame: u32, from: u32, to_frame: u32, to: u32, count: u32)
-        requires from_frame { from_frame < frames_of self.old }
+        requires from_held { from_frame < frames_of self.old }
         requires from { from + count ≤ 256 }
-        requires to_frame { to_frame < frames_of self.old }
+        requires to_held { to_frame < frames_of self.old }
         requires to { to + count ≤ 256 }
         ensures words { FillsSpan self.old.words self.new.words (256 * to_frame + to) count (λ i. slice_index_or self.old.words (256 * from_frame + from + i) null_word) }
-        ensures rest { self.new ≡ record (self.old) { words = self.new.words } }
+        ensures unchanged { self.new ≡ record (self.old) { words = self.new.words } }
         ensures sound { IsPool self.new }
     {
         self.words.copy(from_frame, from, to_frame, to, count);
@@ -272,7 +272,7 @@ impl FramePool {
         requires frame { frame < frames_of self.old }
         requires from { from + count ≤ 256 }
         ensures words { FillsSpan self.old.words self.new.words (256 * frame + from) count (λ _. word) }
-        ensures rest { self.new ≡ record (self.old) { words = self.new.words } }
+        ensures unchanged { self.new ≡ record (self.old) { words = self.new.words } }
         ensures sound { IsPool self.new }
     {
         self.words.fill_span(frame, from, count, word);
@@ -281,7 +281,7 @@ impl FramePool {
     /// Whether a frame has its tag.
     pub fn tagged(&self, frame: u32) -> bool
         requires { frame < frames_of self.now }
-        ensures tag { result ≡ tag_of self.now frame }
+        ensures value { result ≡ tag_of self.now frame }
         ensures sound { IsPool self.now }
     {
         self.tags[frame as usize]
@@ -299,8 +299,8 @@ impl FramePool {
 
 // The page of the last frame in the order of use, and the frame.
 fn latest_in(chains: &Lists, pages: &[u32]) -> (u64, u32)
-    requires two { length chains.now.lists ≡ 2 }
-    requires inside { (frame : ℕ) → Contains (list_at chains.now 1) frame → frame < length pages.now }
+    requires size { length chains.now.lists ≡ 2 }
+    requires in_range { (frame : ℕ) → Contains (list_at chains.now 1) frame → frame < length pages.now }
     ensures { IsLatest (list_at chains.now 1) pages.now result.0 result.1 }
 {
     match chains.back(USED) {

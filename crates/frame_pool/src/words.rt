@@ -63,7 +63,7 @@ impl FrameWords {
     /// Changes one word of a frame.
     pub(crate) fn set(&mut self, frame: u32, offset: u32, word: Word)
         requires frame { 256 * frame + 256 ≤ length self.old }
-        requires offset { offset < 256 }
+        requires in_range { offset < 256 }
         ensures { self.new ≡ slice_set self.old (256 * frame + offset) word }
     {
         let start = frame as usize * PAGE_WORDS;
@@ -73,7 +73,7 @@ impl FrameWords {
 
     /// The words of one frame become those of a slice.
     pub(crate) fn fill(&mut self, frame: u32, from: &[Word])
-        requires inside { 256 * frame + 256 ≤ length self.old }
+        requires in_range { 256 * frame + 256 ≤ length self.old }
         requires page { length from.now ≡ 256 }
         ensures { Fills self.old self.new frame (slice_get from.now) }
     {
@@ -83,7 +83,7 @@ impl FrameWords {
 
     /// The words of one frame become NULL.
     pub(crate) fn clear(&mut self, frame: u32)
-        requires inside { 256 * frame + 256 ≤ length self.old }
+        requires in_range { 256 * frame + 256 ≤ length self.old }
         ensures { Fills self.old self.new frame (λ _. Some null_word) }
     {
         reach(&mut self.stored, frame as usize * PAGE_WORDS + PAGE_WORDS);
@@ -92,9 +92,9 @@ impl FrameWords {
 
     /// Copies `count` words of a frame, from an offset on, to an offset of a frame, perhaps the same one.
     pub(crate) fn copy(&mut self, from_frame: u32, from: u32, to_frame: u32, to: u32, count: u32)
-        requires from_frame { 256 * from_frame + 256 ≤ length self.old }
+        requires from_held { 256 * from_frame + 256 ≤ length self.old }
         requires from { from + count ≤ 256 }
-        requires to_frame { 256 * to_frame + 256 ≤ length self.old }
+        requires to_held { 256 * to_frame + 256 ≤ length self.old }
         requires to { to + count ≤ 256 }
         ensures { FillsSpan self.old self.new (256 * to_frame + to) count (λ i. slice_index_or self.old (256 * from_frame + from + i) null_word) }
     {
@@ -142,7 +142,7 @@ fn reach(stored: &mut Vec<Word>, end: usize)
 #[inline(never)]
 fn store_more(stored: &mut Vec<Word>, end: usize)
     requires room { end ≤ vec_capacity stored.old }
-    requires more { vec_len stored.old < end }
+    requires order { vec_len stored.old < end }
     ensures items { stored.new.items ≡ stored.old.items ++ replicate (end - length stored.old.items) null_word }
     ensures capacity { vec_capacity stored.old ≤ vec_capacity stored.new }
 {
@@ -151,7 +151,7 @@ fn store_more(stored: &mut Vec<Word>, end: usize)
 
 // The words of one frame become those of a slice.
 fn fill_frame(words: &mut [Word], frame: u32, from: &[Word])
-    requires inside { 256 * frame + 256 ≤ length words.old }
+    requires in_range { 256 * frame + 256 ≤ length words.old }
     requires page { length from.now ≡ 256 }
     ensures { Fills words.old words.new frame (slice_get from.now) }
 {
@@ -161,7 +161,7 @@ fn fill_frame(words: &mut [Word], frame: u32, from: &[Word])
 
 // The words of one frame become NULL.
 fn clear_frame(words: &mut [Word], frame: u32)
-    requires inside { 256 * frame + 256 ≤ length words.old }
+    requires in_range { 256 * frame + 256 ≤ length words.old }
     ensures { Fills words.old words.new frame (λ _. Some null_word) }
 {
     let start = frame as usize * PAGE_WORDS;
@@ -170,8 +170,8 @@ fn clear_frame(words: &mut [Word], frame: u32)
 
 // The `count` words from one place on become those from another.
 fn copy_span(words: &mut [Word], from: usize, to: usize, count: usize)
-    requires from_inside { from + count ≤ length words.old }
-    requires to_inside { to + count ≤ length words.old }
+    requires from { from + count ≤ length words.old }
+    requires to { to + count ≤ length words.old }
     ensures { FillsSpan words.old words.new to count (λ i. slice_index_or words.old (from + i) null_word) }
 {
     words.copy_within(from..from + count, to);
@@ -179,7 +179,7 @@ fn copy_span(words: &mut [Word], from: usize, to: usize, count: usize)
 
 // The `count` words from a place on become one word.
 fn fill_span(words: &mut [Word], at: usize, count: usize, word: Word)
-    requires inside { at + count ≤ length words.old }
+    requires in_range { at + count ≤ length words.old }
     ensures { FillsSpan words.old words.new at count (λ _. word) }
 {
     words[at..at + count].fill(word);

@@ -18,7 +18,7 @@ use Rattle.heap_state.specs.lisp_ground.Collecting.{StandsOn}
 use Rattle.heap_state.proofs.lisp_ground.Collecting.{flipped_on}
 use Rattle.scavenger.specs.Scan.{Scan}
 use Rattle.scavenger.specs.Left.{rest_of, units_of}
-use Rattle.scavenger.specs.Collecting.{Clean}
+use Rattle.scavenger.specs.Collecting.{ScanInvariant}
 use Rattle.scavenger.specs.Starting.{Begins, base_pages, is_base}
 use Rattle.heap_state.specs.RepresentsAll.{RepresentsAll}
 use Rattle.heap_state.specs.Scans.{Scans}
@@ -44,7 +44,7 @@ few_pages m t what = few_counted (is_base m t what) (16 * t.regions)
 module _ (m : Store) (t u : Table) (pages : List ℕ) (scan scan' : Scan) (what : Condemn) (count : ℕ) (condemns : Condemns t u what)
     (before : IsGround m u) (no_free : NamesNoFree m u) (table : IsTable u) (ground : IsGround m (record u { pages = pages })) (named : NamesNoFree m (record u { pages = pages })) (table' : IsTable (record u { pages = pages }))
     (marks : MarksHold m) (going : scan'.over ≡ false)
-    (clean : (registers : List Parts) → length registers ≡ scan.registers → Clean m (record u { pages = pages }) scan' registers)
+    (clean : (registers : List Parts) → length registers ≡ scan.registers → ScanInvariant m (record u { pages = pages }) scan' registers)
     (units : (registers : List Parts) → length registers ≡ scan.registers → units_of m scan' (record u { pages = pages }) registers ≤ scan.registers + 256 * count) where
   abbrev u' : Table
   u' = record u { pages = pages }
@@ -84,14 +84,14 @@ module _ (m m1 m' : Store) (t u v : Table) (scan scan' : Scan) (what : Condemn) 
   back P x = subst (P m') (sym same) (subst (λ (n : Store). P n (record u { pages = v.pages })) (sym both) x)
 
   pub flips_by : Condemns t u what → IsGround m1 u → NamesNoFree m1 u → IsTable u → IsGround m' v → NamesNoFree m' v → IsTable v → MarksHold m → scan'.over ≡ false
-      → ((registers : List Parts) → length registers ≡ scan.registers → Clean m' v scan' registers)
+      → ((registers : List Parts) → length registers ≡ scan.registers → ScanInvariant m' v scan' registers)
       → ((registers : List Parts) → length registers ≡ scan.registers → units_of m' scan' v registers ≤ scan.registers + 256 * count)
       → (registers : List Parts) (k : RoleMap) (s : State) → RepresentsAll m t scan registers k s → s.phase ≡ Idle → length registers ≡ s.space.registers → RepresentsAll m' v scan' registers k (flipped s what count)
   flips_by condemns before no_free table ground named table' marks going clean units registers k s x idle size =
       back (λ (n : Store) (w : Table). RepresentsAll n w scan' registers k (flipped s what count))
       (flips_here m t u v.pages scan scan' what count condemns (subst (λ (n : Store). IsGround n u) one before) (subst (λ (n : Store). NamesNoFree n u) one no_free) table
       (here (λ (n : Store) (w : Table). IsGround n w) ground) (here (λ (n : Store) (w : Table). NamesNoFree n w) named) (here (λ (n : Store) (w : Table). IsTable w) table') marks going
-      (λ rs held. here (λ (n : Store) (w : Table). Clean n w scan' rs) (clean rs held))
+      (λ rs held. here (λ (n : Store) (w : Table). ScanInvariant n w scan' rs) (clean rs held))
       (λ rs held. here (λ (n : Store) (w : Table). units_of n scan' w rs ≤ scan.registers + 256 * count) (units rs held)) registers k s x idle size)
 
 -- the base pages are those of the table after it

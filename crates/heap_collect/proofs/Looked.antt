@@ -11,7 +11,7 @@ use Rattle.heap_state.specs.lisp_meaning.State.{Idle, Phase, Running, State, aim
 use Rattle.heap_state.specs.lisp_meaning.Flip.{graph_of}
 use Rattle.heap_state.specs.lisp_meaning.Roles.{RoleMap}
 use Rattle.heap_state.specs.lisp_meaning.Step.{wanted_by}
-use Rattle.heap_state.specs.transporter.Preserving.{AllFresh, RegistersPreserved, PreservesScanned}
+use Rattle.heap_state.specs.transporter.Preserving.{NoOldAddresses, RegistersPreserved, PreservesScanned}
 use Rattle.scavenger.specs.Laws.{CleanStays, UnitsStay}
 use Rattle.scavenger.specs.Scan.{Scan}
 use Rattle.heap_state.specs.HasScannedAhead.{HasScannedAhead, ScansAhead}
@@ -20,7 +20,7 @@ use Rattle.heap_state.specs.RepresentsLater.{RepresentsLater}
 use Rattle.heap_state.specs.Laws.{AllocationIsStep, PerformsIsStep}
 use Rattle.heap_state.specs.Performs.{FaultsOn, Performs}
 use Rattle.heap_state.specs.Scans.{Scans}
-use Rattle.heap_state.specs.Settled.{RegistersFresh}
+use Rattle.heap_state.specs.Settled.{NoOldAddressesInRegisters}
 use Rattle.heap_state.specs.StepsTo.{StepsTo}
 use Rattle.heap_state.specs.Wanting.{paid_wanting}
 use Rattle.heap_state.proofs.Allocating.{fits_quota, quota_left}
@@ -32,7 +32,7 @@ use Rattle.heap_collect.proofs.Admitted.{fault_steps, wanted_of}
 -- After a look
 
 module _ (clean : CleanStays) (units : UnitsStay) (m m' : Store) (t t' : Table) (scan : Scan) (registers registers' : List Parts) (k : RoleMap) (s : State) (b : RepresentsAll m t scan registers k s)
-    (preserves : PreservesScanned m t m' t') (others : RegistersPreserved t' registers registers') (stays_fresh : RegistersFresh t registers → AllFresh m t → AllFresh m' t') (x : RepresentsLater m t m' t' registers' k s s 0) where
+    (preserves : PreservesScanned m t m' t') (others : RegistersPreserved t' registers registers') (stays_fresh : NoOldAddressesInRegisters t registers → NoOldAddresses m t → NoOldAddresses m' t') (x : RepresentsLater m t m' t' registers' k s s 0) where
   tended : PreservesWork m t registers m' t' registers'
   tended = record { preserves = preserves; others = others; stays_fresh = stays_fresh }
 

@@ -14,11 +14,11 @@ use Rattle.heap_state.specs.lisp_meaning.Step.{Flips, Reclaims, Replied}
 use Rattle.scavenger.specs.Scan.{Scan}
 use Rattle.heap_state.specs.RepresentsAll.{RepresentsAll}
 use Rattle.heap_state.specs.StepsTo.{StepsTo}
-use Rattle.heap_collect.specs.Moments.{HasSettled, IsDone, IsResting, IsStanding, StandsForSome}
+use Rattle.heap_collect.specs.Moments.{HasSettled, IsDone, IsIdle, RepresentsMachineState, StandsForSome}
 use Rattle.heap_collect.proofs.Reclaimed.{swept_of}
 use Rattle.heap_collect.proofs.ScannedAhead.{idle_phase, running_phase}
 
-pub stands_for_some : {m : Store} {t : Table} {scan : Scan} {registers : List Parts} → IsStanding m t scan registers → StandsForSome m t scan
+pub stands_for_some : {m : Store} {t : Table} {scan : Scan} {registers : List Parts} → RepresentsMachineState m t scan registers → StandsForSome m t scan
 stands_for_some {m} {t} {scan} {registers} x = record { registers = registers; map = x.map; state = x.state; represents = x.represents }
 
 module _ (m : Store) (t : Table) (scan : Scan) where
@@ -27,7 +27,7 @@ module _ (m : Store) (t : Table) (scan : Scan) where
 
   -- Flips
 
-  pub resting : StandsForSome m t scan → t.aim ≡ None → IsResting m t scan
+  pub resting : StandsForSome m t scan → t.aim ≡ None → IsIdle m t scan
   resting x none = record { registers = x.registers; map = x.map; state = x.state; represents = x.represents; idle = idle_phase t x.state.phase x.represents.represents.aims none }
 
   pub busy_steps : (registers : List Parts) (what : Condemn) → (t.aim ≡ None → ⊥) → (k : RoleMap) (s : State) → RepresentsAll m t scan registers k s → StepsTo m t scan registers s (C.Flip what) R.Busy

@@ -15,7 +15,7 @@ use Rattle.heap_state.proofs.lisp_ground.Collecting.{reclaimed_on, scanned_names
 use Rattle.scavenger.specs.Scan.{Scan}
 use Rattle.scavenger.specs.Left.{rest_of}
 use Rattle.heap_state.specs.RepresentsAll.{RepresentsAll}
-use Rattle.heap_state.specs.Laws.{IsSwept}
+use Rattle.heap_state.specs.Laws.{ScanMatchesPhase}
 use Rattle.heap_state.specs.Scans.{Scans, Sweeps}
 use Rattle.heap_state.proofs.MachineInvariant.{represents_by, stands_by}
 use Rattle.heap_collect.specs.Moments.{IsDone}
@@ -40,6 +40,6 @@ reclaims_here m m' t u frees clears fits scan registers k s c x running over =
       fits = fits;
       registers = refl;
     }) in
-    let swept : IsSwept m' u scan registers after.1.phase =
-    subst (IsSwept m' u scan registers) (sym after.3.phase) (record { over = w.over ∙ over; count = w.clean.count; pages = w.clean.pages ∙ ap (λ (y : Table). 16 * y.regions) (sym frees.same) }) in
+    let swept : ScanMatchesPhase m' u scan registers after.1.phase =
+    subst (ScanMatchesPhase m' u scan registers) (sym after.3.phase) (record { over = w.over ∙ over; count = w.clean.count; pages = w.clean.pages ∙ ap (λ (y : Table). 16 * y.regions) (sym frees.same) }) in
     (after.0, after.1, represents_by m' u scan registers after.0 after.1 after.2 swept fits.marks, after.3)

@@ -19,7 +19,7 @@ use Rattle.scavenger.specs.Scan.{Scan}
 use Rattle.scavenger.specs.Collecting.{Collects}
 use Rattle.scavenger.specs.Scanning.{CollectsOn, StillCollects}
 use Rattle.heap_state.specs.HasScannedAhead.{HasScannedAhead, ScansAhead, SweepsAhead}
-use Rattle.heap_state.specs.Aims.{Aims}
+use Rattle.heap_state.specs.PhaseAgrees.{PhaseAgrees}
 use Rattle.heap_state.specs.Represents.{Represents}
 use Rattle.heap_state.specs.RepresentsAll.{RepresentsAll}
 use Rattle.heap_state.specs.RepresentsLater.{RepresentsLater}
@@ -55,11 +55,11 @@ none_of None r b same is told = refl
 none_of (Some x) r b same is told = let y : is_some r ≡ true = ap is_some same in let z : not b ≡ false = ap not told in let w : true ≡ false = sym y ∙ is ∙ z in cc
 
 -- if none runs in the table none does in the state
-pub idle_phase : (t : Table) (p : Phase) → Aims t p → t.aim ≡ None → p ≡ Idle
+pub idle_phase : (t : Table) (p : Phase) → PhaseAgrees t p → t.aim ≡ None → p ≡ Idle
 idle_phase t Idle a none = refl
 idle_phase t (Running c) a none = absurd (some_none c.aim.what (sym a ∙ none))
 
-pub running_phase : (t : Table) (p : Phase) → Aims t p → (t.aim ≡ None → ⊥) → (c : Collection) × (p ≡ Running c)
+pub running_phase : (t : Table) (p : Phase) → PhaseAgrees t p → (t.aim ≡ None → ⊥) → (c : Collection) × (p ≡ Running c)
 running_phase t Idle a some = absurd (some a.0)
 running_phase t (Running c) a some = (c, refl)
 
@@ -74,7 +74,7 @@ module _ (m : Store) (t : Table) (scan : Scan) (registers : List Parts) (k : Rol
     kept = subst (λ (p : Phase). GroundInvariant m t k s.space.levels s.areas s.store (aim_of p)) running x.represents.kept;
     count = x.represents.count;
     means = x.represents.means;
-    running = subst (λ (p : Phase). Aims t p) running x.represents.aims;
+    running = subst (λ (p : Phase). PhaseAgrees t p) running x.represents.aims;
     reaches = subst (λ (p : Phase). Reach s p) running x.reach;
     clean = sweeps_of.clean;
   }
@@ -100,7 +100,7 @@ module _ (m m' : Store) (t t' : Table) (scan scan' : Scan) (registers registers'
             kept = subst (λ (a : Condemned). GroundInvariant m' t' on.map s.space.levels s.areas s.store a) (sym aim_is) on.collects.kept;
             count = on.collects.count;
             means = on.collects.means;
-            aims = subst (λ (p : Phase). Aims t' p) (sym running) on.collects.running;
+            aims = subst (λ (p : Phase). PhaseAgrees t' p) (sym running) on.collects.running;
           };
           refines = on.refines;
           work = omega arith;
@@ -133,7 +133,7 @@ module _ (m m' : Store) (t t' : Table) (scan scan' : Scan) (registers registers'
 
 -- `scavenge`
 
-pub phase_represents : (m : Store) (t : Table) (registers : List Parts) (k : RoleMap) (s : State) (q : Phase) → Represents m t registers k s → Aims t q → aim_of q ≡ aim_of s.phase → Represents m t registers k (record s { phase = q })
+pub phase_represents : (m : Store) (t : Table) (registers : List Parts) (k : RoleMap) (s : State) (q : Phase) → Represents m t registers k s → PhaseAgrees t q → aim_of q ≡ aim_of s.phase → Represents m t registers k (record s { phase = q })
 phase_represents m t registers k s q b aims same = record {
   kept = subst (λ (a : Condemned). GroundInvariant m t k s.space.levels s.areas s.store a) (sym same) b.kept;
   count = b.count;
@@ -174,7 +174,7 @@ module _ (m : Store) (t : Table) (scan : Scan) (registers : List Parts) (k : Rol
     next = with_over scan.over after;
     step = inl (subst (λ (p : Phase). Scavenges s p count (Replied r) (with_over scan.over after)) (sym running) (scan.over, over_after, ap Replied is, refl));
     map = k;
-    represents = phase_represents m t registers k s (with_over_phase scan.over after.phase) b (subst (λ (p : Phase). Aims t p) (sym ends_as) (subst (λ (p : Phase). Aims t p) running b.aims)) (ap aim_of ends_as ∙ sym (ap aim_of running));
+    represents = phase_represents m t registers k s (with_over_phase scan.over after.phase) b (subst (λ (p : Phase). PhaseAgrees t p) (sym ends_as) (subst (λ (p : Phase). PhaseAgrees t p) running b.aims)) (ap aim_of ends_as ∙ sym (ap aim_of running));
     scans = subst (λ (p : Phase). Scans m t scan registers k s.store p 0) (sym ends_as) (record { clean = w.clean; over = refl; work = λ going. (let a = w.work going in omega arith) });
   }
 

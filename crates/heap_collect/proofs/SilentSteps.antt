@@ -25,7 +25,7 @@ use Rattle.heap_state.proofs.lisp_ground.Levels.{level_totals_on}
 use Rattle.scavenger.specs.Scan.{Scan}
 use Rattle.heap_state.specs.RepresentsAll.{RepresentsAll}
 use Rattle.heap_state.specs.Scans.{Scans}
-use Rattle.heap_collect.specs.Moments.{IsDone, IsResting}
+use Rattle.heap_collect.specs.Moments.{IsDone, IsIdle}
 use Rattle.heap_collect.specs.Silent.{IsSilent, PreparesTo, StandsIn, capacity_at, collects_alone, done_from, flips_alone, flips_idle, full_bits, full_levels_on, is_full_on, placed_from, reclaims_alone, resident_from, some_set}
 use Rattle.heap_collect.proofs.Full.{bits_some, set_none, set_some}
 use Rattle.heap_collect.proofs.Reclaimed.{swept_of}
@@ -137,7 +137,7 @@ no_flip_running s c running =
     subst (λ (b : Bool). MatchBool b ((n : ℕ) × (n ≤ 16 * s.space.regions) × (s ≡ flipped s (Chosen (full_levels s)) n)) (s ≡ s))
     (sym (ap (λ (p : Phase). is_idle p && some_below (λ i. is_full s (suc i)) s.space.levels) running)) refl
 
-pub is_resting : (m : Store) (t : Table) (scan : Scan) (space : Space) → StandsIn m t scan space → t.aim ≡ None → IsResting m t scan
+pub is_resting : (m : Store) (t : Table) (scan : Scan) (space : Space) → StandsIn m t scan space → t.aim ≡ None → IsIdle m t scan
 is_resting m t scan space x none = record { registers = x.registers; map = x.map; state = x.state; represents = x.represents; idle = idle_phase t x.state.phase x.represents.represents.aims none }
 
 -- Whether there is one, by tests

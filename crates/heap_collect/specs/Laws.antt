@@ -13,13 +13,13 @@ use Rattle.heap_state.specs.lisp_meaning.Roles.{RoleMap}
 use Rattle.heap_state.specs.lisp_meaning.Run.{Does, allocates}
 use Rattle.heap_state.specs.lisp_meaning.Sound.{IsAllowed}
 use Rattle.heap_state.specs.lisp_meaning.Step.{Replied, wanted_by}
-use Rattle.heap_state.specs.transporter.Preserving.{AllFresh, RegistersPreserved, PreservesScanned}
+use Rattle.heap_state.specs.transporter.Preserving.{NoOldAddresses, RegistersPreserved, PreservesScanned}
 use Rattle.scavenger.specs.Scan.{Scan}
 use Rattle.heap_state.specs.HasScannedAhead.{HasScannedAhead}
 use Rattle.heap_state.specs.RepresentsAll.{RepresentsAll}
 use Rattle.heap_state.specs.RepresentsLater.{RepresentsLater}
 use Rattle.heap_state.specs.Performs.{Performs, PerformsAt}
-use Rattle.heap_state.specs.Settled.{RegistersFresh}
+use Rattle.heap_state.specs.Settled.{NoOldAddressesInRegisters}
 use Rattle.heap_state.specs.StepsTo.{StepsTo}
 use Rattle.heap_collect.specs.Admitting.{HasLeft, Wants}
 use Rattle.heap_collect.specs.Silent.{PreparesTo}
@@ -49,7 +49,7 @@ PreparedGoes = (m m' : Store) (t t' : Table) (scan scan' : Scan) (registers regi
 -- what a machine represents after a call that stores at most what it transports
 abbrev pub StandsAfterLook : Type 0
 StandsAfterLook = (m m' : Store) (t t' : Table) (scan : Scan) (registers registers' : List Parts) (k : RoleMap) (s : State)
-    → RepresentsAll m t scan registers k s → MarksHold m' → PreservesScanned m t m' t' → RegistersPreserved t' registers registers' → (RegistersFresh t registers → AllFresh m t → AllFresh m' t')
+    → RepresentsAll m t scan registers k s → MarksHold m' → PreservesScanned m t m' t' → RegistersPreserved t' registers registers' → (NoOldAddressesInRegisters t registers → NoOldAddresses m t → NoOldAddresses m' t')
     → (x : RepresentsLater m t m' t' registers' k s s 0) → RepresentsAll m' t' scan registers' x.map s
 
 -- what was performed before words were requested is a transition, if the command needs none or a swap error is the reply

@@ -17,7 +17,7 @@ pub record StandsForSome (m : Store) (t : Table) (scan : Scan) : Type 0 where
   pub represents : RepresentsAll m t scan registers map state
 
 -- the machine represents some state in which no collection runs
-pub record IsResting (m : Store) (t : Table) (scan : Scan) : Type 0 where
+pub record IsIdle (m : Store) (t : Table) (scan : Scan) : Type 0 where
   pub registers : List Parts
   pub map : RoleMap
   pub state : State
@@ -45,7 +45,7 @@ pub record HasSettled (m : Store) (t : Table) (scan : Scan) (registers : List Pa
   pub represents : RepresentsAll m t scan registers map next
 
 -- the machine represents some state
-pub record IsStanding (m : Store) (t : Table) (scan : Scan) (registers : List Parts) : Type 0 where
+pub record RepresentsMachineState (m : Store) (t : Table) (scan : Scan) (registers : List Parts) : Type 0 where
   pub map : RoleMap
   pub state : State
   pub represents : RepresentsAll m t scan registers map state

@@ -19,11 +19,11 @@ HasSettled v = moments.HasSettled v.mem.store v.table
 abbrev pub IsDone : GroundView → Type 0
 IsDone v = moments.IsDone v.mem.store v.table
 
-abbrev pub IsResting : GroundView → Scan → Type 0
-IsResting v = moments.IsResting v.mem.store v.table
+abbrev pub IsIdle : GroundView → Scan → Type 0
+IsIdle v = moments.IsIdle v.mem.store v.table
 
-abbrev pub IsStanding : GroundView → Scan → List Parts → Type 0
-IsStanding v = moments.IsStanding v.mem.store v.table
+abbrev pub RepresentsMachineState : GroundView → Scan → List Parts → Type 0
+RepresentsMachineState v = moments.RepresentsMachineState v.mem.store v.table
 
 abbrev pub PreparesTo : GroundView → Scan → List Parts → State → Type 0
 PreparesTo v = silent.PreparesTo v.mem.store v.table

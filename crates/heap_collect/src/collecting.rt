@@ -2,7 +2,7 @@
 ghost use Rattle.std.specs.Prelude.{◌≡◌, ◌≢◌, List, [], None, ◌*◌, false, length, true, ◌≤◌};
 ghost use Rattle.area_space.specs.View.{view};
 ghost use Rattle.scavenger.specs.Views.{Begins, base_pages};
-ghost use Rattle.heap_collect.specs.Views.{FreesAtMost, HasSettled, IsDone, IsResting, StandsForSome};
+ghost use Rattle.heap_collect.specs.Views.{FreesAtMost, HasSettled, IsDone, IsIdle, StandsForSome};
 ghost use Rattle.heap_state.specs.Views.{RepresentsAll, StepsTo};
 ghost use Rattle.lisp_graph.specs.declared.command.Command.TheVariants.{Flip as FlipCommand, Reclaim as ReclaimCommand};
 ghost use Rattle.store_word.specs.Words.{Parts};
@@ -15,13 +15,13 @@ ghost use Rattle.scavenger.specs.Scan.{Scan};
 
 use area_space::Ground;
 use lisp_graph::{Condemn, Reply};
-use mem_port::{Memory, known};
+use mem_port::{Memory, assert_invariant};
 use scavenger::ScanSet;
 
 /// `flip`: begins a collection, and replies with the number of base pages to scan; if one runs,
 /// it replies `Busy`, and nothing has changed. The swap can't fail in it.
 pub fn flip<M: Memory>(ground: &mut Ground<M>, scan: &mut ScanSet, what: Condemn) -> Reply
-    requires standing { StandsForSome (view ground.old) scan.old }
+    requires represented { StandsForSome (view ground.old) scan.old }
 
     // what the machine represents
     ensures step { (registers : List Parts) (k : RoleMap) (s : State) → RepresentsAll (view ground.old) scan.old registers k s
@@ -32,13 +32,13 @@ pub fn flip<M: Memory>(ground: &mut Ground<M>, scan: &mut ScanSet, what: Condemn
         → RepresentsAll (view ground.new) scan.new registers k (flipped s what (base_pages (view ground.new) what)) }
 
     // the reply
-    ensures busy { ground.old.table.aim ≢ None → (result ≡ Reply.Busy) × (ground.new ≡ ground.old) × (scan.new ≡ scan.old) }
+    ensures refused { ground.old.table.aim ≢ None → (result ≡ Reply.Busy) × (ground.new ≡ ground.old) × (scan.new ≡ scan.old) }
     ensures pages { ground.old.table.aim ≡ None → result ≡ Reply.Flipped (base_pages (view ground.new) what) }
 
     // what is old, and what remains to be scanned
     ensures table { ground.old.table.aim ≡ None → Condemns ground.old.table (record ground.new.table { pages = [] }) what }
     ensures begins { ground.old.table.aim ≡ None → Begins (view ground.new) what scan.old scan.new }
-    ensures few { ground.old.table.aim ≡ None → base_pages (view ground.new) what ≤ 16 * ground.old.table.regions }
+    ensures at_most { ground.old.table.aim ≡ None → base_pages (view ground.new) what ≤ 16 * ground.old.table.regions }
     ensures going { ground.old.table.aim ≡ None → scan.new.over ≡ false }
     ensures done { ground.old.table.aim ≡ None → scan.new.done ≡ 0 }
     ensures placed { ground.old.table.aim ≡ None → ground.new.table.placed ≡ 0 }
@@ -58,7 +58,7 @@ pub fn flip<M: Memory>(ground: &mut Ground<M>, scan: &mut ScanSet, what: Condemn
 /// was in them is gone. It replies `NotDone` if a unit remains to be scanned, and `NotFlipped` if no collection
 /// runs, and then nothing has changed. The swap can't fail in it.
 pub fn reclaim<M: Memory>(ground: &mut Ground<M>, scan: &ScanSet) -> Reply
-    requires standing { StandsForSome (view ground.old) scan.now }
+    requires represented { StandsForSome (view ground.old) scan.now }
 
     // what the machine represents
     ensures step { (registers : List Parts) (k : RoleMap) (s : State) → RepresentsAll (view ground.old) scan.now registers k s
@@ -75,16 +75,16 @@ pub fn reclaim<M: Memory>(ground: &mut Ground<M>, scan: &ScanSet) -> Reply
     ensures over { ground.old.table.aim ≢ None → scan.now.over ≡ true → result ≡ Reply.Reclaimed }
 
     // what is freed
-    ensures freed { result ≡ Reply.Reclaimed → Frees ground.old.table ground.new.table }
-    ensures frees { FreesAtMost (view ground.old) (view ground.new) }
+    ensures free { result ≡ Reply.Reclaimed → Frees ground.old.table ground.new.table }
+    ensures at_most { FreesAtMost (view ground.old) (view ground.new) }
     ensures resident { result ≡ Reply.Reclaimed → M.resident ground.new.mem ≡ outside_old ground.old.table (M.resident ground.old.mem) }
-    ensures rests { result ≡ Reply.Reclaimed → ground.new.table.aim ≡ None }
+    ensures end { result ≡ Reply.Reclaimed → ground.new.table.aim ≡ None }
 
     // what is unchanged
     ensures unchanged { result ≢ Reply.Reclaimed → ground.new ≡ ground.old }
     ensures regions { ground.new.table.regions ≡ ground.old.table.regions }
     ensures placed { ground.new.table.placed ≡ ground.old.table.placed }
-    ensures faults { M.faults ground.new.mem ≡ M.faults ground.old.mem }
+    ensures no_fault { M.faults ground.new.mem ≡ M.faults ground.old.mem }
     ensures taken { M.taken ground.new.mem ≡ M.taken ground.old.mem }
 {
     if ground.table.condemned().is_none() {
@@ -106,7 +106,7 @@ pub(crate) fn begin_collection<M: Memory>(
     scan: &mut ScanSet,
     what: Condemn,
 ) -> u32
-    requires resting { IsResting (view ground.old) scan.old }
+    requires idle { IsIdle (view ground.old) scan.old }
 
     // what the machine represents, and what is old
     ensures flips { (registers : List Parts) (k : RoleMap) (s : State)
@@ -117,7 +117,7 @@ pub(crate) fn begin_collection<M: Memory>(
     // what remains to be scanned
     ensures pages { result ≡ base_pages (view ground.new) what }
     ensures begins { Begins (view ground.new) what scan.old scan.new }
-    ensures few { result ≤ 16 * ground.old.table.regions }
+    ensures at_most { result ≤ 16 * ground.old.table.regions }
     ensures going { scan.new.over ≡ false }
     ensures done { scan.new.done ≡ 0 }
     ensures placed { ground.new.table.placed ≡ 0 }
@@ -126,11 +126,11 @@ pub(crate) fn begin_collection<M: Memory>(
     ensures memory { ground.new.mem ≡ ground.old.mem }
     ensures regions { ground.new.table.regions ≡ ground.old.table.regions }
 {
-    known(&ground.mem);
+    assert_invariant(&ground.mem);
     ground.condemn(what);
-    ground.table.known();
+    ground.table.assert_invariant();
     let pages = scan.start(ground, what);
-    ground.table.known();
+    ground.table.assert_invariant();
     pages
 }
 
@@ -141,16 +141,16 @@ pub(crate) fn end_collection<M: Memory>(ground: &mut Ground<M>)
     ensures reclaims { (scan : Scan) (registers : List Parts) (k : RoleMap) (s : State) (c : Collection)
         → RepresentsAll (view ground.old) scan registers k s → s.phase ≡ Running c → c.over ≡ true
         → (map : RoleMap) × (new : State) × RepresentsAll (view ground.new) scan registers map new × Settles s c.aim new }
-    ensures freed { Frees ground.old.table ground.new.table }
-    ensures frees { FreesAtMost (view ground.old) (view ground.new) }
+    ensures free { Frees ground.old.table ground.new.table }
+    ensures at_most { FreesAtMost (view ground.old) (view ground.new) }
     ensures resident { M.resident ground.new.mem ≡ outside_old ground.old.table (M.resident ground.old.mem) }
     ensures idle { ground.new.table.aim ≡ None }
     ensures placed { ground.new.table.placed ≡ ground.old.table.placed }
-    ensures faults { M.faults ground.new.mem ≡ M.faults ground.old.mem }
+    ensures no_fault { M.faults ground.new.mem ≡ M.faults ground.old.mem }
     ensures taken { M.taken ground.new.mem ≡ M.taken ground.old.mem }
 {
-    ground.table.known();
+    ground.table.assert_invariant();
     ground.free_old();
-    ground.table.known();
-    known(&ground.mem);
+    ground.table.assert_invariant();
+    assert_invariant(&ground.mem);
 }

@@ -8,7 +8,7 @@ use scavenger::scans_go_on;
 /// it what the definition does.
 pub fn allocations_are_steps()
     ensures admitted { AdmittedIsStep }
-    ensures prepared { PreparedGoes }
+    ensures step { PreparedGoes }
 {
     commands_are_steps();
 }
@@ -17,7 +17,7 @@ pub fn allocations_are_steps()
 /// no words are needed, or is admitted and performed. After a look a machine represents the same states.
 pub fn looks_are_steps()
     ensures stands { StandsAfterLook }
-    ensures unasked { UnaskedIsStep }
+    ensures idle { UnaskedIsStep }
     ensures admitted { AdmittedCommandIsStep }
 {
     scans_go_on();

@@ -14,4 +14,4 @@ pub use admitting::admit;
 pub use collecting::{flip, reclaim};
 pub use laws::{allocations_are_steps, looks_are_steps};
 pub use scanning::scavenge;
-pub use silent::prepare;
+pub use silent::take_silent_steps;

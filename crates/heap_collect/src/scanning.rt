@@ -1,15 +1,15 @@
 //! Scans a number of units.
 ghost use Rattle.std.specs.Prelude.{◌≡◌, ◌≢◌, ◌+◌, ◌-◌, ◌*◌, ◌<◌, ◌≤◌, None, OnOk, OnErr, false, true};
-ghost use Rattle.mem_port.specs.View.{Tells, TellsIf};
+ghost use Rattle.mem_port.specs.View.{AccountsForFaults, AccountsForFaultsIf};
 ghost use Rattle.area_space.specs.View.{view};
-ghost use Rattle.heap_collect.specs.Views.{IsStanding, ScansOn};
+ghost use Rattle.heap_collect.specs.Views.{RepresentsMachineState, ScansOn};
 ghost use Rattle.heap_state.specs.Reads.{is_fault};
 ghost use Rattle.heap_state.specs.Views.{HasScannedAhead, RepresentsAll, StepsTo};
 ghost use Rattle.scavenger.specs.Views.{ScansUpTo};
 ghost use Rattle.lisp_graph.specs.declared.command.Command.TheVariants.{Scavenge as ScavengeCommand};
 ghost use Rattle.heap_state.specs.lisp_meaning.Roles.{RoleMap};
 ghost use Rattle.heap_state.specs.lisp_meaning.State.{State};
-ghost use Rattle.heap_state.specs.transporter.LiveSame.{OnlyGrows};
+ghost use Rattle.heap_state.specs.transporter.LiveWordsUnchanged.{OnlyGrows};
 ghost use Rattle.heap_state.specs.transporter.Preserving.{RegistersPreserved};
 ghost use Rattle.heap_collect.specs.Amounts.{Amount, CountsPlaced};
 
@@ -37,21 +37,21 @@ pub(crate) fn scan_ahead<M: Memory, L: Ledger>(
     limit: u64,
     steps: &mut Steps<L>,
 ) -> Result<(), SwapFault>
-    requires standing { IsStanding (view ground.old) scan.old registers.old }
+    requires represented { RepresentsMachineState (view ground.old) scan.old registers.old }
 
     // what the machine represents
-    ensures ahead { OnOk result ((k : RoleMap) (s : State) → RepresentsAll (view ground.old) scan.old registers.old k s
+    ensures step { OnOk result ((k : RoleMap) (s : State) → RepresentsAll (view ground.old) scan.old registers.old k s
         → HasScannedAhead (view ground.old) (view ground.new) scan.new registers.new k s limit) }
     ensures fault { OnErr result ((k : RoleMap) (s : State) → RepresentsAll (view ground.old) scan.old registers.old k s
         → HasScannedAhead (view ground.old) (view ground.new) scan.new registers.new k s 0) }
 
     // what is scanned
     ensures scans { OnOk result (ground.old.table.aim ≢ None → ScansUpTo (view ground.old) scan.old registers.old (view ground.new) scan.new registers.new limit) }
-    ensures amount { OnOk result (Amount scan.old scan.new limit) }
-    ensures on { ScansOn (view ground.old) scan.old registers.old (view ground.new) scan.new registers.new }
+    ensures count { OnOk result (Amount scan.old scan.new limit) }
+    ensures goes_on { ScansOn (view ground.old) scan.old registers.old (view ground.new) scan.new registers.new }
 
     // what is unchanged
-    ensures begun { OnOk result (scan.new.begun ≡ scan.old.begun) }
+    ensures unchanged { OnOk result (scan.new.begun ≡ scan.old.begun) }
     ensures idle { ground.old.table.aim ≡ None → (ground.new ≡ ground.old) × (scan.new ≡ scan.old) × (registers.new ≡ registers.old) × (steps.new ≡ steps.old) }
     ensures registers { RegistersPreserved ground.new.table registers.old registers.new }
     ensures regions { ground.new.table.regions ≡ ground.old.table.regions }
@@ -60,8 +60,8 @@ pub(crate) fn scan_ahead<M: Memory, L: Ledger>(
     // costs and swap errors
     ensures grows { ground.old.table.placed ≤ ground.new.table.placed }
     ensures placed { CountsPlaced ground.old.table ground.new.table }
-    ensures few { OnOk result (ground.new.table.placed ≤ ground.old.table.placed + 2048 * (scan.new.done - scan.old.done)) }
-    ensures tells { Tells (view ground.old).mem (view ground.new).mem steps.old steps.new result }
+    ensures at_most { OnOk result (ground.new.table.placed ≤ ground.old.table.placed + 2048 * (scan.new.done - scan.old.done)) }
+    ensures accounted { AccountsForFaults (view ground.old).mem (view ground.new).mem steps.old steps.new result }
     ensures cost { OnOk result (steps.new ≤ steps.old + 4 * (ground.new.table.placed - ground.old.table.placed) + 48 * (scan.new.done - scan.old.done)) }
 {
     if ground.table.condemned().is_none() {
@@ -84,7 +84,7 @@ pub fn scavenge<M: Memory, L: Ledger>(
     count: u32,
     steps: &mut Steps<L>,
 ) -> Reply
-    requires standing { IsStanding (view ground.old) scan.old registers.old }
+    requires represented { RepresentsMachineState (view ground.old) scan.old registers.old }
 
     // what the machine represents
     ensures step { (k : RoleMap) (s : State) → RepresentsAll (view ground.old) scan.old registers.old k s
@@ -92,21 +92,21 @@ pub fn scavenge<M: Memory, L: Ledger>(
 
     // what is scanned
     ensures scans { result ≢ Reply.Fault → ground.old.table.aim ≢ None → ScansUpTo (view ground.old) scan.old registers.old (view ground.new) scan.new registers.new count }
-    ensures amount { result ≢ Reply.Fault → Amount scan.old scan.new count }
-    ensures on { ScansOn (view ground.old) scan.old registers.old (view ground.new) scan.new registers.new }
-    ensures more { result ≡ Reply.More → scan.new.over ≡ false }
+    ensures count { result ≢ Reply.Fault → Amount scan.old scan.new count }
+    ensures goes_on { ScansOn (view ground.old) scan.old registers.old (view ground.new) scan.new registers.new }
+    ensures going { result ≡ Reply.More → scan.new.over ≡ false }
     ensures done { result ≡ Reply.Done → scan.new.over ≡ true }
 
     // what is unchanged
-    ensures begun { result ≢ Reply.Fault → scan.new.begun ≡ scan.old.begun }
+    ensures unchanged { result ≢ Reply.Fault → scan.new.begun ≡ scan.old.begun }
     ensures registers { RegistersPreserved ground.new.table registers.old registers.new }
     ensures table { OnlyGrows ground.old.table ground.new.table }
 
     // costs and swap errors
     ensures grows { ground.old.table.placed ≤ ground.new.table.placed }
     ensures placed { CountsPlaced ground.old.table ground.new.table }
-    ensures few { result ≢ Reply.Fault → ground.new.table.placed ≤ ground.old.table.placed + 2048 * (scan.new.done - scan.old.done) }
-    ensures tells { TellsIf (view ground.old).mem (view ground.new).mem steps.old steps.new (is_fault result) }
+    ensures at_most { result ≢ Reply.Fault → ground.new.table.placed ≤ ground.old.table.placed + 2048 * (scan.new.done - scan.old.done) }
+    ensures accounted { AccountsForFaultsIf (view ground.old).mem (view ground.new).mem steps.old steps.new (is_fault result) }
     ensures cost { result ≢ Reply.Fault → steps.new ≤ steps.old + 4 * (ground.new.table.placed - ground.old.table.placed) + 48 * (scan.new.done - scan.old.done) }
 {
     if ground.table.condemned().is_none() {

@@ -24,7 +24,7 @@ use store_word::{Levels, Space};
 // there are none.
 fn full_levels(table: &RegionTable, space: &Space) -> Option<Levels>
     requires levels { space.now.levels < levels_of table.now }
-    requires few { space.now.levels ≤ 6 }
+    requires at_most { space.now.levels ≤ 6 }
     ensures { result ≡ full_levels_on table.now space.now }
 {
     let mut bits = 0u8;
@@ -62,19 +62,19 @@ fn has_capacity(space: &Space) -> bool
 // Reclaims, if the scan of a collection has finished.
 #[inline(never)]
 fn reclaim_alone<M: Memory>(ground: &mut Ground<M>, scan: &ScanSet, space: &Space)
-    requires standing { StandsIn (view ground.old) scan.now space.now }
+    requires represented { StandsIn (view ground.old) scan.now space.now }
     ensures reclaims { (registers : List Parts) (k : RoleMap) (s : State) → RepresentsAll (view ground.old) scan.now registers k s
         → (map : RoleMap) × (mid : State) × RepresentsAll (view ground.new) scan.now registers map mid × SilentReclaim s s.phase mid × (mid.space ≡ s.space) }
-    ensures frees { FreesAtMost (view ground.old) (view ground.new) }
-    ensures still { (scan.now.over && is_some ground.old.table.aim) ≡ false → ground.new ≡ ground.old }
-    ensures empties { (scan.now.over && is_some ground.old.table.aim) ≡ true → M.resident ground.new.mem ≡ outside_old ground.old.table (M.resident ground.old.mem) }
+    ensures at_most { FreesAtMost (view ground.old) (view ground.new) }
+    ensures unchanged { (scan.now.over && is_some ground.old.table.aim) ≡ false → ground.new ≡ ground.old }
+    ensures resident { (scan.now.over && is_some ground.old.table.aim) ≡ true → M.resident ground.new.mem ≡ outside_old ground.old.table (M.resident ground.old.mem) }
     ensures idle { scan.now.over ≡ true → ground.new.table.aim ≡ None }
     ensures going { scan.now.over ≡ false → ground.new.table.aim ≡ ground.old.table.aim }
-    ensures totals { (level : ℕ) → level < levels_of ground.old.table → level_total ground.new.table level ≡ level_total ground.old.table level }
+    ensures count { (level : ℕ) → level < levels_of ground.old.table → level_total ground.new.table level ≡ level_total ground.old.table level }
     ensures levels { levels_of ground.new.table ≡ levels_of ground.old.table }
     ensures regions { ground.new.table.regions ≡ ground.old.table.regions }
     ensures placed { ground.new.table.placed ≡ ground.old.table.placed }
-    ensures faults { M.faults ground.new.mem ≡ M.faults ground.old.mem }
+    ensures no_fault { M.faults ground.new.mem ≡ M.faults ground.old.mem }
     ensures taken { M.taken ground.new.mem ≡ M.taken ground.old.mem }
 {
     if scan.is_over() && ground.table.condemned().is_some() {
@@ -85,19 +85,19 @@ fn reclaim_alone<M: Memory>(ground: &mut Ground<M>, scan: &ScanSet, space: &Spac
 // Flips the full levels, if no collection runs and there are any.
 #[inline(never)]
 fn flip_alone<M: Memory>(ground: &mut Ground<M>, scan: &mut ScanSet, space: &Space)
-    requires standing { StandsIn (view ground.old) scan.old space.now }
+    requires represented { StandsIn (view ground.old) scan.old space.now }
     ensures flips { (registers : List Parts) (k : RoleMap) (s : State) → RepresentsAll (view ground.old) scan.old registers k s
         → s.space ≡ space.now → length registers ≡ space.now.registers
         → (new : State) × RepresentsAll (view ground.new) scan.new registers k new × SilentFlip s new }
     ensures memory { ground.new.mem ≡ ground.old.mem }
     ensures used { (region : ℕ) → used_of ground.new.table region ≡ used_of ground.old.table region }
     ensures free { (region : ℕ) → IsUnclassed ground.old.table region → IsUnclassed ground.new.table region }
-    ensures still { flips_idle ground.old.table space.now ≡ false → (ground.new ≡ ground.old) × (scan.new ≡ scan.old) }
-    ensures anew { flips_idle ground.old.table space.now ≡ true → (ground.new.table.placed ≡ 0) × (scan.new.done ≡ 0) }
+    ensures unchanged { flips_idle ground.old.table space.now ≡ false → (ground.new ≡ ground.old) × (scan.new ≡ scan.old) }
+    ensures done { flips_idle ground.old.table space.now ≡ true → (ground.new.table.placed ≡ 0) × (scan.new.done ≡ 0) }
     ensures begins { flips_idle ground.old.table space.now ≡ true → IfSome (full_levels_on ground.old.table space.now)
         (λ levels. Begins (view ground.new) (Condemn.Chosen levels) scan.old scan.new) }
     ensures regions { ground.new.table.regions ≡ ground.old.table.regions }
-    ensures faults { M.faults ground.new.mem ≡ M.faults ground.old.mem }
+    ensures no_fault { M.faults ground.new.mem ≡ M.faults ground.old.mem }
     ensures taken { M.taken ground.new.mem ≡ M.taken ground.old.mem }
 {
     if ground.table.condemned().is_some() {
@@ -115,23 +115,23 @@ fn flip_alone<M: Memory>(ground: &mut Ground<M>, scan: &mut ScanSet, space: &Spa
 /// reclaim, if the scan of a collection has finished, and then a flip of the full levels, if no
 /// collection runs and there are any. It takes no memory access, and meets no swap error.
 #[inline(always)]
-pub fn prepare<M: Memory>(ground: &mut Ground<M>, scan: &mut ScanSet, space: &Space)
-    requires standing { StandsIn (view ground.old) scan.old space.now }
-    ensures silent { (registers : List Parts) (k : RoleMap) (s : State) → RepresentsAll (view ground.old) scan.old registers k s
+pub fn take_silent_steps<M: Memory>(ground: &mut Ground<M>, scan: &mut ScanSet, space: &Space)
+    requires represented { StandsIn (view ground.old) scan.old space.now }
+    ensures step { (registers : List Parts) (k : RoleMap) (s : State) → RepresentsAll (view ground.old) scan.old registers k s
         → s.space ≡ space.now → length registers ≡ space.now.registers
         → PreparesTo (view ground.new) scan.new registers s }
-    ensures frees { FreesAtMost (view ground.old) (view ground.new) }
-    ensures quiet { collects_alone space.now ≡ false → (ground.new ≡ ground.old) × (scan.new ≡ scan.old) }
+    ensures at_most { FreesAtMost (view ground.old) (view ground.new) }
+    ensures idle { collects_alone space.now ≡ false → (ground.new ≡ ground.old) × (scan.new ≡ scan.old) }
     ensures memory { reclaims_alone ground.old.table scan.old space.now ≡ false → ground.new.mem ≡ ground.old.mem }
     ensures resident { M.resident ground.new.mem ≡ resident_from ground.old.table scan.old space.now (M.resident ground.old.mem) }
-    ensures rests { reclaims_alone ground.old.table scan.old space.now ≡ false → flips_alone ground.old.table scan.old space.now ≡ false → ground.new ≡ ground.old }
+    ensures end { reclaims_alone ground.old.table scan.old space.now ≡ false → flips_alone ground.old.table scan.old space.now ≡ false → ground.new ≡ ground.old }
     ensures done { scan.new.done ≡ done_from ground.old.table scan.old space.now }
     ensures placed { ground.new.table.placed ≡ placed_from ground.old.table scan.old space.now }
-    ensures still { flips_alone ground.old.table scan.old space.now ≡ false → scan.new ≡ scan.old }
+    ensures unchanged { flips_alone ground.old.table scan.old space.now ≡ false → scan.new ≡ scan.old }
     ensures begins { flips_alone ground.old.table scan.old space.now ≡ true → IfSome (full_levels_on ground.old.table space.now)
         (λ levels. Begins (view ground.new) (Condemn.Chosen levels) scan.old scan.new) }
     ensures regions { ground.new.table.regions ≡ ground.old.table.regions }
-    ensures faults { M.faults ground.new.mem ≡ M.faults ground.old.mem }
+    ensures no_fault { M.faults ground.new.mem ≡ M.faults ground.old.mem }
     ensures taken { M.taken ground.new.mem ≡ M.taken ground.old.mem }
 {
     if has_capacity(space) {

@@ -15,7 +15,7 @@ use Rattle.block_store.specs.lisp_meaning.Flip.{graph_of}
 use Rattle.block_store.specs.lisp_meaning.Roles.{RoleMap}
 use Rattle.block_store.specs.lisp_meaning.Sound.{Reach}
 use Rattle.block_store.specs.transporter.Marking.{MarksFollow}
-use Rattle.block_store.specs.transporter.Preserving.{AllFresh, PreservesScanned}
+use Rattle.block_store.specs.transporter.Preserving.{NoOldAddresses, PreservesScanned}
 use Rattle.heap_state.specs.Represents.{Represents}
 use Rattle.heap_state.specs.RepresentsLater.{RepresentsSame}
 use Rattle.heap_state.specs.Reads.{reads}
@@ -67,7 +67,7 @@ module _ (m m1 : Store) (t t1 : Table) (registers : List Parts) (from : ℕ) (fr
   kept_represented kept preserves k s b reach =
       later_represented m m1 t t1 registers k s preserves.grows b (kept k s.space.levels s.areas s.registers s.store (aim_of s.phase) (get_or s.registers from V.Nil) (can_read m t registers from from_in of read k s b reach))
 
-  pub kept_leaves : KeepsCons m t m1 t1 of.content → PreservesScanned m t m1 t1 → (AllFresh m t → AllFresh m1 t1) → MarksFollow m t m1 t1 → Leaves m t registers m1 t1 registers
+  pub kept_leaves : KeepsCons m t m1 t1 of.content → PreservesScanned m t m1 t1 → (NoOldAddresses m t → NoOldAddresses m1 t1) → MarksFollow m t m1 t1 → Leaves m t registers m1 t1 registers
   kept_leaves kept preserves stays_fresh marks = record {
     represented = kept_represented kept preserves;
     preserves = preserves;

@@ -14,11 +14,11 @@ use Rattle.block_store.specs.lisp_meaning.State.{State, aim_of}
 use Rattle.block_store.specs.lisp_meaning.Flip.{graph_of}
 use Rattle.block_store.specs.lisp_meaning.Roles.{RoleMap}
 use Rattle.block_store.specs.lisp_meaning.Sound.{Reach}
-use Rattle.block_store.specs.transporter.Settling.{HasOld}
+use Rattle.block_store.specs.transporter.Settling.{RefersToOld}
 use Rattle.block_store.specs.transporter.Preserving.{RegistersPreserved}
 use Rattle.block_store.proofs.transporter.Marked.{marks-same}
 use Rattle.block_store.proofs.transporter.Preserved.{fresh-value, preserves-same}
-use Rattle.heap_state.specs.Consistent.{IsConsistent}
+use Rattle.heap_state.specs.Consistent.{RepresentsState}
 use Rattle.heap_state.specs.Represents.{Represents}
 use Rattle.heap_state.specs.RepresentsLater.{RepresentsLater}
 use Rattle.heap_state.specs.Performs.{AnswersOn, FaultsOn, Performs}
@@ -41,7 +41,7 @@ not_fault true e = cc
 not_fault false e = cc
 
 module _ (m m' : Store) (t : Table) (registers : List Parts) (left right : ℕ) (left_in : left < length registers) (right_in : right < length registers) (first second : Parts) (first_is : first ≡ get_or registers left first) (second_is : second ≡ get_or registers right second) where
-  pub comparable : IsConsistent m t registers → CanCompare m.words first.content second.content
+  pub comparable : RepresentsState m t registers → CanCompare m.words first.content second.content
   comparable x =
       can_compare m t x.map x.state.space.levels x.state.areas x.state.store (aim_of x.state.phase) x.represents.kept first.content second.content (get_or x.state.registers left V.Nil) (get_or x.state.registers right V.Nil)
       (value_there m t registers left left_in first first_is x.map x.state x.represents) (value_there m t registers right right_in second second_is x.map x.state x.represents)
@@ -78,7 +78,7 @@ module _ (m m' : Store) (t : Table) (registers : List Parts) (left right : ℕ) 
 
 -- A register's value is copied to another
 
-pub moved_performs : (m : Store) (t : Table) (registers : List Parts) (to from : ℕ) (word : Parts) → IsConsistent m t registers → to < length registers → from < length registers → get_or registers from null_word ≡ word → (HasOld t word → ⊥)
+pub moved_performs : (m : Store) (t : Table) (registers : List Parts) (to from : ℕ) (word : Parts) → RepresentsState m t registers → to < length registers → from < length registers → get_or registers from null_word ≡ word → (RefersToOld t word → ⊥)
     → Performs m t registers m t (slice_set registers to word) (C.Move to from) R.Fine
 moved_performs m t registers to from word consistent to_in from_in read young = record {
   performed = performed;
@@ -90,7 +90,7 @@ moved_performs m t registers to from word consistent to_in from_in read young = 
 }
   where
     settled : IsSettled t registers from
-    settled old = young (subst (HasOld t) read old)
+    settled old = young (subst (RefersToOld t) read old)
 
     word_is : word ≡ get_or registers from word
     word_is = sym read ∙ get_or_default registers from null_word word from_in

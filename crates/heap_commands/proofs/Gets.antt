@@ -15,12 +15,12 @@ use Rattle.block_store.specs.lisp_meaning.State.{State, aim_of}
 use Rattle.block_store.specs.lisp_meaning.Flip.{graph_of}
 use Rattle.block_store.specs.lisp_meaning.Roles.{RoleMap}
 use Rattle.block_store.specs.lisp_meaning.Sound.{Reach}
-use Rattle.block_store.specs.transporter.Settling.{HasOld}
+use Rattle.block_store.specs.transporter.Settling.{RefersToOld}
 use Rattle.block_store.specs.transporter.Marking.{MarksFollow}
-use Rattle.block_store.specs.transporter.Preserving.{AllFresh, PreservesScanned}
+use Rattle.block_store.specs.transporter.Preserving.{NoOldAddresses, PreservesScanned}
 use Rattle.block_store.specs.Headers.{TellsLength}
 use Rattle.block_store.specs.Fields.{CanRead, IsReadable, KeepsBlock, ReadsField}
-use Rattle.heap_state.specs.Consistent.{IsConsistent}
+use Rattle.heap_state.specs.Consistent.{RepresentsState}
 use Rattle.heap_state.specs.Represents.{Represents}
 use Rattle.heap_state.specs.Performs.{Performs}
 use Rattle.heap_state.specs.Reads.{reads}
@@ -44,7 +44,7 @@ module _ (m : Store) (t : Table) (registers : List Parts) (from : ℕ) (of : Par
   }
 
   -- the word in a settled register can be read through
-  pub field_readable : IsConsistent m t registers → IsSettled t registers from → IsReadable m t of
+  pub field_readable : RepresentsState m t registers → IsSettled t registers from → IsReadable m t of
   field_readable x settled = record {
     map = x.map;
     top = x.state.space.levels;
@@ -54,7 +54,7 @@ module _ (m : Store) (t : Table) (registers : List Parts) (from : ℕ) (of : Par
     aim = aim_of x.state.phase;
     value = value_at x.state.registers from;
     can = can_here x.map x.state x.represents x.reach;
-    fresh = subst (λ (w : Parts). HasOld t w → ⊥) (sym (get_or_read registers from of from_in is null_word)) settled;
+    fresh = subst (λ (w : Parts). RefersToOld t w → ⊥) (sym (get_or_read registers from of from_in is null_word)) settled;
   }
 
   module _ (m' : Store) (t' : Table) (to index : ℕ) where
@@ -78,7 +78,7 @@ module _ (m : Store) (t : Table) (registers : List Parts) (from : ℕ) (of : Par
 
     -- Refusals
 
-    module _ (keeps : KeepsBlock m t m' t' of.content) (preserves : PreservesScanned m t m' t') (stays_fresh : AllFresh m t → AllFresh m' t') (marks : MarksFollow m t m' t') where
+    module _ (keeps : KeepsBlock m t m' t' of.content) (preserves : PreservesScanned m t m' t') (stays_fresh : NoOldAddresses m t → NoOldAddresses m' t') (marks : MarksFollow m t m' t') where
       left : Leaves m t registers m' t' registers
       left = record {
         represented = λ k s b reach. later_represented m m' t t' registers k s preserves.grows b (keeps k s.space.levels s.areas s.registers s.store (aim_of s.phase) (value_at s.registers from) (can_here k s b reach));

@@ -36,10 +36,10 @@ use Rattle.block_store.proofs.lisp_ground.Finals.{final_is_place, final_place, n
 use Rattle.block_store.proofs.lisp_ground.Standings.{live_standing}
 use Rattle.block_store.specs.obj_layout.Forwards as F
 use Rattle.block_store.specs.obj_layout.Forwards.{word_at, forward_of, Final}
-use Rattle.block_store.specs.transporter.Settling.{HasOld, reference_of}
+use Rattle.block_store.specs.transporter.Settling.{RefersToOld, reference_of}
 use Rattle.block_store.specs.transporter.Marking.{IsForward, IsPlaced, MarksFollow, placed, forwarded}
-use Rattle.block_store.specs.transporter.Preserving.{AllFresh, PreservesScanned}
-use Rattle.block_store.specs.transporter.Transports.{StaysOn}
+use Rattle.block_store.specs.transporter.Preserving.{NoOldAddresses, PreservesScanned}
+use Rattle.block_store.specs.transporter.Transports.{WordsUnchanged}
 use Rattle.block_store.specs.Headers.{TellsArea, TellsLength}
 use Rattle.block_store.specs.Growing.{CanGrow, GrowsBlock, GrowsWithin, IsHusk, LaidOn, PlacesGrown}
 use Rattle.block_store.specs.Marks.{MarksGrown}
@@ -186,8 +186,8 @@ struct_at (GcForward a) struct = absurd (struct (λ e. cc))
 struct_at (Fixnum i) struct = absurd (struct (λ e. cc))
 
 module _ (m : Store) (t : Table) (registers : List Parts) (r wanted : ℕ) (word : Parts) (is : word ≡ get_or registers r word) (low : r < length registers) (settled : IsSettled t registers r) where
-  young : HasOld t word → ⊥
-  young = subst (λ (w : Parts). HasOld t w → ⊥) (sym (get_or_read registers r word low is null_word)) settled
+  young : RefersToOld t word → ⊥
+  young = subst (λ (w : Parts). RefersToOld t w → ⊥) (sym (get_or_read registers r word low is null_word)) settled
 
   module _ (x : CanGrowIn m t registers r wanted) where
     same_name : (n : ℕ) → value_at x.state.registers r ≡ V.Ref n → n ≡ x.growing.block.name
@@ -237,7 +237,7 @@ module _ (m : Store) (t : Table) (registers : List Parts) (r wanted : ℕ) (word
         let both : true ≡ false = sym found ∙ other in
         cc
 
-  module _ (m' : Store) (t' : Table) (at : ℕ) (struct : tag_of word.content ≢ StructTag → ⊥) (grows : GrowsBlock m t m' t' word.content wanted at) (within : GrowsWithin m t word.content wanted) (preserves : PreservesScanned m t m' t') (stays_fresh : AllFresh m t → AllFresh m' t') (marks : MarksFollow m t m' t') where
+  module _ (m' : Store) (t' : Table) (at : ℕ) (struct : tag_of word.content ≢ StructTag → ⊥) (grows : GrowsBlock m t m' t' word.content wanted at) (within : GrowsWithin m t word.content wanted) (preserves : PreservesScanned m t m' t') (stays_fresh : NoOldAddresses m t → NoOldAddresses m' t') (marks : MarksFollow m t m' t') where
     module _ (k : RoleMap) (s : State) (b : Represents m t registers k s) where
       refers : value_of k.role word.content ≡ Some (value_at s.registers r)
       refers = register_means m t k s registers b r word is low
@@ -415,7 +415,7 @@ module _ (m : Store) (t : Table) (registers : List Parts) (r wanted : ℕ) (word
 
 -- It failed
 
-pub grow_faulted : (m m' : Store) (t t' : Table) (registers : List Parts) (r wanted : ℕ) → PreservesScanned m t m' t' → (AllFresh m t → AllFresh m' t') → MarksFollow m t m' t' → StaysOn m t m' t' → Performs m t registers m' t' registers (C.Grow r wanted) R.Fault
+pub grow_faulted : (m m' : Store) (t t' : Table) (registers : List Parts) (r wanted : ℕ) → PreservesScanned m t m' t' → (NoOldAddresses m t → NoOldAddresses m' t') → MarksFollow m t m' t' → WordsUnchanged m t m' t' → Performs m t registers m' t' registers (C.Grow r wanted) R.Fault
 grow_faulted m m' t t' registers r wanted preserves stays_fresh marks stays = performs_fault m m' t t' registers registers (C.Grow r wanted) refl (record {
   represented = stays_represented m m' t t' registers preserves.grows stays;
   preserves = preserves;

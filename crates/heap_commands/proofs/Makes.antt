@@ -17,10 +17,10 @@ use Rattle.block_store.specs.lisp_meaning.Flip.{graph_of}
 use Rattle.block_store.specs.lisp_meaning.Roles.{RoleMap, as_ref, value_of}
 use Rattle.block_store.specs.transporter.Making.{PlacesNew}
 use Rattle.block_store.specs.transporter.Marking.{MarksFollow}
-use Rattle.block_store.specs.transporter.Preserving.{AllFresh, PreservesScanned}
-use Rattle.block_store.specs.transporter.Transports.{StaysOn}
+use Rattle.block_store.specs.transporter.Preserving.{NoOldAddresses, PreservesScanned}
+use Rattle.block_store.specs.transporter.Transports.{WordsUnchanged}
 use Rattle.block_store.specs.Making.{CanMake, MakesBlock}
-use Rattle.heap_state.specs.Consistent.{IsConsistent}
+use Rattle.heap_state.specs.Consistent.{RepresentsState}
 use Rattle.heap_state.specs.Represents.{Represents}
 use Rattle.heap_state.specs.RepresentsLater.{RepresentsLater}
 use Rattle.heap_state.specs.Performs.{AnswersOn, PerformsAt}
@@ -29,7 +29,7 @@ use Rattle.heap_state.proofs.OneSettled.{registers_same, stays_represented}
 use Rattle.heap_state.proofs.Playing.{performs_fault, set_others}
 
 -- a block can be made
-pub can_make : (m : Store) (t : Table) (registers : List Parts) (area level count : ℕ) → IsConsistent m t registers → area < areas_of t → level < levels_of t → account_of t area + (count + 1) ≤ quota_of t area → CanMake m t area level count
+pub can_make : (m : Store) (t : Table) (registers : List Parts) (area level count : ℕ) → RepresentsState m t registers → area < areas_of t → level < levels_of t → account_of t area + (count + 1) ≤ quota_of t area → CanMake m t area level count
 can_make m t registers area level count x area_in level_in fits = record {
   map = x.map;
   top = x.state.space.levels;
@@ -40,9 +40,9 @@ can_make m t registers area level count x area_in level_in fits = record {
   quota = quota_left m t registers x.map x.state area level (suc count) x.represents area_in level_in (omega arith);
 }
 
-module _ (m m' : Store) (t t' : Table) (registers : List Parts) (to area level code count : ℕ) (preserves : PreservesScanned m t m' t') (stays_fresh : AllFresh m t → AllFresh m' t') (marks : MarksFollow m t m' t') where
+module _ (m m' : Store) (t t' : Table) (registers : List Parts) (to area level code count : ℕ) (preserves : PreservesScanned m t m' t') (stays_fresh : NoOldAddresses m t → NoOldAddresses m' t') (marks : MarksFollow m t m' t') where
   -- a command that met a swap error makes nothing
-  pub make_faulted : StaysOn m t m' t' → PerformsAt m t registers m' t' registers (C.Make to area code count) R.Fault area level
+  pub make_faulted : WordsUnchanged m t m' t' → PerformsAt m t registers m' t' registers (C.Make to area code count) R.Fault area level
   make_faulted stays = performs_at m m' t t' registers registers (C.Make to area code count) R.Fault area level (performs_fault m m' t t' registers registers (C.Make to area code count) refl (record {
     represented = stays_represented m m' t t' registers preserves.grows stays;
     preserves = preserves;

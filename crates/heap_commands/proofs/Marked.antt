@@ -26,7 +26,7 @@ use Rattle.block_store.specs.Fields.{MarksField, WritesField}
 use Rattle.block_store.specs.Headers.{TellsLength}
 use Rattle.cdr_lists.specs.Parts.{MarksCar, MarksCdr, WritesCar, WritesCdr}
 use Rattle.cdr_lists.specs.Reading.{IsConsPlace}
-use Rattle.heap_state.specs.Consistent.{IsConsistent}
+use Rattle.heap_state.specs.Consistent.{RepresentsState}
 use Rattle.heap_state.specs.Marks.{MarksByStoring}
 use Rattle.heap_commands.proofs.Readable.{list_tagged, value_there}
 
@@ -72,7 +72,7 @@ stored_marks {m} {m'} {t} {t'} r at w inside stores but = record { at = at; but 
         }
 
 -- The word of a register refers to the object that is stored into
-module _ (m m' : Store) (t t' : Table) (registers : List Parts) (target : ℕ) (low : target < length registers) (of : Parts) (read : of ≡ get_or registers target of) (x : IsConsistent m t registers) where
+module _ (m m' : Store) (t t' : Table) (registers : List Parts) (target : ℕ) (low : target < length registers) (of : Parts) (read : of ≡ get_or registers target of) (x : RepresentsState m t registers) where
   module _ (list : tag_of of.content ≢ ListTag → ⊥) where
     pub refers : Refers m.words x.map x.state.store AsCons (list_tagged of.content list).0 (get_or x.state.registers target V.Nil)
     refers =

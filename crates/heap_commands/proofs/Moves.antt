@@ -11,8 +11,8 @@ use Rattle.block_store.specs.transporter.Moving.{MovesAtMost}
 use Rattle.block_store.proofs.transporter.Moving.{moves-more, moves-then, read-writes, writes-moves}
 use Rattle.cdr_lists.specs.Parts.{RelaysCdr}
 use Rattle.cdr_lists.specs.Reading.{IsConsPlace}
-use Rattle.block_store.specs.transporter.Settling.{HasOld}
-use Rattle.heap_state.specs.Consistent.{IsConsistent}
+use Rattle.block_store.specs.transporter.Settling.{RefersToOld}
+use Rattle.heap_state.specs.Consistent.{RepresentsState}
 use Rattle.heap_state.specs.Settled.{IsSettled}
 use Rattle.heap_commands.specs.Moves.{MovesOrLays}
 use Rattle.heap_commands.proofs.Marked.{cons_at, normal_cases, place}
@@ -26,11 +26,11 @@ pub moves_read : {m m1 m2 : Store} {t t1 t2 : Table} {n : ℕ} → MovesAtMost m
 moves_read {m} {m1} {m2} {t} {t1} {t2} {n} x stays same = subst (λ (u : Table). MovesAtMost m t m2 u n) (sym same) (moves_still x (writes-moves (read-writes t1 stays)))
 
 -- the word of a settled register has no old address
-pub settled_word : (t : Table) (registers : List Parts) (target : ℕ) (of : Parts) → target < length registers → of ≡ get_or registers target of → IsSettled t registers target → HasOld t of → ⊥
-settled_word t registers target of target_in read settled = subst (λ (w : Parts). HasOld t w → ⊥) (sym (get_or_read registers target of target_in read null_word)) settled
+pub settled_word : (t : Table) (registers : List Parts) (target : ℕ) (of : Parts) → target < length registers → of ≡ get_or registers target of → IsSettled t registers target → RefersToOld t of → ⊥
+settled_word t registers target of target_in read settled = subst (λ (w : Parts). RefersToOld t w → ⊥) (sym (get_or_read registers target of target_in read null_word)) settled
 
 -- a cdr was written
-module _ (m m1 m2 : Store) (t t1 t2 : Table) (registers : List Parts) (target from : ℕ) (target_in : target < length registers) (from_in : from < length registers) (of cdr : Parts) (read : of ≡ get_or registers target of) (cdr_read : cdr ≡ get_or registers from cdr) (x : IsConsistent m1 t1 registers) (list : tag_of of.content ≢ ListTag → ⊥) where
+module _ (m m1 m2 : Store) (t t1 t2 : Table) (registers : List Parts) (target from : ℕ) (target_in : target < length registers) (from_in : from < length registers) (of cdr : Parts) (read : of ≡ get_or registers target of) (cdr_read : cdr ≡ get_or registers from cdr) (x : RepresentsState m1 t1 registers) (list : tag_of of.content ≢ ListTag → ⊥) where
   there : MovesAtMost m t m1 t1 2 → ((at : ℕ) → IsConsPlace m1.words of.content at → (word_at m1.words at).cdr ≡ Normal → MovesAtMost m1 t1 m2 t2 0) → RelaysCdr m1 t1 m2 t2 of.content cdr → MovesOrLays m t m2 t2 of cdr
   there before stored relaid =
       let at = cons_at m1 m2 t1 t2 registers target target_in of read x list in

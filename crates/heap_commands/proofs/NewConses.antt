@@ -26,15 +26,15 @@ use Rattle.block_store.specs.lisp_meaning.Roles.{AsCons, RoleMap, as_ref, value_
 use Rattle.block_store.specs.lisp_meaning.Step.{allocated}
 use Rattle.block_store.specs.transporter.Making.{HasQuota, MadeOn, PlacesNew}
 use Rattle.block_store.specs.transporter.Marking.{MarksFollow}
-use Rattle.block_store.specs.transporter.Preserving.{AllFresh, FreshOn, RegistersPreserved, PreservesScanned}
-use Rattle.block_store.specs.transporter.Transports.{StaysOn}
-use Rattle.heap_state.specs.Consistent.{IsConsistent}
+use Rattle.block_store.specs.transporter.Preserving.{NoOldAddresses, FreshOn, RegistersPreserved, PreservesScanned}
+use Rattle.block_store.specs.transporter.Transports.{WordsUnchanged}
+use Rattle.heap_state.specs.Consistent.{RepresentsState}
 use Rattle.heap_state.specs.Marks.{MarksOf}
 use Rattle.heap_state.specs.Represents.{Represents}
 use Rattle.heap_state.specs.RepresentsLater.{RepresentsLater}
 use Rattle.heap_state.specs.Performs.{PerformsAt, PerformsOn}
 use Rattle.heap_state.specs.Reads.{reads}
-use Rattle.heap_state.specs.Settled.{IsSettled, RegistersFresh}
+use Rattle.heap_state.specs.Settled.{IsSettled, NoOldAddressesInRegisters}
 use Rattle.heap_state.proofs.Allocating.{allocation_answers, fits_quota, list_fresh, made_represented, placed_more, quota_left}
 use Rattle.heap_state.proofs.OneSettled.{registers_same, settled_on, stays_represented}
 use Rattle.heap_state.proofs.Playing.{Leaves, set_others}
@@ -43,12 +43,12 @@ use Rattle.cdr_lists.specs.Pairs.{CanPair, PairedOn}
 use Rattle.heap_commands.proofs.Readable.{either, only_two, value_there}
 
 -- after a swap error the same states are represented
-pub stays_leaves_at : (m m' : Store) (t t' : Table) (registers : List Parts) → StaysOn m t m' t' → PreservesScanned m t m' t' → (RegistersFresh t registers → AllFresh m t → AllFresh m' t') → MarksFollow m t m' t' → Leaves m t registers m' t' registers
+pub stays_leaves_at : (m m' : Store) (t t' : Table) (registers : List Parts) → WordsUnchanged m t m' t' → PreservesScanned m t m' t' → (NoOldAddressesInRegisters t registers → NoOldAddresses m t → NoOldAddresses m' t') → MarksFollow m t m' t' → Leaves m t registers m' t' registers
 stays_leaves_at m m' t t' registers stays preserves stays_fresh marks = record { represented = stays_represented m m' t t' registers preserves.grows stays; preserves = preserves; others = registers_same t' registers; stays_fresh = stays_fresh; marks = marks }
 
 -- objects were made in a class, and a register refers to the first of them
 module _ (m m' : Store) (t t' : Table) (registers : List Parts) (c : Command) (to area level at words charge : ℕ) (word : Parts) (to_in : to < length registers) (word_is : word.content ≡ ListAt at) (preserves : PreservesScanned m t m' t') (placed : PlacesNew t t' area level at words charge) (few : words ≤ charge)
-    (stays_fresh : RegistersFresh t registers → AllFresh m t → AllFresh m' t') (marks : MarksOf c R.Fine m t m' t') (settled : (i : ℕ) → IsTrue (reads c i) → (i < length registers) × IsSettled t registers i) where
+    (stays_fresh : NoOldAddressesInRegisters t registers → NoOldAddresses m t → NoOldAddresses m' t') (marks : MarksOf c R.Fine m t m' t') (settled : (i : ℕ) → IsTrue (reads c i) → (i < length registers) × IsSettled t registers i) where
   made_performs : (k : RoleMap) (s : State) (objects : List Object) → Represents m t registers k s → HasQuota s.space.levels s.areas s.store (aim_of s.phase) area level charge → effect (graph_of s) c ≡ Some (made (graph_of s) to area charge objects)
       → MadeOn m t m' t' k s.space.levels s.areas s.store (with_made s.store objects level) (aim_of s.phase) AsCons at
       → allocated s c area (made (graph_of s) to area charge objects).graph ≡ record s { registers = slice_set s.registers to (V.Ref (length s.store.objects)); store = with_made s.store objects level }
@@ -71,7 +71,7 @@ module _ (m m' : Store) (t t' : Table) (registers : List Parts) (c : Command) (t
 
 module _ (m : Store) (t : Table) (registers : List Parts) (area level car cdr : ℕ) (car_in : car < length registers) (cdr_in : cdr < length registers) (first second : Parts) (first_is : first ≡ get_or registers car first) (second_is : second ≡ get_or registers cdr second)
     (area_in : area < areas_of t) (level_in : level < levels_of t) (fits : account_of t area + 2 ≤ quota_of t area) where
-  pub can_pair : IsConsistent m t registers → CanPair m t area level 2 first second
+  pub can_pair : RepresentsState m t registers → CanPair m t area level 2 first second
   can_pair x = record {
     map = x.map;
     top = x.state.space.levels;
@@ -86,10 +86,10 @@ module _ (m : Store) (t : Table) (registers : List Parts) (area level car cdr : 
   }
 
   -- no register has an old address, so neither word has one
-  pub pair_stays_fresh : (m' : Store) (t' : Table) → (FreshOn t first.content → FreshOn t second.content → AllFresh m t → AllFresh m' t') → RegistersFresh t registers → AllFresh m t → AllFresh m' t'
+  pub pair_stays_fresh : (m' : Store) (t' : Table) → (FreshOn t first.content → FreshOn t second.content → NoOldAddresses m t → NoOldAddresses m' t') → NoOldAddressesInRegisters t registers → NoOldAddresses m t → NoOldAddresses m' t'
   pair_stays_fresh m' t' stays_fresh fresh words = stays_fresh (subst (λ (w : Parts). FreshOn t w.content) (sym (get_or_read registers car first car_in first_is null_word)) (fresh car car_in)) (subst (λ (w : Parts). FreshOn t w.content) (sym (get_or_read registers cdr second cdr_in second_is null_word)) (fresh cdr cdr_in)) words
 
-  pub pair_performs : (m' : Store) (t' : Table) (to at : ℕ) (word : Parts) → to < length registers → word.content ≡ ListAt at → PreservesScanned m t m' t' → PlacesNew t t' area level at 2 2 → (FreshOn t first.content → FreshOn t second.content → AllFresh m t → AllFresh m' t') → MarksFollow m t m' t'
+  pub pair_performs : (m' : Store) (t' : Table) (to at : ℕ) (word : Parts) → to < length registers → word.content ≡ ListAt at → PreservesScanned m t m' t' → PlacesNew t t' area level at 2 2 → (FreshOn t first.content → FreshOn t second.content → NoOldAddresses m t → NoOldAddresses m' t') → MarksFollow m t m' t'
       → IsSettled t registers car → IsSettled t registers cdr → PairedOn m t m' t' area level 2 first second at → PerformsAt m t registers m' t' (slice_set registers to word) (C.Cons to area car cdr) R.Fine area level
   pair_performs m' t' to at word to_in word_is preserves placed stays_fresh marks car_settled cdr_settled paired k s b reach level_is =
       let quota = quota_left m t registers k s area level 2 b area_in level_in fits in
@@ -129,7 +129,7 @@ module _ (m : Store) (t : Table) (registers : List Parts) (area level : ℕ) (it
           value_there m t registers (slice_index items i) (item_in i low) (item_word registers items i) (get_or_default registers (slice_index items i) null_word (item_word registers items i) (item_in i low)) k s b
           ∙ ap (λ (v : Value). Some v) (sym (get_or-map (value_at s.registers) items i 0) ∙ get_or_default (map (value_at s.registers) items) i (value_at s.registers 0) V.Nil (omega arith))
 
-  pub can_list : IsConsistent m t registers → CanList m t area level registers items
+  pub can_list : RepresentsState m t registers → CanList m t area level registers items
   can_list x = record {
     map = x.map;
     top = x.state.space.levels;
@@ -145,11 +145,11 @@ module _ (m : Store) (t : Table) (registers : List Parts) (area level : ℕ) (it
     means = means x.map x.state x.represents;
   }
 
-  pub list_stays_fresh : (m' : Store) (t' : Table) → (((i : ℕ) → i < length items → FreshOn t (item_word registers items i).content) → AllFresh m t → AllFresh m' t') → RegistersFresh t registers → AllFresh m t → AllFresh m' t'
+  pub list_stays_fresh : (m' : Store) (t' : Table) → (((i : ℕ) → i < length items → FreshOn t (item_word registers items i).content) → NoOldAddresses m t → NoOldAddresses m' t') → NoOldAddressesInRegisters t registers → NoOldAddresses m t → NoOldAddresses m' t'
   list_stays_fresh m' t' stays_fresh fresh words = stays_fresh (λ i low. fresh (slice_index items i) (item_in i low)) words
 
   pub list_performs : (m' : Store) (t' : Table) (to at : ℕ) (word : Parts) → to < length registers → word.content ≡ ListAt at → PreservesScanned m t m' t' → PlacesNew t t' area level at (length items) (3 * length items)
-      → (((i : ℕ) → i < length items → FreshOn t (item_word registers items i).content) → AllFresh m t → AllFresh m' t') → MarksFollow m t m' t' → All (IsSettled t registers) items → ListedOn m t m' t' area level registers items at
+      → (((i : ℕ) → i < length items → FreshOn t (item_word registers items i).content) → NoOldAddresses m t → NoOldAddresses m' t') → MarksFollow m t m' t' → All (IsSettled t registers) items → ListedOn m t m' t' area level registers items at
       → PerformsAt m t registers m' t' (slice_set registers to word) (C.List to area items) R.Fine area level
   list_performs m' t' to at word to_in word_is preserves placed stays_fresh marks all_settled listed k s b reach level_is =
       let quota = quota_left m t registers k s area level (3 * length items) b area_in level_in fits in

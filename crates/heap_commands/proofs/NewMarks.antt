@@ -15,12 +15,12 @@ use Rattle.block_store.specs.obj_layout.Forwards.{word_at, forward_of}
 use Rattle.block_store.specs.transporter.Growth.{OpensOrStays}
 use Rattle.block_store.specs.transporter.Making.{PlacesNew}
 use Rattle.block_store.specs.transporter.Marking.{IsForward, IsPlaced, MarksFollow, MayMark, TurnsOneWay, placed, forwarded, settled}
-use Rattle.block_store.specs.transporter.Settling.{HasOld, reference_of}
+use Rattle.block_store.specs.transporter.Settling.{RefersToOld, reference_of}
 use Rattle.block_store.proofs.transporter.Extended.{new-extends}
 use Rattle.block_store.proofs.transporter.Marked.{plain-value, within-placed}
 use Rattle.block_store.specs.Making.{CanMake, MakesBlock, block_word}
 use Rattle.cdr_lists.specs.Lists.{CanList, ListedOn, cell_word, item_word}
-use Rattle.cdr_lists.specs.Marks.{MarksByWords}
+use Rattle.transporter.specs.WrittenMarks.{MarksByWords}
 use Rattle.cdr_lists.specs.Pairs.{CanPair, PairedOn, first_word}
 use Rattle.heap_commands.specs.NewMarks.{GivesMarks, MarksMade}
 
@@ -36,8 +36,8 @@ blank_word m t ground a past = elim (cases_lt a (length m.words)) [
 no_forward_past : (m : Store) (t : Table) → IsGround m t → (a : ℕ) → used_of t (a / 4096) ≤ a % 4096 → IsForward (word_at m.words a) → ⊥
 no_forward_past m t ground a past f = let z : false ≡ true = subst IsForward (blank_word m t ground a past) f in cc
 
-no_old_past : (m : Store) (t : Table) → IsGround m t → (a : ℕ) → used_of t (a / 4096) ≤ a % 4096 → HasOld t (word_at m.words a) → ⊥
-no_old_past m t ground a past old = let h = subst (HasOld t) (blank_word m t ground a past) old in absurd (let e : None ≡ Some h.0 = h.1 in cc)
+no_old_past : (m : Store) (t : Table) → IsGround m t → (a : ℕ) → used_of t (a / 4096) ≤ a % 4096 → RefersToOld t (word_at m.words a) → ⊥
+no_old_past m t ground a past old = let h = subst (RefersToOld t) (blank_word m t ground a past) old in absurd (let e : None ≡ Some h.0 = h.1 in cc)
 
 -- Words that are placed
 

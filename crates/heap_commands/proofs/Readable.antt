@@ -21,8 +21,8 @@ use Rattle.block_store.specs.lisp_meaning.Roles.{AsBlock, AsCons, RoleMap, value
 use Rattle.block_store.specs.lisp_meaning.Sound.{Reach}
 use Rattle.block_store.specs.lisp_ground.GroundInvariant.{GroundInvariant}
 use Rattle.block_store.proofs.lisp_ground.Leading.{references_lead}
-use Rattle.block_store.specs.transporter.Settling.{HasOld}
-use Rattle.heap_state.specs.Consistent.{IsConsistent}
+use Rattle.block_store.specs.transporter.Settling.{RefersToOld}
+use Rattle.heap_state.specs.Consistent.{RepresentsState}
 use Rattle.heap_state.specs.Represents.{Represents}
 use Rattle.heap_state.specs.Settled.{IsSettled}
 use Rattle.heap_state.proofs.Changing.{kept_register}
@@ -43,10 +43,10 @@ module _ (m : Memory.Store) (t : Table) (registers : List Parts) (r : ℕ) (low 
     survives = λ region old. kept_register m t registers k s r region b reach (let count = b.count in omega arith) old;
   }
 
-  pub settled_word : IsSettled t registers r → HasOld t of → ⊥
-  settled_word settled old = settled (subst (HasOld t) (get_or_read registers r of low read null_word) old)
+  pub settled_word : IsSettled t registers r → RefersToOld t of → ⊥
+  settled_word settled old = settled (subst (RefersToOld t) (get_or_read registers r of low read null_word) old)
 
-  pub readable : IsConsistent m t registers → IsSettled t registers r → IsReadable m t of
+  pub readable : RepresentsState m t registers → IsSettled t registers r → IsReadable m t of
   readable x settled = record {
     map = x.map;
     top = x.state.space.levels;
@@ -61,7 +61,7 @@ module _ (m : Memory.Store) (t : Table) (registers : List Parts) (r : ℕ) (low 
 
 -- a part of the cons can become the value of another register
 pub settable : (m : Memory.Store) (t : Table) (registers : List Parts) (target from : ℕ) (target_in : target < length registers) (from_in : from < length registers) (of value : Parts) (read : of ≡ get_or registers target of) (value_read : value ≡ get_or registers from value)
-    → IsConsistent m t registers → IsSettled t registers target → IsSettled t registers from → CanSet m t of value
+    → RepresentsState m t registers → IsSettled t registers target → IsSettled t registers from → CanSet m t of value
 unfolding readable
 settable m t registers target from target_in from_in of value read value_read x of_settled value_settled = record {
   can = readable m t registers target target_in of read x of_settled;

@@ -19,7 +19,7 @@ use Rattle.block_store.specs.lisp_meaning.Roles.{AsBlock, AsCons, RoleMap, value
 use Rattle.block_store.proofs.lisp_ground.Leading.{references_lead}
 use Rattle.block_store.specs.Headers.{HasMeaning}
 use Rattle.heap_state.specs.Represents.{Represents}
-use Rattle.heap_state.specs.Consistent.{IsConsistent}
+use Rattle.heap_state.specs.Consistent.{RepresentsState}
 use Rattle.heap_commands.specs.Growth.{IsBlock}
 
 -- what is done with a block is done with it, and with no other value
@@ -67,7 +67,7 @@ module _ (m : Store) (t : Table) (k : RoleMap) (s : State) (registers : List Par
   register_means r word is low = ap (λ (w : Parts). value_of k.role w.content) (get_or_read registers r word low is null_word) ∙ b.means r (let count = b.count in omega arith)
 
 -- a register's word has a value
-pub register_meaning : (m : Store) (t : Table) (registers : List Parts) (r : ℕ) (word : Parts) → word ≡ get_or registers r word → IsConsistent m t registers → r < length registers → HasMeaning m t word.content
+pub register_meaning : (m : Store) (t : Table) (registers : List Parts) (r : ℕ) (word : Parts) → word ≡ get_or registers r word → RepresentsState m t registers → r < length registers → HasMeaning m t word.content
 register_meaning m t registers r word is x low = record {
   map = x.map;
   top = x.state.space.levels;

@@ -7,12 +7,12 @@ use Rattle.store_word.specs.Words.{Parts, null_word}
 use Rattle.mem_port.specs.Store.{Store}
 use Rattle.area_space.specs.Accounts.{account_of}
 use Rattle.area_space.specs.Table.{Table, areas_of, levels_of, quota_of}
-use Rattle.block_store.specs.transporter.Settling.{HasOld}
+use Rattle.block_store.specs.transporter.Settling.{RefersToOld}
 use Rattle.block_store.specs.transporter.Marking.{MarksFollow}
-use Rattle.block_store.specs.transporter.Preserving.{AllFresh, PreservesScanned, RegistersPreserved}
-use Rattle.heap_state.specs.Consistent.{IsConsistent}
+use Rattle.block_store.specs.transporter.Preserving.{NoOldAddresses, PreservesScanned, RegistersPreserved}
+use Rattle.heap_state.specs.Consistent.{RepresentsState}
 use Rattle.heap_state.specs.RepresentsLater.{RepresentsSame}
-use Rattle.heap_state.specs.Settled.{IsSettled, RegistersFresh}
+use Rattle.heap_state.specs.Settled.{IsSettled, NoOldAddressesInRegisters}
 use Rattle.heap_state.proofs.Allocating.{account_same}
 use Rattle.heap_state.proofs.OneSettled.{consistent_on}
 use Rattle.heap_state.proofs.Playing.{Leaves}
@@ -20,7 +20,7 @@ use Rattle.heap_state.proofs.Playing.{Leaves}
 -- one register was settled, and has this word
 pub record SettlesOne (m m1 : Store) (t t1 : Table) (registers registers1 : List Parts) (from : ℕ) (word : Parts) : Type 0 where
   pub leaves : Leaves m t registers m1 t1 registers1
-  pub consistent : IsConsistent m1 t1 registers1
+  pub consistent : RepresentsState m1 t1 registers1
   pub inside : (i : ℕ) → i < length registers → i < length registers1
   pub read : word ≡ get_or registers1 from word
   pub settled : IsSettled t1 registers1 from
@@ -28,7 +28,7 @@ pub record SettlesOne (m m1 : Store) (t t1 : Table) (registers registers1 : List
 -- two were settled
 pub record SettlesTwo (m m1 : Store) (t t1 : Table) (registers registers1 : List Parts) (left right : ℕ) : Type 0 where
   pub leaves : Leaves m t registers m1 t1 registers1
-  pub consistent : IsConsistent m1 t1 registers1
+  pub consistent : RepresentsState m1 t1 registers1
   pub inside : (i : ℕ) → i < length registers → i < length registers1
   pub left_settled : IsSettled t1 registers1 left
   pub right_settled : IsSettled t1 registers1 right
@@ -36,7 +36,7 @@ pub record SettlesTwo (m m1 : Store) (t t1 : Table) (registers registers1 : List
 -- all of a list were settled
 pub record SettlesAll (m m1 : Store) (t t1 : Table) (registers registers1 : List Parts) (items : List ℕ) : Type 0 where
   pub leaves : Leaves m t registers m1 t1 registers1
-  pub consistent : IsConsistent m1 t1 registers1
+  pub consistent : RepresentsState m1 t1 registers1
   pub inside : (i : ℕ) → i < length registers → i < length registers1
   pub settled : All (IsSettled t1 registers1) items
 
@@ -46,21 +46,21 @@ pub record LeavesCharge (t : Table) (area level charge : ℕ) : Type 0 where
   pub level_in : level < levels_of t
   pub fits : account_of t area + charge ≤ quota_of t area
 
-module _ (m m1 : Store) (t t1 : Table) (registers registers1 : List Parts) (before : IsConsistent m t registers) (represented : RepresentsSame m t registers m1 t1 registers1) (preserves : PreservesScanned m t m1 t1) (others : RegistersPreserved t1 registers registers1)
-    (stays_fresh : RegistersFresh t registers → AllFresh m t → AllFresh m1 t1) (marks : MarksFollow m t m1 t1) where
+module _ (m m1 : Store) (t t1 : Table) (registers registers1 : List Parts) (before : RepresentsState m t registers) (represented : RepresentsSame m t registers m1 t1 registers1) (preserves : PreservesScanned m t m1 t1) (others : RegistersPreserved t1 registers registers1)
+    (stays_fresh : NoOldAddressesInRegisters t registers → NoOldAddresses m t → NoOldAddresses m1 t1) (marks : MarksFollow m t m1 t1) where
   pub settling_leaves : Leaves m t registers m1 t1 registers1
   settling_leaves = record { represented = represented; preserves = preserves; others = others; stays_fresh = stays_fresh; marks = marks }
 
   still_inside : (i : ℕ) → i < length registers → i < length registers1
   still_inside i low = let count = others.count in omega arith
 
-  pub settles_one : (from : ℕ) (word : Parts) → from < length registers → get_or registers1 from null_word ≡ word → (HasOld t1 word → ⊥) → SettlesOne m m1 t t1 registers registers1 from word
+  pub settles_one : (from : ℕ) (word : Parts) → from < length registers → get_or registers1 from null_word ≡ word → (RefersToOld t1 word → ⊥) → SettlesOne m m1 t t1 registers registers1 from word
   settles_one from word low is young = record {
     leaves = settling_leaves;
     consistent = consistent_on m m1 t t1 registers registers1 before represented;
     inside = still_inside;
     read = sym is ∙ get_or_default registers1 from null_word word (still_inside from low);
-    settled = λ old. young (subst (HasOld t1) is old);
+    settled = λ old. young (subst (RefersToOld t1) is old);
   }
 
   pub settles_two : (left right : ℕ) → All (λ item. IsSettled t1 registers1 item) (left ∷ right ∷ []) → SettlesTwo m m1 t t1 registers registers1 left right
@@ -81,7 +81,7 @@ module _ (m m1 : Store) (t t1 : Table) (registers registers1 : List Parts) (befo
   }
 
 -- settling changes neither what is charged nor the quotas
-pub still_allocates : (m m1 : Store) (t t1 : Table) (registers registers1 : List Parts) → IsConsistent m t registers → RepresentsSame m t registers m1 t1 registers1 → PreservesScanned m t m1 t1
+pub still_allocates : (m m1 : Store) (t t1 : Table) (registers registers1 : List Parts) → RepresentsState m t registers → RepresentsSame m t registers m1 t1 registers1 → PreservesScanned m t m1 t1
     → (area level charge : ℕ) → area < areas_of t → level < levels_of t → account_of t area + charge ≤ quota_of t area → LeavesCharge t1 area level charge
 still_allocates m m1 t t1 registers registers1 before represented preserves area level charge area_in level_in fits =
     let form = preserves.grows.form in

@@ -17,10 +17,10 @@ use Rattle.block_store.specs.lisp_meaning.State.{State, aim_of}
 use Rattle.block_store.specs.lisp_meaning.Changes.{put_body}
 use Rattle.block_store.specs.lisp_meaning.Flip.{graph_of}
 use Rattle.block_store.specs.lisp_meaning.Roles.{RoleMap}
-use Rattle.block_store.specs.transporter.Preserving.{AllFresh, PreservesScanned}
+use Rattle.block_store.specs.transporter.Preserving.{NoOldAddresses, PreservesScanned}
 use Rattle.block_store.specs.Headers.{TellsLength}
 use Rattle.block_store.specs.Fields.{CanSet, SetsField}
-use Rattle.heap_state.specs.Consistent.{IsConsistent}
+use Rattle.heap_state.specs.Consistent.{RepresentsState}
 use Rattle.heap_state.specs.Marks.{MarksByStoring}
 use Rattle.heap_state.specs.Represents.{Represents}
 use Rattle.heap_state.specs.RepresentsLater.{RepresentsLater}
@@ -43,7 +43,7 @@ pub field_lacks : (graph : Graph) (fields : List Value) (index : ℕ) (found : E
 field_lacks graph fields index found past = rw (le-ltb index (length fields) past) refl
 
 -- what can be written
-pub can_set : (m : Store) (t : Table) (registers : List Parts) (target from : ℕ) (block word : Parts) → block ≡ get_or registers target block → word ≡ get_or registers from word → IsConsistent m t registers → target < length registers → from < length registers → IsSettled t registers from → CanSet m t block.content word
+pub can_set : (m : Store) (t : Table) (registers : List Parts) (target from : ℕ) (block word : Parts) → block ≡ get_or registers target block → word ≡ get_or registers from word → RepresentsState m t registers → target < length registers → from < length registers → IsSettled t registers from → CanSet m t block.content word
 can_set m t registers target from block word block_is word_is x target_low from_low settled = record {
   map = x.map;
   top = x.state.space.levels;
@@ -55,7 +55,7 @@ can_set m t registers target from block word block_is word_is x target_low from_
   value_is = register_means m t x.map x.state registers x.represents target block block_is target_low;
   new = value_at x.state.registers from;
   new_is = register_means m t x.map x.state registers x.represents from word word_is from_low;
-  young = subst (λ (w : Parts). Rattle.block_store.specs.transporter.Settling.HasOld t w → ⊥) (sym (get_or_read registers from word from_low word_is null_word)) settled;
+  young = subst (λ (w : Parts). Rattle.block_store.specs.transporter.Settling.RefersToOld t w → ⊥) (sym (get_or_read registers from word from_low word_is null_word)) settled;
 }
 
 module _ (m m' : Store) (t t' : Table) (registers : List Parts) (target index from : ℕ) (block word : Parts) (block_is : block ≡ get_or registers target block) (word_is : word ≡ get_or registers from word) (target_low : target < length registers) (from_low : from < length registers) (same : t' ≡ t) where
@@ -88,7 +88,7 @@ module _ (m m' : Store) (t t' : Table) (registers : List Parts) (target index fr
             ∙ ap (λ (e : Effect). Some e) (field_lacks (graph_of s) x.fields index (stored (graph_of s) x.name (Block x.code (slice_set x.fields index (value_at s.registers from)))) (omega arith))
             ∙ ap (λ (n : ℕ). Some (answered (R.NoField n) (graph_of s))) (sym size)
 
-  module _ (struct : tag_of block.content ≢ StructTag → ⊥) (count : ℕ) (tells : TellsLength m t block.content count) (low : index < count) (sets : SetsField m t m' block.content index word.content) (preserves : PreservesScanned m t m' t') (stays_fresh : AllFresh m t → AllFresh m' t') (marks : MarksByStoring R.Fine m t m' t')
+  module _ (struct : tag_of block.content ≢ StructTag → ⊥) (count : ℕ) (tells : TellsLength m t block.content count) (low : index < count) (sets : SetsField m t m' block.content index word.content) (preserves : PreservesScanned m t m' t') (stays_fresh : NoOldAddresses m t → NoOldAddresses m' t') (marks : MarksByStoring R.Fine m t m' t')
       (target_settled : IsSettled t registers target) (from_settled : IsSettled t registers from) where
     put_answers : (k : RoleMap) (s : State) → Represents m t registers k s → AnswersOn m t m' t' registers (C.Put target index from) R.Fine k s
     put_answers k s b =

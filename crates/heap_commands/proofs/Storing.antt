@@ -18,7 +18,7 @@ use Rattle.block_store.specs.lisp_meaning.Flip.{graph_of}
 use Rattle.block_store.specs.lisp_meaning.Roles.{RoleMap}
 use Rattle.block_store.specs.lisp_meaning.Sound.{Reach}
 use Rattle.block_store.specs.lisp_meaning.Step.{may_fault, owed_by}
-use Rattle.block_store.specs.transporter.Preserving.{AllFresh, PreservesScanned}
+use Rattle.block_store.specs.transporter.Preserving.{NoOldAddresses, PreservesScanned}
 use Rattle.heap_state.specs.Marks.{MarksOf}
 use Rattle.heap_state.specs.Represents.{Represents}
 use Rattle.heap_state.specs.RepresentsLater.{RepresentsLater, RepresentsSame}
@@ -43,7 +43,7 @@ sure : R.Fine ≡ R.Fault → ⊥
 sure e = cc
 
 -- it did so
-pub stored_performs : (m m' : Store) (t t' : Table) (registers : List Parts) (c : Command) → ((k : RoleMap) (s : State) → Represents m t registers k s → Reach s s.phase → StoresBody m t m' t' k s c) → PreservesScanned m t m' t' → (AllFresh m t → AllFresh m' t') → MarksOf c R.Fine m t m' t'
+pub stored_performs : (m m' : Store) (t t' : Table) (registers : List Parts) (c : Command) → ((k : RoleMap) (s : State) → Represents m t registers k s → Reach s s.phase → StoresBody m t m' t' k s c) → PreservesScanned m t m' t' → (NoOldAddresses m t → NoOldAddresses m' t') → MarksOf c R.Fine m t m' t'
     → ((i : ℕ) → IsTrue (reads c i) → (i < length registers) × IsSettled t registers i) → Performs m t registers m' t' registers c R.Fine
 stored_performs m m' t t' registers c stores preserves stays_fresh marks settled = record {
   performed = performed;
@@ -73,7 +73,7 @@ stored_performs m m' t t' registers c stores preserves stays_fresh marks settled
         })
 
 -- a page call failed
-pub stored_faulted : (m m' : Store) (t t' : Table) (registers : List Parts) (c : Command) → IsTrue (may_fault c) → RepresentsSame m t registers m' t' registers → PreservesScanned m t m' t' → (AllFresh m t → AllFresh m' t') → MarksOf c R.Fault m t m' t'
+pub stored_faulted : (m m' : Store) (t t' : Table) (registers : List Parts) (c : Command) → IsTrue (may_fault c) → RepresentsSame m t registers m' t' registers → PreservesScanned m t m' t' → (NoOldAddresses m t → NoOldAddresses m' t') → MarksOf c R.Fault m t m' t'
     → Performs m t registers m' t' registers c R.Fault
 stored_faulted m m' t t' registers c may represented preserves stays_fresh marks = record {
   performed = λ k s b reach. inl (refl, may, represented k s b reach);

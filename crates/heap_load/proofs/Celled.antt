@@ -29,7 +29,7 @@ use Rattle.heap_load.specs.Drafts.{IsDraft, car_of, charge_in}
 use Rattle.heap_load.proofs.Grouping.{group_is}
 use Rattle.block_store.specs.lisp_ground.Leading.{cdr_by, cdr_in}
 use Rattle.block_store.proofs.lisp_ground.Leading.{references_lead}
-use Rattle.block_store.specs.transporter.LiveSame.{OnlyGrows}
+use Rattle.block_store.specs.transporter.LiveWordsUnchanged.{OnlyGrows}
 use Rattle.block_store.specs.transporter.Making.{HasQuota, MadeOn}
 use Rattle.cdr_lists.specs.Lists.{CanList, ListedOn, MeansValues, cell_code, cell_word, item_word}
 use Rattle.heap_load.specs.declared.places.Place.{Place}

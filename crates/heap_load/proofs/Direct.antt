@@ -24,7 +24,7 @@ use Rattle.block_store.proofs.lisp_meaning.Standing.{tail_fits}
 use Rattle.block_store.proofs.lisp_ground.Finals.{final_is_place, stands_there}
 use Rattle.block_store.proofs.lisp_ground.StoredOn.{field_stored_on}
 use Rattle.block_store.proofs.LiveFields.{field_live}
-use Rattle.block_store.specs.transporter.LiveSame.{IsLiveWord}
+use Rattle.block_store.specs.transporter.LiveWordsUnchanged.{IsLiveWord}
 use Rattle.block_store.proofs.transporter.Fetched.{live-inside}
 use Rattle.block_store.proofs.transporter.Alive.{grows-same}
 use Rattle.cdr_lists.specs.Pairs.{second_code}

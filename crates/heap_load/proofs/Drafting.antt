@@ -30,9 +30,9 @@ use Rattle.heap_load.proofs.Charging.{account_more, account_most}
 use Rattle.heap_load.proofs.Making.{opening_more}
 use Rattle.block_store.specs.lisp_ground.GroundInvariant.{GroundInvariant}
 use Rattle.block_store.specs.lisp_ground.Leading.{reference}
-use Rattle.block_store.specs.transporter.LiveSame.{OnlyGrows}
+use Rattle.block_store.specs.transporter.LiveWordsUnchanged.{OnlyGrows}
 use Rattle.block_store.specs.transporter.Making.{HasQuota, MadeOn}
-use Rattle.block_store.specs.transporter.Transports.{StaysOn}
+use Rattle.block_store.specs.transporter.Transports.{WordsUnchanged}
 use Rattle.cdr_lists.specs.Pairs.{CanPair, PairedOn}
 use Rattle.block_store.specs.Making.{CanMake, MakesBlock}
 use Rattle.heap_state.proofs.OneSettled.{aims_grown}
@@ -134,7 +134,7 @@ module _ (m : Store) (t : Table) (world : World) (places : List Place) (n : ℕ)
       record { area_in = low; level_in = omega arith; fits = omega arith }
 
 -- if nothing was made the ground represents the same objects
-pub drafted_left : (m m' : Store) (t t' : Table) (world : World) (places : List Place) (n : ℕ) → Drafted m t world places n → StaysOn m t m' t' → OnlyGrows t t' → HoldsSome m' t' world
+pub drafted_left : (m m' : Store) (t t' : Table) (world : World) (places : List Place) (n : ℕ) → Drafted m t world places n → WordsUnchanged m t m' t' → OnlyGrows t t' → HoldsSome m' t' world
 drafted_left m m' t t' world places n x stays g = record {
   objects = x.objects;
   holds = record { map = x.holds.map; kept = stays.kept x.holds.map world.space.levels world.areas (store_with world x.objects) no_aim x.holds.kept; aims = aims_grown t t' Idle g x.holds.aims };

@@ -22,10 +22,10 @@ use Rattle.block_store.proofs.lisp_meaning.Frames.{refined}
 use Rattle.heap_load.specs.Drafts.{IsDraft, car_of, cdr_of, header_of, is_known}
 use Rattle.block_store.specs.lisp_ground.GroundInvariant.{GroundInvariant}
 use Rattle.block_store.proofs.lisp_ground.Storing.{kept_on_same}
-use Rattle.block_store.specs.transporter.LiveSame.{OnlyGrows}
+use Rattle.block_store.specs.transporter.LiveWordsUnchanged.{OnlyGrows}
 use Rattle.cdr_lists.specs.Parts.{CanSet, SetsCar, SetsCdr}
 use Rattle.cdr_lists.specs.Reading.{CanRead}
-use Rattle.heap_state.specs.Aims.{Aims}
+use Rattle.heap_state.specs.PhaseAgrees.{PhaseAgrees}
 use Rattle.heap_state.proofs.OneSettled.{aims_grown}
 use Rattle.heap_load.specs.declared.places.Place.{Place}
 use Rattle.heap_load.specs.Places.{no_place, place_at, word_of}
@@ -103,7 +103,7 @@ module _ (m : Store) (t : Table) (world : World) (places : List Place) (n : ℕ)
     set_other : (i : ℕ) → (i ≡ n → ⊥) → object_at (slice_set x.objects n next_object) i ≡ object_at x.objects i
     set_other i ne = get_or-set_other x.objects n i next_object no_object ne
 
-    pub refilled : (map : RoleMap) → GroundInvariant m' t' map world.space.levels world.areas (put_body (store_with world x.objects) n new) no_aim → Refines x.holds.map.role map.role → Aims t' Idle → Filling m' t' world places n new
+    pub refilled : (map : RoleMap) → GroundInvariant m' t' map world.space.levels world.areas (put_body (store_with world x.objects) n new) no_aim → Refines x.holds.map.role map.role → PhaseAgrees t' Idle → Filling m' t' world places n new
     refilled map kept refines aims = record {
       objects = slice_set x.objects n next_object;
       holds = record { map = map; kept = subst (λ (s : M.Store). GroundInvariant m' t' map world.space.levels world.areas s no_aim) (put_store x.objects new) kept; aims = aims };
@@ -154,7 +154,7 @@ module _ (m : Store) (t : Table) (world : World) (places : List Place) (n : ℕ)
     pub car_filled : (old cdr new : Value) (written : Content) → body ≡ Cons old cdr → value_of x.holds.map.role written ≡ Some new → t' ≡ t → SetsCar m t m' t' (place_at places n).word.content written → Filling m' t' world places n (Cons new cdr)
     car_filled old cdr new written is value same sets =
         let s = sets x.holds.map world.space.levels world.areas [] (store_with world x.objects) no_aim n old cdr new can_read (body_here ∙ is) value in
-        refilled m t world places n m' t' body (Cons new cdr) x low s.map s.kept s.refines (subst (λ (u : Table). Aims u Idle) (sym same) x.holds.aims)
+        refilled m t world places n m' t' body (Cons new cdr) x low s.map s.kept s.refines (subst (λ (u : Table). PhaseAgrees u Idle) (sym same) x.holds.aims)
 
     pub cdr_filled : (car old new : Value) (written : Content) → body ≡ Cons car old → value_of x.holds.map.role written ≡ Some new → OnlyGrows t t' → SetsCdr m t m' t' (place_at places n).word.content written → Filling m' t' world places n (Cons car new)
     cdr_filled car old new written is value g sets =

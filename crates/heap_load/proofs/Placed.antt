@@ -20,7 +20,7 @@ use Rattle.block_store.specs.obj_layout.Forwards.{word_at, IsFinal, forward_of}
 use Rattle.block_store.specs.lisp_meaning.State.{no_aim}
 use Rattle.block_store.specs.lisp_meaning.Roles.{AsBlock, AsCons, RoleMap, Role, as_ref, names_as, owner, value_of}
 use Rattle.block_store.proofs.lisp_ground.Finals.{final_is_place}
-use Rattle.block_store.specs.transporter.LiveSame.{IsLiveWord, LiveSame}
+use Rattle.block_store.specs.transporter.LiveWordsUnchanged.{IsLiveWord, LiveWordsUnchanged}
 use Rattle.block_store.proofs.transporter.Alive.{still-live}
 use Rattle.block_store.proofs.transporter.Fetched.{live-inside}
 use Rattle.cdr_lists.specs.Lists.{cell_code}
@@ -87,7 +87,7 @@ block_named k content at n is e = name_in (names_as AsBlock (k.role at)) n (sym 
 -- More objects are made
 
 module _ (m m' : Store) (t t' : Table) (world : World) (places places' : List Place) (n : ℕ) (x : Drafted m t world places n) (laid : Laid m.words places world.objects n)
-    (same : LiveSame m t m' t') (table : IsTable t') (size : length m'.words ≡ 4096 * t'.regions) (before : (i : ℕ) → i < n → place_at places' i ≡ place_at places i) where
+    (same : LiveWordsUnchanged m t m' t') (table : IsTable t') (size : length m'.words ≡ 4096 * t'.regions) (before : (i : ℕ) → i < n → place_at places' i ≡ place_at places i) where
   laid_before : (more : ℕ) (i : ℕ) → i < n → (car cdr : Value) → (object_at world.objects i).body ≡ Cons car cdr → StandsIn m'.words places' world.objects (n + more) i
   laid_before more i low car cdr body =
       let s = laid.each i low car cdr body in

@@ -25,7 +25,7 @@ use Rattle.block_store.specs.lisp_meaning.Opening.{opening}
 use Rattle.block_store.specs.lisp_meaning.Roles.{RoleMap, value_of}
 use Rattle.heap_load.specs.Drafts.{IsDraft, is_known, with_objects}
 use Rattle.block_store.specs.lisp_ground.GroundInvariant.{GroundInvariant}
-use Rattle.heap_state.specs.Aims.{Aims}
+use Rattle.heap_state.specs.PhaseAgrees.{PhaseAgrees}
 use Rattle.heap_state.specs.Represents.{Represents}
 use Rattle.cdr_lists.specs.Lists.{cell_code}
 use Rattle.heap_load.specs.declared.places.Place.{Place}
@@ -69,7 +69,7 @@ pub record RepresentsSome (m : Store) (t : Table) (registers : List Parts) (worl
 pub record Holds (m : Store) (t : Table) (world : World) (objects : List Object) : Type 0 where
   pub map : RoleMap
   pub kept : GroundInvariant m t map world.space.levels world.areas (opening (with_objects world objects)).store no_aim
-  pub aims : Aims t Idle
+  pub aims : PhaseAgrees t Idle
 
 -- it does for some objects
 pub record HoldsSome (m : Store) (t : Table) (world : World) : Type 0 where

@@ -1,6 +1,6 @@
 //! Makes the objects of a world, each with the parts that are known by then.
 ghost use Rattle.std.specs.Prelude.{◌≡◌, ◌+◌, ◌<◌, ◌≤◌, Some, length, drop, replicate, IfOk, OnOk, OnErr, [], IsOk};
-ghost use Rattle.mem_port.specs.View.{Tells};
+ghost use Rattle.mem_port.specs.View.{AccountsForFaults};
 ghost use Rattle.area_space.specs.View.{view};
 ghost use Rattle.heap_load.specs.Views.{Drafted, HoldsSome};
 ghost use Rattle.lisp_graph.specs.Graph.{object_at};
@@ -13,7 +13,7 @@ use area_space::Ground;
 use block_store::make_block;
 use cdr_lists::{make_list, make_pair_of};
 use lisp_graph::{Body, Items, World};
-use mem_port::{Memory, known};
+use mem_port::{Memory, assert_invariant};
 use std::sync::ledger::Ledger;
 use store_word::{Steps, SwapFault, Word};
 
@@ -31,8 +31,8 @@ pub(crate) fn make_drafts<M: Memory, L: Ledger>(
     ensures laid { OnOk result (Laid (view ground.new).mem.store.words places.new world.now.objects (length world.now.objects)) }
     ensures left { OnErr result (HoldsSome (view ground.new) world.now) }
     ensures regions { ground.new.table.regions ≡ ground.old.table.regions }
-    ensures bare { world.now.objects ≡ [] → IsOk result }
-    ensures tells { Tells (view ground.old).mem (view ground.new).mem steps.old steps.new result }
+    ensures succeeds { world.now.objects ≡ [] → IsOk result }
+    ensures accounted { AccountsForFaults (view ground.old).mem (view ground.new).mem steps.old steps.new result }
 {
     let count = world.objects.as_slice().len();
     let mut made = 0;
@@ -53,22 +53,22 @@ fn make_next<M: Memory, L: Ledger>(
 ) -> Result<usize, SwapFault>
     requires loadable { IsLoadable world.now }
     requires places { length places.old ≡ length world.now.objects }
-    requires inside { number < length world.now.objects }
-    requires drafted { Drafted (view ground.old) world.now places.old number }
+    requires in_range { number < length world.now.objects }
+    requires made { Drafted (view ground.old) world.now places.old number }
     requires laid { Laid (view ground.old).mem.store.words places.old world.now.objects number }
 
     // what is made
     ensures drafted { IfOk result (λ count. Drafted (view ground.new) world.now places.new (number + count)) }
     ensures some { IfOk result (λ count. 1 ≤ count) }
-    ensures inside { IfOk result (λ count. number + count ≤ length world.now.objects) }
-    ensures laid { IfOk result (λ count. Laid (view ground.new).mem.store.words places.new world.now.objects (number + count)) }
+    ensures count { IfOk result (λ count. number + count ≤ length world.now.objects) }
+    ensures stays_laid { IfOk result (λ count. Laid (view ground.new).mem.store.words places.new world.now.objects (number + count)) }
 
     // after a failure, and what is unchanged
     ensures left { OnErr result (HoldsSome (view ground.new) world.now) }
     ensures regions { ground.new.table.regions ≡ ground.old.table.regions }
 
     // swap errors
-    ensures tells { Tells (view ground.old).mem (view ground.new).mem steps.old steps.new result }
+    ensures accounted { AccountsForFaults (view ground.old).mem (view ground.new).mem steps.old steps.new result }
 {
     let count = group_from(world.objects.as_slice(), number);
     if count == 0 {
@@ -90,20 +90,20 @@ fn make_alone<M: Memory, L: Ledger>(
 ) -> Result<(), SwapFault>
     requires loadable { IsLoadable world.now }
     requires places { length places.old ≡ length world.now.objects }
-    requires inside { number < length world.now.objects }
-    requires drafted { Drafted (view ground.old) world.now places.old number }
+    requires in_range { number < length world.now.objects }
+    requires made { Drafted (view ground.old) world.now places.old number }
     requires laid { Laid (view ground.old).mem.store.words places.old world.now.objects number }
 
     // what is made
     ensures drafted { OnOk result (Drafted (view ground.new) world.now places.new (number + 1)) }
-    ensures laid { OnOk result (group_from world.now.objects number ≡ 0 → Laid (view ground.new).mem.store.words places.new world.now.objects (number + 1)) }
+    ensures stays_laid { OnOk result (group_from world.now.objects number ≡ 0 → Laid (view ground.new).mem.store.words places.new world.now.objects (number + 1)) }
 
     // after a failure, and what is unchanged
     ensures left { OnErr result (HoldsSome (view ground.new) world.now) }
     ensures regions { ground.new.table.regions ≡ ground.old.table.regions }
 
     // swap errors
-    ensures tells { Tells (view ground.old).mem (view ground.new).mem steps.old steps.new result }
+    ensures accounted { AccountsForFaults (view ground.old).mem (view ground.new).mem steps.old steps.new result }
 {
     let object = &world.objects.as_slice()[number];
     match &object.body {
@@ -140,28 +140,28 @@ fn make_group<M: Memory, L: Ledger>(
 ) -> Result<(), SwapFault>
     requires loadable { IsLoadable world.now }
     requires places { length places.old ≡ length world.now.objects }
-    requires inside { number < length world.now.objects }
-    requires few { count ≤ 1024 }
-    requires group { to_tail (object_at world.now.objects number).area number (drop number world.now.objects) ≡ Some count }
-    requires drafted { Drafted (view ground.old) world.now places.old number }
+    requires in_range { number < length world.now.objects }
+    requires at_most { count ≤ 1024 }
+    requires agrees { to_tail (object_at world.now.objects number).area number (drop number world.now.objects) ≡ Some count }
+    requires made { Drafted (view ground.old) world.now places.old number }
     requires laid { Laid (view ground.old).mem.store.words places.old world.now.objects number }
 
     // what is made
     ensures drafted { OnOk result (Drafted (view ground.new) world.now places.new (number + count)) }
-    ensures laid { OnOk result (Laid (view ground.new).mem.store.words places.new world.now.objects (number + count)) }
+    ensures stays_laid { OnOk result (Laid (view ground.new).mem.store.words places.new world.now.objects (number + count)) }
 
     // after a failure, and what is unchanged
     ensures left { OnErr result (HoldsSome (view ground.new) world.now) }
     ensures regions { ground.new.table.regions ≡ ground.old.table.regions }
 
     // swap errors
-    ensures tells { Tells (view ground.old).mem (view ground.new).mem steps.old steps.new result }
+    ensures accounted { AccountsForFaults (view ground.old).mem (view ground.new).mem steps.old steps.new result }
 {
     let area = world.objects.as_slice()[number].area;
     let registers = [Word::nil()];
     let items = first_items(count);
     let from = make_list(ground, area, 0, &registers, &items, steps)?;
-    known(&ground.mem);
+    assert_invariant(&ground.mem);
     put_cells(places, number, count, from);
     Ok(())
 }

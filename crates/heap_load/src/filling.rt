@@ -1,6 +1,6 @@
 //! Stores the parts of objects that weren't known when the objects were made.
 ghost use Rattle.std.specs.Prelude.{◌≡◌, ◌+◌, ◌<◌, ℕ, true, false, length, OnOk, OnErr, [], IsOk};
-ghost use Rattle.mem_port.specs.View.{Tells};
+ghost use Rattle.mem_port.specs.View.{AccountsForFaults};
 ghost use Rattle.area_space.specs.View.{view};
 ghost use Rattle.heap_load.specs.Views.{CarFilled, Drafted, Filled, HoldsSome};
 ghost use Rattle.lisp_graph.specs.declared.object.Body.TheVariants.{Cons, Block};
@@ -25,20 +25,20 @@ pub(crate) fn fill_drafts<M: Memory, L: Ledger>(
 ) -> Result<(), SwapFault>
     requires loadable { IsLoadable world.now }
     requires places { length places.now ≡ length world.now.objects }
-    requires drafted { Drafted (view ground.old) world.now places.now (length world.now.objects) }
+    requires made { Drafted (view ground.old) world.now places.now (length world.now.objects) }
     requires laid { Laid (view ground.old).mem.store.words places.now world.now.objects (length world.now.objects) }
 
     // what is stored
     ensures filled { OnOk result (Filled (view ground.new) world.now places.now (length world.now.objects)) }
-    ensures laid { OnOk result (Laid (view ground.new).mem.store.words places.now world.now.objects (length world.now.objects)) }
+    ensures stays_laid { OnOk result (Laid (view ground.new).mem.store.words places.now world.now.objects (length world.now.objects)) }
 
     // after a failure, and what is unchanged
     ensures left { OnErr result (HoldsSome (view ground.new) world.now) }
     ensures table { ground.new.table ≡ ground.old.table }
 
     // swap errors
-    ensures bare { world.now.objects ≡ [] → IsOk result }
-    ensures tells { Tells (view ground.old).mem (view ground.new).mem steps.old steps.new result }
+    ensures succeeds { world.now.objects ≡ [] → IsOk result }
+    ensures accounted { AccountsForFaults (view ground.old).mem (view ground.new).mem steps.old steps.new result }
 {
     let count = world.objects.as_slice().len();
     for number in 0..count {
@@ -57,20 +57,20 @@ fn fill_object<M: Memory, L: Ledger>(
 ) -> Result<(), SwapFault>
     requires loadable { IsLoadable world.now }
     requires places { length places.now ≡ length world.now.objects }
-    requires inside { number < length world.now.objects }
+    requires in_range { number < length world.now.objects }
     requires filled { Filled (view ground.old) world.now places.now number }
     requires laid { Laid (view ground.old).mem.store.words places.now world.now.objects (length world.now.objects) }
 
     // what is stored
-    ensures filled { OnOk result (Filled (view ground.new) world.now places.now (number + 1)) }
-    ensures laid { OnOk result (Laid (view ground.new).mem.store.words places.now world.now.objects (length world.now.objects)) }
+    ensures stays_filled { OnOk result (Filled (view ground.new) world.now places.now (number + 1)) }
+    ensures stays_laid { OnOk result (Laid (view ground.new).mem.store.words places.now world.now.objects (length world.now.objects)) }
 
     // after a failure, and what is unchanged
     ensures left { OnErr result (HoldsSome (view ground.new) world.now) }
     ensures table { ground.new.table ≡ ground.old.table }
 
     // swap errors
-    ensures tells { Tells (view ground.old).mem (view ground.new).mem steps.old steps.new result }
+    ensures accounted { AccountsForFaults (view ground.old).mem (view ground.new).mem steps.old steps.new result }
 {
     match &world.objects.as_slice()[number].body {
         Body::Cons { car, cdr } => fill_cons(ground, world, places, number, *car, *cdr, steps),
@@ -93,21 +93,21 @@ fn fill_cons<M: Memory, L: Ledger>(
 ) -> Result<(), SwapFault>
     requires loadable { IsLoadable world.now }
     requires places { length places.now ≡ length world.now.objects }
-    requires inside { number < length world.now.objects }
-    requires body { (object_at world.now.objects number).body ≡ Cons car cdr }
+    requires in_range { number < length world.now.objects }
+    requires agrees { (object_at world.now.objects number).body ≡ Cons car cdr }
     requires filled { Filled (view ground.old) world.now places.now number }
     requires laid { Laid (view ground.old).mem.store.words places.now world.now.objects (length world.now.objects) }
 
     // what is stored
-    ensures filled { OnOk result (Filled (view ground.new) world.now places.now (number + 1)) }
-    ensures laid { OnOk result (Laid (view ground.new).mem.store.words places.now world.now.objects (length world.now.objects)) }
+    ensures stays_filled { OnOk result (Filled (view ground.new) world.now places.now (number + 1)) }
+    ensures stays_laid { OnOk result (Laid (view ground.new).mem.store.words places.now world.now.objects (length world.now.objects)) }
 
     // after a failure, and what is unchanged
     ensures left { OnErr result (HoldsSome (view ground.new) world.now) }
     ensures table { ground.new.table ≡ ground.old.table }
 
     // swap errors
-    ensures tells { Tells (view ground.old).mem (view ground.new).mem steps.old steps.new result }
+    ensures accounted { AccountsForFaults (view ground.old).mem (view ground.new).mem steps.old steps.new result }
 {
     if places[number].cell {
         return fill_cell(ground, world, places, number, car, cdr, steps);
@@ -128,22 +128,22 @@ fn fill_cell<M: Memory, L: Ledger>(
 ) -> Result<(), SwapFault>
     requires loadable { IsLoadable world.now }
     requires places { length places.now ≡ length world.now.objects }
-    requires inside { number < length world.now.objects }
-    requires body { (object_at world.now.objects number).body ≡ Cons car cdr }
+    requires in_range { number < length world.now.objects }
+    requires agrees { (object_at world.now.objects number).body ≡ Cons car cdr }
     requires cell { (place_at places.now number).cell ≡ true }
     requires filled { Filled (view ground.old) world.now places.now number }
     requires laid { Laid (view ground.old).mem.store.words places.now world.now.objects (length world.now.objects) }
 
     // what is stored
-    ensures filled { OnOk result (Filled (view ground.new) world.now places.now (number + 1)) }
-    ensures laid { OnOk result (Laid (view ground.new).mem.store.words places.now world.now.objects (length world.now.objects)) }
+    ensures stays_filled { OnOk result (Filled (view ground.new) world.now places.now (number + 1)) }
+    ensures stays_laid { OnOk result (Laid (view ground.new).mem.store.words places.now world.now.objects (length world.now.objects)) }
 
     // after a failure, and what is unchanged
     ensures left { OnErr result (HoldsSome (view ground.new) world.now) }
     ensures table { ground.new.table ≡ ground.old.table }
 
     // swap errors
-    ensures tells { Tells (view ground.old).mem (view ground.new).mem steps.old steps.new result }
+    ensures accounted { AccountsForFaults (view ground.old).mem (view ground.new).mem steps.old steps.new result }
 {
     let at = cons_at(places[number].word);
     let first = word_of(car, places).with_cdr(cell_code(cdr));
@@ -162,22 +162,22 @@ fn fill_car<M: Memory, L: Ledger>(
 ) -> Result<(), SwapFault>
     requires loadable { IsLoadable world.now }
     requires places { length places.now ≡ length world.now.objects }
-    requires inside { number < length world.now.objects }
-    requires body { (object_at world.now.objects number).body ≡ Cons car cdr }
+    requires in_range { number < length world.now.objects }
+    requires agrees { (object_at world.now.objects number).body ≡ Cons car cdr }
     requires pair { (place_at places.now number).cell ≡ false }
     requires filled { Filled (view ground.old) world.now places.now number }
     requires laid { Laid (view ground.old).mem.store.words places.now world.now.objects (length world.now.objects) }
 
     // what is stored
-    ensures filled { OnOk result (CarFilled (view ground.new) world.now places.now number car cdr) }
-    ensures laid { OnOk result (Laid (view ground.new).mem.store.words places.now world.now.objects (length world.now.objects)) }
+    ensures stays_filled { OnOk result (CarFilled (view ground.new) world.now places.now number car cdr) }
+    ensures stays_laid { OnOk result (Laid (view ground.new).mem.store.words places.now world.now.objects (length world.now.objects)) }
 
     // after a failure, and what is unchanged
     ensures left { OnErr result (HoldsSome (view ground.new) world.now) }
     ensures table { ground.new.table ≡ ground.old.table }
 
     // swap errors
-    ensures tells { Tells (view ground.old).mem (view ground.new).mem steps.old steps.new result }
+    ensures accounted { AccountsForFaults (view ground.old).mem (view ground.new).mem steps.old steps.new result }
 {
     if is_known(car, number) {
         return Ok(());
@@ -199,22 +199,22 @@ fn fill_cdr<M: Memory, L: Ledger>(
 ) -> Result<(), SwapFault>
     requires loadable { IsLoadable world.now }
     requires places { length places.now ≡ length world.now.objects }
-    requires inside { number < length world.now.objects }
-    requires body { (object_at world.now.objects number).body ≡ Cons car cdr }
+    requires in_range { number < length world.now.objects }
+    requires agrees { (object_at world.now.objects number).body ≡ Cons car cdr }
     requires pair { (place_at places.now number).cell ≡ false }
     requires filled { CarFilled (view ground.old) world.now places.now number car cdr }
     requires laid { Laid (view ground.old).mem.store.words places.now world.now.objects (length world.now.objects) }
 
     // what is stored
-    ensures filled { OnOk result (Filled (view ground.new) world.now places.now (number + 1)) }
-    ensures laid { OnOk result (Laid (view ground.new).mem.store.words places.now world.now.objects (length world.now.objects)) }
+    ensures stays_filled { OnOk result (Filled (view ground.new) world.now places.now (number + 1)) }
+    ensures stays_laid { OnOk result (Laid (view ground.new).mem.store.words places.now world.now.objects (length world.now.objects)) }
 
     // after a failure, and what is unchanged
     ensures left { OnErr result (HoldsSome (view ground.new) world.now) }
     ensures table { ground.new.table ≡ ground.old.table }
 
     // swap errors
-    ensures tells { Tells (view ground.old).mem (view ground.new).mem steps.old steps.new result }
+    ensures accounted { AccountsForFaults (view ground.old).mem (view ground.new).mem steps.old steps.new result }
 {
     if is_known(cdr, number) {
         return Ok(());
@@ -236,21 +236,21 @@ fn fill_block<M: Memory, L: Ledger>(
 ) -> Result<(), SwapFault>
     requires loadable { IsLoadable world.now }
     requires places { length places.now ≡ length world.now.objects }
-    requires inside { number < length world.now.objects }
-    requires body { (code : ℕ) × ((object_at world.now.objects number).body ≡ Block code fields.now) }
+    requires in_range { number < length world.now.objects }
+    requires agrees { (code : ℕ) × ((object_at world.now.objects number).body ≡ Block code fields.now) }
     requires filled { Filled (view ground.old) world.now places.now number }
     requires laid { Laid (view ground.old).mem.store.words places.now world.now.objects (length world.now.objects) }
 
     // what is stored
-    ensures filled { OnOk result (Filled (view ground.new) world.now places.now (number + 1)) }
-    ensures laid { OnOk result (Laid (view ground.new).mem.store.words places.now world.now.objects (length world.now.objects)) }
+    ensures stays_filled { OnOk result (Filled (view ground.new) world.now places.now (number + 1)) }
+    ensures stays_laid { OnOk result (Laid (view ground.new).mem.store.words places.now world.now.objects (length world.now.objects)) }
 
     // after a failure, and what is unchanged
     ensures left { OnErr result (HoldsSome (view ground.new) world.now) }
     ensures table { ground.new.table ≡ ground.old.table }
 
     // swap errors
-    ensures tells { Tells (view ground.old).mem (view ground.new).mem steps.old steps.new result }
+    ensures accounted { AccountsForFaults (view ground.old).mem (view ground.new).mem steps.old steps.new result }
 {
     let at = block_at(places[number].word);
     for i in 0..fields.len() {
@@ -268,10 +268,10 @@ fn store<M: Memory, L: Ledger>(
     steps: &mut Steps<L>,
 ) -> Result<(), SwapFault>
     requires { at < length (view ground.old).mem.store.words }
-    ensures stored { OnOk result (Stores (view ground.old).mem.store (view ground.new).mem.store at word) }
-    ensures stays { OnErr result (StoresNothing (view ground.old).mem.store (view ground.new).mem.store) }
+    ensures written { OnOk result (Stores (view ground.old).mem.store (view ground.new).mem.store at word) }
+    ensures unchanged { OnErr result (StoresNothing (view ground.old).mem.store (view ground.new).mem.store) }
     ensures table { ground.new.table ≡ ground.old.table }
-    ensures tells { Tells (view ground.old).mem (view ground.new).mem steps.old steps.new result }
+    ensures accounted { AccountsForFaults (view ground.old).mem (view ground.new).mem steps.old steps.new result }
 {
     ground.mem.write(at, word, steps)
 }

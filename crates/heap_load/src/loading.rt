@@ -1,6 +1,6 @@
 //! Loads a world.
 ghost use Rattle.std.specs.Prelude.{◌≡◌, [], false, OnOk};
-ghost use Rattle.mem_port.specs.View.{TellsIf};
+ghost use Rattle.mem_port.specs.View.{AccountsForFaultsIf};
 ghost use Rattle.area_space.specs.View.{view};
 ghost use Rattle.heap_load.specs.Views.{RepresentsGroups, RepresentsSome, RepresentsWorld};
 ghost use Rattle.lisp_graph.specs.World.{IsWorld};
@@ -34,16 +34,16 @@ pub fn load<M: Memory, L: Ledger>(
     steps: &mut Steps<L>,
 ) -> Result<(), LoadFault>
     requires empty { RepresentsWorld (view ground.old) registers.old (emptied world.now) }
-    requires world { IsWorld world.now }
-    requires quotas { FitsQuotas world.now }
-    ensures represents { OnOk result (RepresentsWorld (view ground.new) registers.new world.now) }
+    requires accepted { IsWorld world.now }
+    requires fits { FitsQuotas world.now }
+    ensures represented { OnOk result (RepresentsWorld (view ground.new) registers.new world.now) }
     ensures groups { OnOk result (RepresentsGroups (view ground.new) registers.new world.now) }
     ensures some { RepresentsSome (view ground.new) registers.new world.now }
     ensures regions { ground.new.table.regions ≡ ground.old.table.regions }
 
     // Swap errors: none occurs for a world without objects.
-    ensures tells { TellsIf (view ground.old).mem (view ground.new).mem steps.old steps.new (is_fault result) }
-    ensures bare { world.now.objects ≡ [] → is_fault result ≡ false }
+    ensures accounted { AccountsForFaultsIf (view ground.old).mem (view ground.new).mem steps.old steps.new (is_fault result) }
+    ensures succeeds { world.now.objects ≡ [] → is_fault result ≡ false }
 {
     let nowhere = Place {
         word: Word::null(),

@@ -101,8 +101,8 @@ pub(crate) fn second_code(charge: u32) -> CdrCode
 
 /// Sets the places of `count` cells in consecutive words, from this number on.
 pub(crate) fn put_cells(places: &mut [Place], number: usize, count: usize, from: u32)
-    requires inside { number + count ≤ length places.old }
-    requires below { from + count ≤ 2 ^ 28 }
+    requires in_range { number + count ≤ length places.old }
+    requires at_most { from + count ≤ 2 ^ 28 }
     ensures cells { (i : ℕ) → i < count → place_at places.new (number + i) ≡ cell_place (from + i) }
     ensures before { (i : ℕ) → i < number → place_at places.new i ≡ place_at places.old i }
 {
@@ -117,7 +117,7 @@ pub(crate) fn put_cells(places: &mut [Place], number: usize, count: usize, from:
 /// Sets each register to the word of its root.
 pub(crate) fn set_roots(registers: &mut [Word], roots: &[Value], places: &[Place])
     requires count { length registers.old ≡ length roots.now }
-    requires refer { All (RefersBelow (length places.now)) roots.now }
+    requires refers { All (RefersBelow (length places.now)) roots.now }
     ensures { (r : ℕ) → r < length roots.now → get_or registers.new r null_word ≡ word_of places.now (get_or roots.now r V.Nil) }
 {
     for r in 0..registers.len() {

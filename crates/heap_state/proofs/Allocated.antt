@@ -19,9 +19,9 @@ use Rattle.transporter.specs.lisp_ground.GroundInvariant.{GroundInvariant}
 use Rattle.transporter.specs.lisp_ground.After.{old_on}
 use Rattle.scavenger.specs.Scan.{Scan}
 use Rattle.scavenger.specs.Left.{units_of}
-use Rattle.scavenger.specs.Collecting.{Clean}
+use Rattle.scavenger.specs.Collecting.{ScanInvariant}
 use Rattle.heap_state.specs.HasScannedAhead.{ScansAhead, SweepsAhead}
-use Rattle.heap_state.specs.Aims.{Aims}
+use Rattle.heap_state.specs.PhaseAgrees.{PhaseAgrees}
 use Rattle.heap_state.specs.Represents.{Represents}
 use Rattle.heap_state.specs.RepresentsLater.{RepresentsLater}
 use Rattle.heap_state.specs.Performs.{PerformsOn, AnswersOn}
@@ -36,7 +36,7 @@ use Rattle.heap_state.proofs.Swept.{clean_on, work_on, preserves_work}
 
 -- whether a collection has finished doesn't affect what is represented
 
-over_aims : (t : Table) (over : Bool) (p : Phase) → Aims t p → Aims t (with_over_phase over p)
+over_aims : (t : Table) (over : Bool) (p : Phase) → PhaseAgrees t p → PhaseAgrees t (with_over_phase over p)
 over_aims t over Idle a = a
 over_aims t over (Running c) a = a
 
@@ -148,7 +148,7 @@ module _ (clean : CleanStays) (units : UnitsStay) (m m' : Store) (t t' : Table) 
         }))
 
     module _ (y : RepresentsLater m t m' t' registers' k s after w.charge) where
-      clean_after : Clean m' t' scan registers'
+      clean_after : ScanInvariant m' t' scan registers'
       clean_after = clean_on clean units m m' t t' scan registers registers' k s b (preserves_work p) w.charge after y x v.clean
 
       work_after : scan.over ≡ false → counts.paid + (units_of m' scan t' registers' + old_on m' t' after.store x.aim y.map.at) ≤ counts.owed

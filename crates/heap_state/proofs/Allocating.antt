@@ -22,12 +22,12 @@ use Rattle.transporter.specs.lisp_ground.After.{old_on}
 use Rattle.transporter.specs.lisp_ground.GroundInvariant.{GroundInvariant}
 use Rattle.transporter.proofs.lisp_ground.Accounts.{account_agrees, areas_agree, levels_agree, quota_agrees}
 use Rattle.transporter.specs.Growth.{OpensOrStays}
-use Rattle.transporter.specs.LiveSame.{OnlyGrows}
+use Rattle.transporter.specs.LiveWordsUnchanged.{OnlyGrows}
 use Rattle.transporter.specs.Making.{HasQuota, PlacesNew}
 use Rattle.transporter.specs.Preserving.{FreshOn}
 use Rattle.transporter.proofs.Extended.{end-alive, new-extends}
 use Rattle.transporter.proofs.Preserved.{live-fresh, preserves-then}
-use Rattle.heap_state.specs.Consistent.{IsConsistent}
+use Rattle.heap_state.specs.Consistent.{RepresentsState}
 use Rattle.heap_state.specs.Represents.{Represents}
 use Rattle.heap_state.specs.RepresentsLater.{RepresentsLater, RepresentsSame}
 use Rattle.heap_state.specs.Performs.{AnswersOn, FaultsOn, Performs, PerformsAt}
@@ -57,7 +57,7 @@ pub fits_quota : (s : State) (area level charge : ℕ) → HasQuota s.space.leve
 fits_quota s area level charge q = over_false (rule_of s.areas area).quota (account_now s area + charge) q.fits
 
 -- it allows as much after registers were settled
-pub account_same : (m m' : Store) (t t' : Table) (registers registers' : List Parts) (area : ℕ) → IsConsistent m t registers → RepresentsSame m t registers m' t' registers' → account_of t' area ≡ account_of t area
+pub account_same : (m m' : Store) (t t' : Table) (registers registers' : List Parts) (area : ℕ) → RepresentsState m t registers → RepresentsSame m t registers m' t' registers' → account_of t' area ≡ account_of t area
 account_same m m' t t' registers registers' area x represented =
     let y = represented x.map x.state x.represents x.reach in
     account_agrees m' t' y.map x.state.space.levels x.state.areas x.state.store (aim_of x.state.phase) y.represents.kept area

@@ -15,12 +15,12 @@ use Rattle.transporter.proofs.lisp_meaning.Frames.{refined}
 use Rattle.transporter.specs.lisp_ground.After.{old_on}
 use Rattle.transporter.proofs.lisp_ground.Storing.{kept_on_same}
 use Rattle.transporter.specs.Settling.{IsKeptValue}
-use Rattle.heap_state.specs.Aims.{Aims}
+use Rattle.heap_state.specs.PhaseAgrees.{PhaseAgrees}
 use Rattle.heap_state.specs.Laws.{KeptRegister, RepresentsTwice, ReadOn, RegisterSet}
 
 -- a collection keeps each register's value
 
-kept_value : (t : Table) (s : State) (r region : ℕ) (p : Phase) → Aims t p → Reach s p → IsOld t region → IsKeptValue t s.registers s.store (aim_of p) (get_or s.registers r V.Nil)
+kept_value : (t : Table) (s : State) (r region : ℕ) (p : Phase) → PhaseAgrees t p → Reach s p → IsOld t region → IsKeptValue t s.registers s.store (aim_of p) (get_or s.registers r V.Nil)
 kept_value t s r region Idle aims reach old = absurd (aims.1 region old)
 kept_value t s r region (Running c) aims reach old = record {
   running = aims;

@@ -17,12 +17,12 @@ use Rattle.transporter.specs.lisp_meaning.Sound.{Reach}
 use Rattle.transporter.specs.lisp_meaning.Step.{may_fault}
 use Rattle.transporter.specs.lisp_ground.After.{old_on}
 use Rattle.transporter.specs.Settled.{MeansOn}
-use Rattle.transporter.specs.Settling.{HasOld}
-use Rattle.transporter.specs.Preserving.{AllFresh, PreservesScanned}
+use Rattle.transporter.specs.Settling.{RefersToOld}
+use Rattle.transporter.specs.Preserving.{NoOldAddresses, PreservesScanned}
 use Rattle.transporter.specs.Marking.{MarksFollow}
 use Rattle.transporter.proofs.Marked.{marks-read, marks-then}
 use Rattle.transporter.proofs.Preserved.{fresh-value, read-stays_fresh, read-preserves, preserves-then}
-use Rattle.heap_state.specs.Consistent.{IsConsistent}
+use Rattle.heap_state.specs.Consistent.{RepresentsState}
 use Rattle.heap_state.specs.Represents.{Represents}
 use Rattle.heap_state.specs.RepresentsLater.{RepresentsLater}
 use Rattle.heap_state.specs.Performs.{AnswersOn, FaultsOn, Performs}
@@ -53,8 +53,8 @@ pub record Fetches (m : Store) (t : Table) (m' : Store) (t' : Table) (k : RoleMa
 abbrev pub FetchesAll : Store → Table → List Parts → Store → Table → Command → ℕ → Parts → Type 0
 FetchesAll m t registers m' t' c to word = (k : RoleMap) (s : State) → Represents m t registers k s → Reach s s.phase → Fetches m t m' t' k s c to word
 
-module _ (m m1 m2 : Store) (t t1 : Table) (registers : List Parts) (c : Command) (to from : ℕ) (word : Parts) (reply : Reply) (consistent : IsConsistent m t registers) (to_in : to < length registers) (from_in : from < length registers) (settled : IsSettled t registers from)
-    (only : (i : ℕ) → IsTrue (reads c i) → i ≡ from) (fetches : FetchesAll m t registers m1 t1 c to word) (young : HasOld t1 word → ⊥) (preserves : PreservesScanned m t m1 t1) (stays_fresh : AllFresh m t → AllFresh m1 t1) (marks : MarksFollow m t m1 t1) where
+module _ (m m1 m2 : Store) (t t1 : Table) (registers : List Parts) (c : Command) (to from : ℕ) (word : Parts) (reply : Reply) (consistent : RepresentsState m t registers) (to_in : to < length registers) (from_in : from < length registers) (settled : IsSettled t registers from)
+    (only : (i : ℕ) → IsTrue (reads c i) → i ≡ from) (fetches : FetchesAll m t registers m1 t1 c to word) (young : RefersToOld t1 word → ⊥) (preserves : PreservesScanned m t m1 t1) (stays_fresh : NoOldAddresses m t → NoOldAddresses m1 t1) (marks : MarksFollow m t m1 t1) where
   -- the word has a value
   means_here : MeansOn m t m1 t1 consistent.map consistent.state.space.levels consistent.state.areas consistent.state.store (aim_of consistent.state.phase) word (fetches consistent.map consistent.state consistent.represents consistent.reach).value
   means_here = (fetches consistent.map consistent.state consistent.represents consistent.reach).means
@@ -118,8 +118,8 @@ module _ (m m1 m2 : Store) (t t1 : Table) (registers : List Parts) (c : Command)
   ]
 
 -- the same for what the call returned
-pub answer_performs : (m m1 m2 : Store) (t t1 : Table) (registers : List Parts) (c : Command) (to from : ℕ) (word : Parts) (r : Result Reply SwapFault) → IsConsistent m t registers → to < length registers → from < length registers → IsSettled t registers from
-    → ((i : ℕ) → IsTrue (reads c i) → i ≡ from) → FetchesAll m t registers m1 t1 c to word → (HasOld t1 word → ⊥) → PreservesScanned m t m1 t1 → (AllFresh m t → AllFresh m1 t1) → MarksFollow m t m1 t1
+pub answer_performs : (m m1 m2 : Store) (t t1 : Table) (registers : List Parts) (c : Command) (to from : ℕ) (word : Parts) (r : Result Reply SwapFault) → RepresentsState m t registers → to < length registers → from < length registers → IsSettled t registers from
+    → ((i : ℕ) → IsTrue (reads c i) → i ≡ from) → FetchesAll m t registers m1 t1 c to word → (RefersToOld t1 word → ⊥) → PreservesScanned m t m1 t1 → (NoOldAddresses m t → NoOldAddresses m1 t1) → MarksFollow m t m1 t1
     → (registers' : List Parts) → IsTrue (may_fault c) → StoresNothing m1 m2 → IfOk r (Shows m1.words word.content) → IfOk r (λ reply. reply ≢ R.Fault) → OnOk r (registers' ≡ slice_set registers to word) → OnErr r (registers' ≡ registers)
     → Performs m t registers m2 t1 registers' c (reply_of r)
 answer_performs m m1 m2 t t1 registers c to from word (Ok reply) consistent to_in from_in settled only fetches young preserves stays_fresh marks registers' may stays shows sure set kept =

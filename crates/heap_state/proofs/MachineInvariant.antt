@@ -17,14 +17,14 @@ use Rattle.scavenger.specs.Scan.{Scan}
 use Rattle.scavenger.specs.Left.{rest_of}
 use Rattle.transporter.specs.lisp_ground.Collecting.{StandsOn}
 use Rattle.transporter.proofs.lisp_ground.Standings.{not_old_region}
-use Rattle.heap_state.specs.Aims.{Aims}
+use Rattle.heap_state.specs.PhaseAgrees.{PhaseAgrees}
 use Rattle.heap_state.specs.Represents.{Represents}
 use Rattle.heap_state.specs.RepresentsAll.{RepresentsAll}
-use Rattle.heap_state.specs.Laws.{IsSwept, RepresentsIsStands}
+use Rattle.heap_state.specs.Laws.{ScanMatchesPhase, RepresentsIsStands}
 use Rattle.heap_state.specs.Scans.{Scans}
 
 module _ (m : Store) (t : Table) (scan : Scan) (registers : List Parts) (k : RoleMap) (s : State) (b : Represents m t registers k s) where
-  phase_of : (p : Phase) → Aims t p → Scans m t scan registers k s.store p 0 → PhaseOf (image_of m t (rest_of scan t registers)) p
+  phase_of : (p : Phase) → PhaseAgrees t p → Scans m t scan registers k s.store p 0 → PhaseOf (image_of m t (rest_of scan t registers)) p
   phase_of Idle a x = (
     a.0,
     λ at. elim (cases_Bool (old_at (image_of m t (rest_of scan t registers)) at)) [
@@ -51,7 +51,7 @@ module _ (m : Store) (t : Table) (scan : Scan) (registers : List Parts) (k : Rol
 -- and conversely
 
 module _ (m : Store) (t : Table) (scan : Scan) (registers : List Parts) (k : RoleMap) (s : State) (x : StandsOn m t (rest_of scan t registers) k s) where
-  aims_of : (p : Phase) → PhaseOf (image_of m t (rest_of scan t registers)) p → Aims t p
+  aims_of : (p : Phase) → PhaseOf (image_of m t (rest_of scan t registers)) p → PhaseAgrees t p
   aims_of Idle phase = (phase.0, none)
     where
       none : (region : ℕ) → IsOld t region → ⊥
@@ -60,11 +60,11 @@ module _ (m : Store) (t : Table) (scan : Scan) (registers : List Parts) (k : Rol
           not_old_region m t (rest_of scan t registers) x.ground.table (4096 * region) (phase.1 (4096 * region)) (subst (λ (i : ℕ). IsOld t i) (sym here) old)
   aims_of (Running c) phase = phase.0
 
-  scans_of : (p : Phase) → IsSwept m t scan registers p → Work (image_of m t (rest_of scan t registers)) s.store k.at p → Scans m t scan registers k s.store p 0
+  scans_of : (p : Phase) → ScanMatchesPhase m t scan registers p → Work (image_of m t (rest_of scan t registers)) s.store k.at p → Scans m t scan registers k s.store p 0
   scans_of Idle swept work = swept
   scans_of (Running c) swept work = record { clean = swept.0; over = swept.1; work = λ going. (let w = work going in omega arith) }
 
-  pub represents_by : IsSwept m t scan registers s.phase → MarksHold m → RepresentsAll m t scan registers k s
+  pub represents_by : ScanMatchesPhase m t scan registers s.phase → MarksHold m → RepresentsAll m t scan registers k s
   represents_by swept marks = record {
     represents = record { kept = x.ground; count = x.strong.count; means = x.strong.registers; aims = aims_of s.phase x.strong.phase };
     scans = scans_of s.phase swept x.strong.work;

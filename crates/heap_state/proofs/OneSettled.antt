@@ -15,21 +15,21 @@ use Rattle.transporter.specs.lisp_meaning.State.{State, Phase, Idle, Running, Co
 use Rattle.transporter.specs.lisp_meaning.State as M
 use Rattle.transporter.specs.lisp_meaning.Roles.{RoleMap, value_of}
 use Rattle.transporter.specs.lisp_meaning.Sound.{Reach}
-use Rattle.transporter.specs.LiveSame.{OnlyGrows}
-use Rattle.transporter.specs.Settling.{reference_of, HasOld, CanSettle, IsSettleable, Settles, SettlesOn}
+use Rattle.transporter.specs.LiveWordsUnchanged.{OnlyGrows}
+use Rattle.transporter.specs.Settling.{reference_of, RefersToOld, CanSettle, IsSettleable, Settles, SettlesOn}
 use Rattle.transporter.specs.Preserving.{FreshOn, RegistersPreserved, PreservesScanned}
-use Rattle.transporter.specs.Transports.{StaysOn}
+use Rattle.transporter.specs.Transports.{WordsUnchanged}
 use Rattle.transporter.proofs.Alive.{old-before}
 use Rattle.transporter.proofs.Preserved.{fresh-grown, fresh-value}
-use Rattle.heap_state.specs.Aims.{Aims}
-use Rattle.heap_state.specs.Consistent.{IsConsistent}
+use Rattle.heap_state.specs.PhaseAgrees.{PhaseAgrees}
+use Rattle.heap_state.specs.Consistent.{RepresentsState}
 use Rattle.heap_state.specs.Represents.{Represents}
 use Rattle.heap_state.specs.RepresentsLater.{RepresentsSame}
-use Rattle.heap_state.specs.Settled.{IsSettled, RegistersFresh}
+use Rattle.heap_state.specs.Settled.{IsSettled, NoOldAddressesInRegisters}
 use Rattle.heap_state.proofs.Changing.{kept_register, later_means, represented_twice}
 
 -- what the table records of the collection is unchanged if it only grows
-pub aims_grown : (t t' : Table) (p : Phase) → OnlyGrows t t' → Aims t p → Aims t' p
+pub aims_grown : (t t' : Table) (p : Phase) → OnlyGrows t t' → PhaseAgrees t p → PhaseAgrees t' p
 aims_grown t t' Idle g a = (g.aim ∙ a.0, λ region old. a.1 region (old-before g old))
 aims_grown t t' (Running c) g a = g.aim ∙ a
 
@@ -46,13 +46,13 @@ reference_address Null at e = absurd (let x : None ≡ Some at = e in cc)
 reference_address NilWord at e = absurd (let x : None ≡ Some at = e in cc)
 
 -- a fresh word has no old address
-pub fresh_settled : (t : Table) (w : Parts) → FreshOn t w.content → HasOld t w → ⊥
+pub fresh_settled : (t : Table) (w : Parts) → FreshOn t w.content → RefersToOld t w → ⊥
 fresh_settled t w fresh old = fresh old.0 (reference_address w.content old.0 old.1) old.2
 
 -- a settled register stays settled if the table grows and registers are preserved
 pub settled_on : (t t' : Table) (registers registers' : List Parts) (r : ℕ) → OnlyGrows t t' → RegistersPreserved t' registers registers' → r < length registers → IsSettled t registers r → IsSettled t' registers' r
 settled_on t t' registers registers' r g x low settled = elim (x.each r low) [
-  | inl same ↦ λ old. settled (let was = subst (λ (w : Parts). HasOld t' w) same old in (was.0, was.1, old-before g was.2))
+  | inl same ↦ λ old. settled (let was = subst (λ (w : Parts). RefersToOld t' w) same old in (was.0, was.1, old-before g was.2))
   | inr fresh ↦ fresh_settled t' (get_or registers' r null_word) fresh
 ]
 
@@ -73,7 +73,7 @@ registers_then t t' r0 r1 r2 g x y = record {
   ];
 }
 
-pub registers_fresh : (t t' : Table) (registers registers' : List Parts) → OnlyGrows t t' → RegistersPreserved t' registers registers' → RegistersFresh t registers → RegistersFresh t' registers'
+pub registers_fresh : (t t' : Table) (registers registers' : List Parts) → OnlyGrows t t' → RegistersPreserved t' registers registers' → NoOldAddressesInRegisters t registers → NoOldAddressesInRegisters t' registers'
 registers_fresh t t' registers registers' g x fresh r low =
     let count = x.count in
     let here : r < length registers = omega arith in
@@ -84,7 +84,7 @@ registers_fresh t t' registers registers' g x fresh r low =
 
 -- What a caller must ensure
 
-pub consistent_on : (m m' : Store) (t t' : Table) (registers registers' : List Parts) → IsConsistent m t registers → RepresentsSame m t registers m' t' registers' → IsConsistent m' t' registers'
+pub consistent_on : (m m' : Store) (t t' : Table) (registers registers' : List Parts) → RepresentsState m t registers → RepresentsSame m t registers m' t' registers' → RepresentsState m' t' registers'
 consistent_on m m' t t' registers registers' x represented =
     let y = represented x.map x.state x.represents x.reach in
     record { map = y.map; state = x.state; represents = y.represents; reach = x.reach; some = x.some }
@@ -107,7 +107,7 @@ register_can m t registers k s r b reach low =
       survives = λ old. kept_register m t registers k s r _ b reach here old.2;
     }
 
-pub register_settleable : (m : Store) (t : Table) (registers : List Parts) (r : ℕ) → IsConsistent m t registers → r < length registers → IsSettleable m t (get_or registers r null_word)
+pub register_settleable : (m : Store) (t : Table) (registers : List Parts) (r : ℕ) → RepresentsState m t registers → r < length registers → IsSettleable m t (get_or registers r null_word)
 register_settleable m t registers r x low = record {
   map = x.map;
   top = x.state.space.levels;
@@ -119,7 +119,7 @@ register_settleable m t registers r x low = record {
   can = register_can m t registers x.map x.state r x.represents x.reach low;
 }
 
-pub stays_represented : (m m' : Store) (t t' : Table) (registers : List Parts) → OnlyGrows t t' → StaysOn m t m' t' → RepresentsSame m t registers m' t' registers
+pub stays_represented : (m m' : Store) (t t' : Table) (registers : List Parts) → OnlyGrows t t' → WordsUnchanged m t m' t' → RepresentsSame m t registers m' t' registers
 stays_represented m m' t t' registers g x k s b reach =
     let placed = x.placed in
     let old = x.old k s.space.levels s.areas s.store (aim_of s.phase) b.kept in
@@ -162,7 +162,7 @@ module _ (m m' : Store) (t t' : Table) (registers : List Parts) (r : ℕ) (new :
         work = omega arith;
       }
 
-  pub settled_others : IsConsistent m t registers → RegistersPreserved t' registers (slice_set registers r new)
+  pub settled_others : RepresentsState m t registers → RegistersPreserved t' registers (slice_set registers r new)
   settled_others x =
       let on = settles_as x.map x.state x.represents x.reach in
       let count = x.represents.count in

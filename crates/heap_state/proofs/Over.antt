@@ -12,7 +12,7 @@ use Rattle.transporter.specs.lisp_meaning.Units.{NothingLeft}
 use Rattle.transporter.specs.lisp_ground.Image.{image_of}
 use Rattle.scavenger.specs.Scan.{Scan}
 use Rattle.scavenger.specs.Left.{rest_of, register_left, word_left, units_of}
-use Rattle.scavenger.specs.Collecting.{Clean}
+use Rattle.scavenger.specs.Collecting.{ScanInvariant}
 use Rattle.heap_state.specs.Laws.{AtLast}
 
 one : (b : Bool) → if_true b 1 ≡ 0 → b ≡ false
@@ -29,7 +29,7 @@ none_counted p (suc n) e i l = go (cases_eq i n) (total-suc (λ i. if_true (p i)
     go (inl q) s r = ap p q ∙ one (p n) (omega arith)
     go (inr ne) s r = r (omega arith) (omega arith)
 
-pub some_left : (m : Store) (t : Table) (scan : Scan) (registers : List Parts) → Clean m t scan registers → scan.over ≡ false → 0 < units_of m scan t registers
+pub some_left : (m : Store) (t : Table) (scan : Scan) (registers : List Parts) → ScanInvariant m t scan registers → scan.over ≡ false → 0 < units_of m scan t registers
 some_left m t scan registers clean going = go (cases_lt 0 (units_of m scan t registers))
   where
     go : (0 < units_of m scan t registers) ⊎ (units_of m scan t registers ≤ 0) → 0 < units_of m scan t registers
@@ -49,7 +49,7 @@ at_last m t scan registers k s c x going =
     omega arith
 
 -- a transition that scanned records correctly whether a scan has finished, if while units remain at least that number are owed and not paid
-pub told_over : (m : Store) (t : Table) (scan : Scan) (registers : List Parts) (s after : State) (before counts : Collection) (scanned : Bool) → s.phase ≡ Running before → after.phase ≡ Running counts → scanned ≡ true → (before.over ≡ true → scan.over ≡ true) → Clean m t scan registers
+pub told_over : (m : Store) (t : Table) (scan : Scan) (registers : List Parts) (s after : State) (before counts : Collection) (scanned : Bool) → s.phase ≡ Running before → after.phase ≡ Running counts → scanned ≡ true → (before.over ≡ true → scan.over ≡ true) → ScanInvariant m t scan registers
     → (scan.over ≡ false → counts.paid + units_of m scan t registers ≤ counts.owed) → IsOverAfter s scanned after scan.over
 told_over m t scan registers s after before counts scanned was runs scans stays clean work = record {
   stays = λ over. stays (sym (ap is_over was) ∙ over);

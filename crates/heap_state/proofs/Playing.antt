@@ -17,17 +17,17 @@ use Rattle.transporter.specs.lisp_meaning.Step.{counted, counted_phase, may_faul
 use Rattle.transporter.specs.lisp_ground.GroundInvariant.{GroundInvariant}
 use Rattle.transporter.specs.lisp_ground.After.{old_on}
 use Rattle.transporter.proofs.lisp_ground.Storing.{kept_on_same}
-use Rattle.transporter.specs.LiveSame.{OnlyGrows}
-use Rattle.transporter.specs.Preserving.{AllFresh, FreshOn, RegistersPreserved, PreservesScanned}
-use Rattle.transporter.specs.Transports.{LaterOn}
+use Rattle.transporter.specs.LiveWordsUnchanged.{OnlyGrows}
+use Rattle.transporter.specs.Preserving.{NoOldAddresses, FreshOn, RegistersPreserved, PreservesScanned}
+use Rattle.transporter.specs.Transports.{RepresentedByLaterMap}
 use Rattle.transporter.specs.Marking.{MarksFollow}
 use Rattle.transporter.proofs.Marked.{marks-read, marks-then}
 use Rattle.transporter.proofs.Preserved.{read-stays_fresh, read-preserves, preserves-then}
-use Rattle.heap_state.specs.Aims.{Aims}
+use Rattle.heap_state.specs.PhaseAgrees.{PhaseAgrees}
 use Rattle.heap_state.specs.Represents.{Represents}
 use Rattle.heap_state.specs.RepresentsLater.{RepresentsLater, RepresentsSame}
 use Rattle.heap_state.specs.Performs.{AnswersOn, FaultsOn, Performs}
-use Rattle.heap_state.specs.Settled.{RegistersFresh}
+use Rattle.heap_state.specs.Settled.{NoOldAddressesInRegisters}
 use Rattle.heap_state.proofs.Changing.{represented_twice, later_means, read_on}
 use Rattle.heap_state.proofs.Marked.{marks_after, marks_of}
 use Rattle.heap_state.proofs.OneSettled.{aims_grown, registers_fresh, registers_same, registers_then}
@@ -38,7 +38,7 @@ aim_counted : (owed paid : ℕ) (p : Phase) → aim_of (counted_phase owed paid 
 aim_counted owed paid Idle = refl
 aim_counted owed paid (Running c) = refl
 
-aims_counted : (t : Table) (owed paid : ℕ) (p : Phase) → Aims t p → Aims t (counted_phase owed paid p)
+aims_counted : (t : Table) (owed paid : ℕ) (p : Phase) → PhaseAgrees t p → PhaseAgrees t (counted_phase owed paid p)
 aims_counted t owed paid Idle aims = aims
 aims_counted t owed paid (Running c) aims = aims
 
@@ -68,10 +68,10 @@ no_more m m' t t' registers' k s s' n x = record { map = x.map; represents = x.r
 -- What is represented is unchanged
 
 -- the same objects by a later map
-pub later_represents : (m m' : Store) (t t' : Table) (registers : List Parts) (k : RoleMap) (s : State) → OnlyGrows t t' → Represents m t registers k s → (x : LaterOn m t m' t' k s.space.levels s.areas s.store (aim_of s.phase)) → Represents m' t' registers x.map s
+pub later_represents : (m m' : Store) (t t' : Table) (registers : List Parts) (k : RoleMap) (s : State) → OnlyGrows t t' → Represents m t registers k s → (x : RepresentedByLaterMap m t m' t' k s.space.levels s.areas s.store (aim_of s.phase)) → Represents m' t' registers x.map s
 later_represents m m' t t' registers k s g b x = record { kept = x.kept; count = b.count; means = later_means k x.map registers s.registers x.refines b.means; aims = aims_grown t t' s.phase g b.aims }
 
-pub later_represented : (m m' : Store) (t t' : Table) (registers : List Parts) (k : RoleMap) (s : State) → OnlyGrows t t' → Represents m t registers k s → LaterOn m t m' t' k s.space.levels s.areas s.store (aim_of s.phase)
+pub later_represented : (m m' : Store) (t t' : Table) (registers : List Parts) (k : RoleMap) (s : State) → OnlyGrows t t' → Represents m t registers k s → RepresentedByLaterMap m t m' t' k s.space.levels s.areas s.store (aim_of s.phase)
     → RepresentsLater m t m' t' registers k s s 0
 later_represented m m' t t' registers k s g b x = record { map = x.map; represents = later_represents m m' t t' registers k s g b x; refines = x.refines; work = (let w = x.work in omega arith) }
 
@@ -84,7 +84,7 @@ pub record Leaves (m : Store) (t : Table) (registers : List Parts) (m' : Store) 
   pub represented : RepresentsSame m t registers m' t' registers'
   pub preserves : PreservesScanned m t m' t'
   pub others : RegistersPreserved t' registers registers'
-  pub stays_fresh : RegistersFresh t registers → AllFresh m t → AllFresh m' t'
+  pub stays_fresh : NoOldAddressesInRegisters t registers → NoOldAddresses m t → NoOldAddresses m' t'
   pub marks : MarksFollow m t m' t'
 
 -- and nothing was stored after it

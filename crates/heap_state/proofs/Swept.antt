@@ -15,30 +15,30 @@ use Rattle.transporter.specs.lisp_meaning.Stands.{Fresh}
 use Rattle.transporter.specs.lisp_ground.Image.{Rest, image_of}
 use Rattle.transporter.specs.lisp_ground.After.{old_on}
 use Rattle.transporter.proofs.lisp_ground.Standings.{live_standing, not_old_region}
-use Rattle.transporter.specs.Preserving.{AllFresh, FreshOn, PreservesScanned, RegistersPreserved}
+use Rattle.transporter.specs.Preserving.{NoOldAddresses, FreshOn, PreservesScanned, RegistersPreserved}
 use Rattle.transporter.proofs.Fetched.{live-inside}
 use Rattle.scavenger.specs.Scan.{Scan}
 use Rattle.scavenger.specs.Left.{register_left, word_left, rest_of, units_of}
-use Rattle.scavenger.specs.Collecting.{Clean}
+use Rattle.scavenger.specs.Collecting.{ScanInvariant}
 use Rattle.scavenger.specs.Laws.{CleanStays, UnitsStay}
 use Rattle.heap_state.specs.Represents.{Represents}
 use Rattle.heap_state.specs.RepresentsLater.{RepresentsLater}
 use Rattle.heap_state.specs.Performs.{PerformsOn}
 use Rattle.heap_state.specs.Scans.{IsScanless}
-use Rattle.heap_state.specs.Settled.{RegistersFresh}
+use Rattle.heap_state.specs.Settled.{NoOldAddressesInRegisters}
 
 image_fresh : (m : Store) (t : Table) (rest : Rest) (content : Content) → IsTable t → Fresh (image_of m t rest) content → FreshOn t content
 image_fresh m t rest content v fresh b e old = not_old_region m t rest v b (fresh b e) old
 
 -- if a scan has finished, registers and words are fresh
-module _ (m : Store) (t : Table) (scan : Scan) (registers : List Parts) (v : IsTable t) (g : IsGround m t) (x : Clean m t scan registers) (over : scan.over ≡ true) where
-  pub over_registers : RegistersFresh t registers
+module _ (m : Store) (t : Table) (scan : Scan) (registers : List Parts) (v : IsTable t) (g : IsGround m t) (x : ScanInvariant m t scan registers) (over : scan.over ≡ true) where
+  pub over_registers : NoOldAddressesInRegisters t registers
   over_registers r low = image_fresh m t (rest_of scan t registers) (get_or registers r null_word).content v (x.scanned.registers r low (done r))
     where
       done : (r : ℕ) → register_left scan r ≡ false
       done r = cc
 
-  pub over_words : AllFresh m t
+  pub over_words : NoOldAddresses m t
   over_words a live =
       image_fresh m t (rest_of scan t registers) (word_at m.words a).content v
       (x.scanned.words a (live-inside m v g.size live) (live_standing m t (rest_of scan t registers) v a live.live) (shut a))
@@ -50,7 +50,7 @@ module _ (m : Store) (t : Table) (scan : Scan) (registers : List Parts) (v : IsT
 pub record PreservesWork (m : Store) (t : Table) (registers : List Parts) (m' : Store) (t' : Table) (registers' : List Parts) : Type 0 where
   pub preserves : PreservesScanned m t m' t'
   pub others : RegistersPreserved t' registers registers'
-  pub stays_fresh : RegistersFresh t registers → AllFresh m t → AllFresh m' t'
+  pub stays_fresh : NoOldAddressesInRegisters t registers → NoOldAddresses m t → NoOldAddresses m' t'
 
 pub preserves_work : {m m' : Store} {t t' : Table} {registers registers' : List Parts} {c : Command} {r : Reply} {k : RoleMap} {s : State} → PerformsOn m t registers m' t' registers' c r k s → PreservesWork m t registers m' t' registers'
 preserves_work p = record { preserves = p.preserves; others = p.others; stays_fresh = p.stays_fresh }
@@ -61,12 +61,12 @@ module _ (clean : CleanStays) (units : UnitsStay) (m m' : Store) (t t' : Table) 
   scanless_on x = record { over = x.over; count = p.others.count ∙ x.count; pages = x.pages ∙ ap (λ (n : ℕ). 16 * n) (sym p.preserves.grows.form.regions) }
 
   -- by a change that places no more than it owes
-  module _ (owed : ℕ) (s' : State) (y : RepresentsLater m t m' t' registers' k s s' owed) (x : Collection) (w : Clean m t scan registers) where
-    pub clean_on : Clean m' t' scan registers'
+  module _ (owed : ℕ) (s' : State) (y : RepresentsLater m t m' t' registers' k s s' owed) (x : Collection) (w : ScanInvariant m t scan registers) where
+    pub clean_on : ScanInvariant m' t' scan registers'
     clean_on =
         let v = b.kept.table in
         let g = b.kept.ground in
-        let stays_fresh : scan.over ≡ true → AllFresh m' t' = λ over. p.stays_fresh (over_registers m t scan registers v g w over) (over_words m t scan registers v g w over) in
+        let stays_fresh : scan.over ≡ true → NoOldAddresses m' t' = λ over. p.stays_fresh (over_registers m t scan registers v g w over) (over_words m t scan registers v g w over) in
         clean m m' t t' scan registers registers' v g y.represents.kept.table y.represents.kept.ground w p.preserves p.others stays_fresh
 
     pub work_on : s.phase ≡ Running x → aim_of s'.phase ≡ x.aim

@@ -9,7 +9,7 @@ use Rattle.transporter.specs.lisp_meaning.Sound.{Reach}
 use Rattle.heap_state.specs.Represents.{Represents}
 
 -- they represent some state, in which a collection keeps what the registers lead to, and which has an area
-pub record IsConsistent (m : Store) (t : Table) (registers : List Parts) : Type 0 where
+pub record RepresentsState (m : Store) (t : Table) (registers : List Parts) : Type 0 where
   pub map : RoleMap
   pub state : State
   pub represents : Represents m t registers map state

@@ -9,13 +9,13 @@ use Rattle.transporter.specs.lisp_meaning.Roles.{RoleMap}
 use Rattle.transporter.specs.lisp_ground.After.{old_on}
 use Rattle.scavenger.specs.Scan.{Scan}
 use Rattle.scavenger.specs.Left.{units_of}
-use Rattle.scavenger.specs.Collecting.{Clean}
+use Rattle.scavenger.specs.Collecting.{ScanInvariant}
 use Rattle.heap_state.specs.RepresentsLater.{RepresentsLater}
 use Rattle.heap_state.specs.Scans.{IsScanless}
 
 -- a collection's scan, of which `ahead` more units were scanned than are paid, or all that remained
 pub record SweepsAhead (m : Store) (t : Table) (scan : Scan) (registers : List Parts) (k : RoleMap) (s : M.Store) (c : Collection) (ahead : ℕ) : Type 0 where
-  pub clean : Clean m t scan registers
+  pub clean : ScanInvariant m t scan registers
   pub over : c.over ≡ true → scan.over ≡ true
   pub work : scan.over ≡ false → c.paid + ahead + (units_of m scan t registers + old_on m t s c.aim k.at) ≤ c.owed
 

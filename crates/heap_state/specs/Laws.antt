@@ -19,7 +19,7 @@ use Rattle.transporter.specs.lisp_ground.Collecting.{StandsOn}
 use Rattle.transporter.specs.Settling.{IsKeptValue}
 use Rattle.scavenger.specs.Scan.{Scan}
 use Rattle.scavenger.specs.Left.{rest_of}
-use Rattle.scavenger.specs.Collecting.{Clean}
+use Rattle.scavenger.specs.Collecting.{ScanInvariant}
 use Rattle.heap_state.specs.HasScannedAhead.{ScansAhead}
 use Rattle.heap_state.specs.Represents.{Represents}
 use Rattle.heap_state.specs.RepresentsAll.{RepresentsAll}
@@ -69,15 +69,15 @@ IsMachineInvariant = (m : Store) (t : Table) (scan : Scan) (registers : List Par
     → Represents m t registers k s → Scans m t scan registers k s.store s.phase 0 → Reach s s.phase → MarksHold m → MachineInvariant (image_of m t (rest_of scan t registers)) k s
 
 -- the scan set has the machine's sizes, and while no collection runs no unit remains; while one runs it is clean
-abbrev pub IsSwept : Store → Table → Scan → List Parts → Phase → Type 0
-IsSwept m t scan registers Idle = IsScanless t scan registers
-IsSwept m t scan registers (Running c) = Clean m t scan registers × (scan.over ≡ c.over)
+abbrev pub ScanMatchesPhase : Store → Table → Scan → List Parts → Phase → Type 0
+ScanMatchesPhase m t scan registers Idle = IsScanless t scan registers
+ScanMatchesPhase m t scan registers (Running c) = ScanInvariant m t scan registers × (scan.over ≡ c.over)
 
 -- what is represented is what a machine represents, and conversely
 pub record RepresentsIsStands : Type 0 where
   pub stands : (m : Store) (t : Table) (scan : Scan) (registers : List Parts) (k : RoleMap) (s : State) → RepresentsAll m t scan registers k s → StandsOn m t (rest_of scan t registers) k s
   pub represents : (m : Store) (t : Table) (scan : Scan) (registers : List Parts) (k : RoleMap) (s : State)
-      → StandsOn m t (rest_of scan t registers) k s → IsSwept m t scan registers s.phase → MarksHold m → RepresentsAll m t scan registers k s
+      → StandsOn m t (rest_of scan t registers) k s → ScanMatchesPhase m t scan registers s.phase → MarksHold m → RepresentsAll m t scan registers k s
 
 -- Changes of what is represented
 

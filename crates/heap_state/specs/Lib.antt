@@ -1,5 +1,5 @@
 pub mod HasScannedAhead
-pub mod Aims
+pub mod PhaseAgrees
 pub mod Consistent
 pub mod Represents
 pub mod RepresentsAll

@@ -12,12 +12,12 @@ use Rattle.transporter.specs.lisp_meaning.Flip.{graph_of}
 use Rattle.transporter.specs.lisp_meaning.Roles.{RoleMap}
 use Rattle.transporter.specs.lisp_meaning.Sound.{Reach}
 use Rattle.transporter.specs.lisp_meaning.Step.{answer_of, may_fault}
-use Rattle.transporter.specs.Preserving.{AllFresh, PreservesScanned, RegistersPreserved}
+use Rattle.transporter.specs.Preserving.{NoOldAddresses, PreservesScanned, RegistersPreserved}
 use Rattle.heap_state.specs.Marks.{MarksOf}
 use Rattle.heap_state.specs.Represents.{Represents}
 use Rattle.heap_state.specs.RepresentsLater.{RepresentsLater}
 use Rattle.heap_state.specs.Reads.{reads, IsDone}
-use Rattle.heap_state.specs.Settled.{RegistersFresh, IsSettled}
+use Rattle.heap_state.specs.Settled.{NoOldAddressesInRegisters, IsSettled}
 use Rattle.heap_state.specs.Wanting.{owed_wanting}
 
 -- a swap error occurred, and what was represented is represented
@@ -37,7 +37,7 @@ pub record Performs (m : Store) (t : Table) (registers : List Parts) (m' : Store
   pub performed : (k : RoleMap) (s : State) → Represents m t registers k s → Reach s s.phase → FaultsOn m t m' t' registers' c r k s ⊎ AnswersOn m t m' t' registers' c r k s
   pub preserves : PreservesScanned m t m' t'
   pub others : RegistersPreserved t' registers registers'
-  pub stays_fresh : RegistersFresh t registers → AllFresh m t → AllFresh m' t'
+  pub stays_fresh : NoOldAddressesInRegisters t registers → NoOldAddresses m t → NoOldAddresses m' t'
   pub marks : MarksOf c r m t m' t'
   -- each register that was read is settled, if the command was done
   pub settled : IsDone r → (i : ℕ) → IsTrue (reads c i) → IsSettled t' registers' i
@@ -47,7 +47,7 @@ pub record PerformsOn (m : Store) (t : Table) (registers : List Parts) (m' : Sto
   pub performed : FaultsOn m t m' t' registers' c r k s ⊎ AnswersOn m t m' t' registers' c r k s
   pub preserves : PreservesScanned m t m' t'
   pub others : RegistersPreserved t' registers registers'
-  pub stays_fresh : RegistersFresh t registers → AllFresh m t → AllFresh m' t'
+  pub stays_fresh : NoOldAddressesInRegisters t registers → NoOldAddresses m t → NoOldAddresses m' t'
   pub marks : MarksOf c r m t m' t'
   pub settled : IsDone r → (i : ℕ) → IsTrue (reads c i) → IsSettled t' registers' i
 

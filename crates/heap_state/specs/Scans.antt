@@ -9,7 +9,7 @@ use Rattle.transporter.specs.lisp_meaning.Roles.{RoleMap}
 use Rattle.transporter.specs.lisp_ground.After.{old_on}
 use Rattle.scavenger.specs.Scan.{Scan}
 use Rattle.scavenger.specs.Left.{units_of}
-use Rattle.scavenger.specs.Collecting.{Clean}
+use Rattle.scavenger.specs.Collecting.{ScanInvariant}
 
 -- no unit remains to be scanned, and the scan set has the machine's sizes
 pub record IsScanless (t : Table) (scan : Scan) (registers : List Parts) : Type 0 where
@@ -19,7 +19,7 @@ pub record IsScanless (t : Table) (scan : Scan) (registers : List Parts) : Type 
 
 -- a collection's scan, of which `ahead` more units were scanned than are paid
 pub record Sweeps (m : Store) (t : Table) (scan : Scan) (registers : List Parts) (k : RoleMap) (s : M.Store) (c : Collection) (ahead : ℕ) : Type 0 where
-  pub clean : Clean m t scan registers
+  pub clean : ScanInvariant m t scan registers
   pub over : scan.over ≡ c.over
   pub work : c.over ≡ false → c.paid + ahead + (units_of m scan t registers + old_on m t s c.aim k.at) ≤ c.owed
 

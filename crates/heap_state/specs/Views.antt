@@ -23,8 +23,8 @@ RepresentsAll v = represents_all.RepresentsAll v.mem.store v.table
 abbrev pub RepresentsSame : GroundView → List Parts → GroundView → List Parts → Type 0
 RepresentsSame v a0 v' = represented.RepresentsSame v.mem.store v.table a0 v'.mem.store v'.table
 
-abbrev pub IsConsistent : GroundView → List Parts → Type 0
-IsConsistent v = consistent.IsConsistent v.mem.store v.table
+abbrev pub RepresentsState : GroundView → List Parts → Type 0
+RepresentsState v = consistent.RepresentsState v.mem.store v.table
 
 abbrev pub Performs : GroundView → List Parts → GroundView → List Parts → Command → Reply → Type 0
 Performs v registers v' = performs.Performs v.mem.store v.table registers v'.mem.store v'.table

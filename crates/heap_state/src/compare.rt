@@ -1,6 +1,6 @@
 //! Compares the values of two words.
 ghost use Rattle.std.specs.Prelude.{◌≡◌, ◌+◌, ◌<◌, ◌≤◌, IfOk};
-ghost use Rattle.mem_port.specs.View.{Tells, shown};
+ghost use Rattle.mem_port.specs.View.{AccountsForFaults, shown};
 ghost use Rattle.std.specs.Ordering.{int_eq};
 ghost use Rattle.mem_port.specs.Store.{StoresNothing};
 ghost use Rattle.obj_layout.specs.Forwards.{HasFinal};
@@ -28,8 +28,8 @@ fn is_same_place<M: Memory, L: Ledger>(
     requires left { HasFinal (M.seen mem.old).words left }
     requires right { HasFinal (M.seen mem.old).words right }
     ensures value { IfOk result (SamePlace (M.seen mem.old).words left right) }
-    ensures stays { StoresNothing (M.seen mem.old) (M.seen mem.new) }
-    ensures tells { Tells (shown M.Memory mem.old) (shown M.Memory mem.new) steps.old steps.new result }
+    ensures unchanged { StoresNothing (M.seen mem.old) (M.seen mem.new) }
+    ensures accounted { AccountsForFaults (shown M.Memory mem.old) (shown M.Memory mem.new) steps.old steps.new result }
     ensures cost { steps.new ≤ steps.old + 24 }
 {
     let a = resolve(mem, left, steps)?;
@@ -47,8 +47,8 @@ pub fn is_same<M: Memory, L: Ledger>(
 ) -> Result<bool, SwapFault>
     requires { CanCompare (M.seen mem.old).words left.content right.content }
     ensures value { IfOk result (SameWord (M.seen mem.old).words left.content right.content) }
-    ensures stays { StoresNothing (M.seen mem.old) (M.seen mem.new) }
-    ensures tells { Tells (shown M.Memory mem.old) (shown M.Memory mem.new) steps.old steps.new result }
+    ensures unchanged { StoresNothing (M.seen mem.old) (M.seen mem.new) }
+    ensures accounted { AccountsForFaults (shown M.Memory mem.old) (shown M.Memory mem.new) steps.old steps.new result }
     ensures cost { steps.new ≤ steps.old + 24 }
 {
     match (left.content(), right.content()) {

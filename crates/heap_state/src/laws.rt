@@ -6,11 +6,11 @@ use scavenger::scans_go_on;
 /// What a command performs is a transition of the definition, whether or not a collection runs.
 pub fn commands_are_steps()
     ensures performs { PerformsIsStep }
-    ensures allocates { AllocationIsStep }
-    ensures faults { FaultIsStep }
+    ensures made { AllocationIsStep }
+    ensures fault { FaultIsStep }
     ensures last { AtLast }
-    ensures reach { ReachStays }
-    ensures represents { StepsRepresent }
+    ensures preserves { ReachStays }
+    ensures represented { StepsRepresent }
 {
     scans_go_on();
 }

@@ -1,14 +1,14 @@
 //! Settles registers before a command reads them.
 ghost use Rattle.std.specs.Prelude.{◌≡◌, ◌+◌, ◌-◌, ◌*◌, ◌<◌, ◌≤◌, IfOk, OnOk, OnErr, get_or, length, slice_set};
-ghost use Rattle.mem_port.specs.View.{Tells};
+ghost use Rattle.mem_port.specs.View.{AccountsForFaults};
 ghost use Rattle.area_space.specs.View.{view};
-ghost use Rattle.heap_state.specs.Views.{RepresentsSame, IsConsistent};
-ghost use Rattle.transporter.specs.Views.{AllFresh, MarksFollow, MovesAtMost, MovesFor, PreservesScanned};
+ghost use Rattle.heap_state.specs.Views.{RepresentsSame, RepresentsState};
+ghost use Rattle.transporter.specs.Views.{NoOldAddresses, MarksFollow, MovesAtMost, MovesFor, PreservesScanned};
 ghost use Rattle.std.specs.List.{All};
 ghost use Rattle.store_word.specs.Words.{null_word};
-ghost use Rattle.transporter.specs.Settling.{HasOld};
+ghost use Rattle.transporter.specs.Settling.{RefersToOld};
 ghost use Rattle.transporter.specs.Preserving.{RegistersPreserved};
-ghost use Rattle.heap_state.specs.Settled.{IsSettled, RegistersFresh};
+ghost use Rattle.heap_state.specs.Settled.{IsSettled, NoOldAddressesInRegisters};
 
 use area_space::Ground;
 use mem_port::Memory;
@@ -28,13 +28,13 @@ pub fn settle_register<M: Memory, L: Ledger>(
     register: u8,
     steps: &mut Steps<L>,
 ) -> Result<Word, SwapFault>
-    requires consistent { IsConsistent (view ground.old) registers.old }
-    requires inside { register < length registers.old }
+    requires consistent { RepresentsState (view ground.old) registers.old }
+    requires in_range { register < length registers.old }
 
     // What the words represent is unchanged, and the register is settled.
     ensures represented { RepresentsSame (view ground.old) registers.old (view ground.new) registers.new }
     ensures word { IfOk result (λ word. get_or registers.new register null_word ≡ word) }
-    ensures fresh { IfOk result (λ word. HasOld ground.new.table word → ⊥) }
+    ensures fresh { IfOk result (λ word. RefersToOld ground.new.table word → ⊥) }
 
     // Which words move.
     ensures words { IfOk result (MovesFor (view ground.old) (view ground.new) (get_or registers.old register null_word)) }
@@ -42,17 +42,17 @@ pub fn settle_register<M: Memory, L: Ledger>(
 
     // What is unchanged in the registers and the ground.
     ensures set { IfOk result (λ word. registers.new ≡ slice_set registers.old register word) }
-    ensures kept { OnErr result (registers.new ≡ registers.old) }
-    ensures others { RegistersPreserved ground.new.table registers.old registers.new }
+    ensures unchanged { OnErr result (registers.new ≡ registers.old) }
+    ensures registers { RegistersPreserved ground.new.table registers.old registers.new }
     ensures preserves { PreservesScanned (view ground.old) (view ground.new) }
-    ensures stays_fresh { RegistersFresh ground.old.table registers.old → AllFresh (view ground.old) → AllFresh (view ground.new) }
+    ensures stays_fresh { NoOldAddressesInRegisters ground.old.table registers.old → NoOldAddresses (view ground.old) → NoOldAddresses (view ground.new) }
     ensures marks { MarksFollow (view ground.old) (view ground.new) }
 
     // Swap errors.
-    ensures tells { Tells (view ground.old).mem (view ground.new).mem steps.old steps.new result }
+    ensures accounted { AccountsForFaults (view ground.old).mem (view ground.new).mem steps.old steps.new result }
 
     // What is placed, and the cost.
-    ensures few { ground.new.table.placed ≤ ground.old.table.placed + 2048 }
+    ensures at_most { ground.new.table.placed ≤ ground.old.table.placed + 2048 }
     ensures cost { OnOk result (steps.new ≤ steps.old + 4 * (ground.new.table.placed - ground.old.table.placed) + 46) }
 {
     let word = registers[register as usize];
@@ -72,8 +72,8 @@ pub fn settle_items<M: Memory, L: Ledger>(
     items: &[u8],
     steps: &mut Steps<L>,
 ) -> Result<(), SwapFault>
-    requires consistent { IsConsistent (view ground.old) registers.old }
-    requires inside { All (λ item. item < length registers.old) items.now }
+    requires consistent { RepresentsState (view ground.old) registers.old }
+    requires in_range { All (λ item. item < length registers.old) items.now }
 
     // What the words represent is unchanged, and the registers of the list are settled.
     ensures represented { RepresentsSame (view ground.old) registers.old (view ground.new) registers.new }
@@ -83,16 +83,16 @@ pub fn settle_items<M: Memory, L: Ledger>(
     ensures moves { MovesAtMost (view ground.old) (view ground.new) (length items.now) }
 
     // What is unchanged in the registers and the ground.
-    ensures others { RegistersPreserved ground.new.table registers.old registers.new }
+    ensures registers { RegistersPreserved ground.new.table registers.old registers.new }
     ensures preserves { PreservesScanned (view ground.old) (view ground.new) }
-    ensures stays_fresh { RegistersFresh ground.old.table registers.old → AllFresh (view ground.old) → AllFresh (view ground.new) }
+    ensures stays_fresh { NoOldAddressesInRegisters ground.old.table registers.old → NoOldAddresses (view ground.old) → NoOldAddresses (view ground.new) }
     ensures marks { MarksFollow (view ground.old) (view ground.new) }
 
     // Swap errors.
-    ensures tells { Tells (view ground.old).mem (view ground.new).mem steps.old steps.new result }
+    ensures accounted { AccountsForFaults (view ground.old).mem (view ground.new).mem steps.old steps.new result }
 
     // What is placed, and the cost.
-    ensures few { ground.new.table.placed ≤ ground.old.table.placed + 2048 * length items.now }
+    ensures at_most { ground.new.table.placed ≤ ground.old.table.placed + 2048 * length items.now }
     ensures cost { OnOk result (steps.new ≤ steps.old + 4 * (ground.new.table.placed - ground.old.table.placed) + 46 * length items.now) }
 {
     for i in 0..items.len() {

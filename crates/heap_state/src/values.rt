@@ -1,6 +1,6 @@
 //! Words as replies.
 ghost use Rattle.std.specs.Prelude.{◌≡◌, ◌≢◌, ◌+◌, ◌<◌, ◌≤◌, IfOk, OnOk, OnErr, length, slice_set};
-ghost use Rattle.mem_port.specs.View.{Tells, TellsIf, shown};
+ghost use Rattle.mem_port.specs.View.{AccountsForFaults, AccountsForFaultsIf, shown};
 ghost use Rattle.mem_port.specs.Store.{StoresNothing};
 ghost use Rattle.heap_state.specs.Reads.{is_fault, reply_of};
 ghost use Rattle.heap_state.specs.Words.{CanShow, Shows, header_reply};
@@ -14,7 +14,7 @@ use store_word::{Content, Steps, SwapFault, Word};
 // The reply that shows a block, by its header.
 fn header_reply(header: Word) -> Reply
     ensures value { result ≡ header_reply header.content }
-    ensures sure { result ≢ Reply.Fault }
+    ensures succeeds { result ≢ Reply.Fault }
 {
     match header.content() {
         Content::Header { code, length } => Reply::Block { code, length },
@@ -31,9 +31,9 @@ fn show<M: Memory, L: Ledger>(
 ) -> Result<Reply, SwapFault>
     requires { CanShow (M.seen mem.old).words word.content }
     ensures value { IfOk result (Shows (M.seen mem.old).words word.content) }
-    ensures sure { IfOk result (λ reply. reply ≢ Reply.Fault) }
-    ensures stays { StoresNothing (M.seen mem.old) (M.seen mem.new) }
-    ensures tells { Tells (shown M.Memory mem.old) (shown M.Memory mem.new) steps.old steps.new result }
+    ensures succeeds { IfOk result (λ reply. reply ≢ Reply.Fault) }
+    ensures unchanged { StoresNothing (M.seen mem.old) (M.seen mem.new) }
+    ensures accounted { AccountsForFaults (shown M.Memory mem.old) (shown M.Memory mem.new) steps.old steps.new result }
     ensures cost { steps.new ≤ steps.old + 13 }
 {
     match word.content() {
@@ -57,14 +57,14 @@ pub fn show_into<M: Memory, L: Ledger>(
     word: Word,
     steps: &mut Steps<L>,
 ) -> Result<Reply, SwapFault>
-    requires word { CanShow (M.seen mem.old).words word.content }
+    requires can { CanShow (M.seen mem.old).words word.content }
     requires to { to < length registers.old }
     ensures shows { IfOk result (Shows (M.seen mem.old).words word.content) }
-    ensures sure { IfOk result (λ reply. reply ≢ Reply.Fault) }
+    ensures succeeds { IfOk result (λ reply. reply ≢ Reply.Fault) }
     ensures set { OnOk result (registers.new ≡ slice_set registers.old to word) }
-    ensures kept { OnErr result (registers.new ≡ registers.old) }
-    ensures stays { StoresNothing (M.seen mem.old) (M.seen mem.new) }
-    ensures tells { TellsIf (shown M.Memory mem.old) (shown M.Memory mem.new) steps.old steps.new (is_fault (reply_of result)) }
+    ensures err { OnErr result (registers.new ≡ registers.old) }
+    ensures unchanged { StoresNothing (M.seen mem.old) (M.seen mem.new) }
+    ensures accounted { AccountsForFaultsIf (shown M.Memory mem.old) (shown M.Memory mem.new) steps.old steps.new (is_fault (reply_of result)) }
     ensures cost { steps.new ≤ steps.old + 13 }
 {
     let reply = show(mem, word, steps)?;

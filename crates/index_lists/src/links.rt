@@ -54,8 +54,8 @@ pub(crate) fn unless_end(place: u32, end: u32) -> Option<u32>
 
 // Puts the place `to` right after the place `from`.
 fn join(links: &mut [Link], from: u32, to: u32)
-    requires from_in { from < length links.old }
-    requires to_in { to < length links.old }
+    requires from { from < length links.old }
+    requires to { to < length links.old }
     ensures { Joins links.old links.new from to }
 {
     links[from as usize].after = to;
@@ -72,9 +72,9 @@ fn set_owner(links: &mut [Link], place: u32, owner: u32)
 
 // Puts a node between the last place of a ring and its end.
 fn link_last(links: &mut [Link], end: u32, node: u32)
-    requires end_in { end < length links.old }
-    requires last_in { before_of links.old end < length links.old }
-    requires node_in { node < length links.old }
+    requires end { end < length links.old }
+    requires last { before_of links.old end < length links.old }
+    requires in_range { node < length links.old }
     ensures { Enters links.old links.new end node }
 {
     let last = before(links, end);
@@ -84,9 +84,9 @@ fn link_last(links: &mut [Link], end: u32, node: u32)
 
 // Puts the place after a node right after the place before it.
 fn unlink(links: &mut [Link], node: u32)
-    requires node_in { node < length links.old }
-    requires before_in { before_of links.old node < length links.old }
-    requires after_in { after_of links.old node < length links.old }
+    requires in_range { node < length links.old }
+    requires before { before_of links.old node < length links.old }
+    requires after { after_of links.old node < length links.old }
     ensures { Joins links.old links.new (before_of links.old node) (after_of links.old node) }
 {
     let left = before(links, node);
@@ -97,9 +97,9 @@ fn unlink(links: &mut [Link], node: u32)
 /// Puts a node that is in no list at the end of one.
 pub(crate) fn attach(links: &mut [Link], nodes: u32, list: u32, node: u32)
     requires room { nodes + list < 2 ^ 32 }
-    requires end_in { nodes + list < length links.old }
-    requires last_in { before_of links.old (nodes + list) < length links.old }
-    requires node_in { node < length links.old }
+    requires end { nodes + list < length links.old }
+    requires last { before_of links.old (nodes + list) < length links.old }
+    requires in_range { node < length links.old }
     ensures { Attaches links.old links.new nodes list node }
 {
     link_last(links, nodes + list, node);
@@ -108,9 +108,9 @@ pub(crate) fn attach(links: &mut [Link], nodes: u32, list: u32, node: u32)
 
 /// Takes a node out of its list.
 pub(crate) fn detach(links: &mut [Link], node: u32)
-    requires node_in { node < length links.old }
-    requires before_in { before_of links.old node < length links.old }
-    requires after_in { after_of links.old node < length links.old }
+    requires in_range { node < length links.old }
+    requires before { before_of links.old node < length links.old }
+    requires after { after_of links.old node < length links.old }
     ensures { Detaches links.old links.new node }
 {
     unlink(links, node);
@@ -120,11 +120,11 @@ pub(crate) fn detach(links: &mut [Link], node: u32)
 /// Moves a node to the end of its list, which stays its owner.
 pub(crate) fn relink(links: &mut [Link], nodes: u32, list: u32, node: u32)
     requires room { nodes + list < 2 ^ 32 }
-    requires end_in { nodes + list < length links.old }
-    requires last_in { before_of links.old (nodes + list) < length links.old }
-    requires node_in { node < length links.old }
-    requires before_in { before_of links.old node < length links.old }
-    requires after_in { after_of links.old node < length links.old }
+    requires end { nodes + list < length links.old }
+    requires last { before_of links.old (nodes + list) < length links.old }
+    requires in_range { node < length links.old }
+    requires before { before_of links.old node < length links.old }
+    requires after { after_of links.old node < length links.old }
     ensures { Relinks links.old links.new nodes list node }
 {
     unlink(links, node);
@@ -134,7 +134,7 @@ pub(crate) fn relink(links: &mut [Link], nodes: u32, list: u32, node: u32)
 /// Makes the lists, each of them empty, over nodes that are in no list.
 pub(crate) fn clear(links: &mut [Link], nodes: u32, lists: u32)
     requires room { nodes + lists < 2 ^ 32 }
-    requires total { length links.old ≡ nodes + lists }
+    requires size { length links.old ≡ nodes + lists }
     requires free { (k : ℕ) → k < nodes → owner_of links.old k ≡ NO_LIST }
     ensures { Holds links.new nodes lists (replicate lists []) }
 {

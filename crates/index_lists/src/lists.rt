@@ -54,13 +54,13 @@ impl Lists {
 
     /// Puts a node that is in no list at the end of one.
     pub fn push_back(&mut self, list: u32, node: u32)
-        requires list_in { list < length self.old.lists }
-        requires node_in { node < self.old.nodes }
+        requires target { list < length self.old.lists }
+        requires in_range { node < self.old.nodes }
         requires free { IsFree self.old node }
-        ensures pushed { self.new ≡ with_list self.old list (list_at self.old list ++ node ∷ []) }
+        ensures after { self.new ≡ with_list self.old list (list_at self.old list ++ node ∷ []) }
         ensures listed { Contains (list_at self.new list) node }
-        ensures nodes { self.new.nodes ≡ self.old.nodes }
-        ensures lists { length self.new.lists ≡ length self.old.lists }
+        ensures unchanged { self.new.nodes ≡ self.old.nodes }
+        ensures size { length self.new.lists ≡ length self.old.lists }
         ensures sound { IsSound self.new }
     {
         attach(&mut self.links, self.nodes, list, node);
@@ -69,12 +69,12 @@ impl Lists {
     /// Takes a node out of the list that it is in.
     pub fn remove(&mut self, node: u32)
         requires { IsListed self.old node }
-        ensures removed { (l : ℕ) → Contains (list_at self.old l) node
+        ensures after { (l : ℕ) → Contains (list_at self.old l) node
             → self.new ≡ with_list self.old l (without node (list_at self.old l)) }
-        ensures node_in { node < self.new.nodes }
+        ensures in_range { node < self.new.nodes }
         ensures free { IsFree self.new node }
-        ensures nodes { self.new.nodes ≡ self.old.nodes }
-        ensures lists { length self.new.lists ≡ length self.old.lists }
+        ensures unchanged { self.new.nodes ≡ self.old.nodes }
+        ensures size { length self.new.lists ≡ length self.old.lists }
         ensures sound { IsSound self.new }
     {
         detach(&mut self.links, node);
@@ -87,8 +87,8 @@ impl Lists {
             → self.new ≡ with_list self.old l (without node (list_at self.old l) ++ node ∷ []) }
         ensures listed { (l : ℕ) → Contains (list_at self.old l) node
             → Contains (list_at self.new l) node }
-        ensures nodes { self.new.nodes ≡ self.old.nodes }
-        ensures lists { length self.new.lists ≡ length self.old.lists }
+        ensures unchanged { self.new.nodes ≡ self.old.nodes }
+        ensures size { length self.new.lists ≡ length self.old.lists }
         ensures sound { IsSound self.new }
     {
         let list = owner(&self.links, node);
@@ -124,7 +124,7 @@ impl Lists {
     /// The node after this one in its list; None if and only if this one is the last.
     pub fn next(&self, node: u32) -> Option<u32>
         requires { IsListed self.now node }
-        ensures next { (l : ℕ) → Contains (list_at self.now l) node
+        ensures value { (l : ℕ) → Contains (list_at self.now l) node
             → result ≡ next_in (list_at self.now l) node }
         ensures none { (l : ℕ) → Contains (list_at self.now l) node
             → IsNone result ↔ (last_of (list_at self.now l) ≡ Some node) }
@@ -140,10 +140,10 @@ impl Lists {
     /// The list that a node is in; None if and only if it is in no list.
     pub fn owner(&self, node: u32) -> Option<u32>
         requires { node < self.now.nodes }
-        ensures owner { MatchOption result (IsFree self.now node)
+        ensures cases { MatchOption result (IsFree self.now node)
             (λ l. Contains (list_at self.now l) node) }
         ensures found { (l : ℕ) → Contains (list_at self.now l) node → result ≡ Some l }
-        ensures list_in { IfSome result (λ l. l < length self.now.lists) }
+        ensures in_range { IfSome result (λ l. l < length self.now.lists) }
         ensures sound { IsSound self.now }
     {
         let list = owner(&self.links, node);
@@ -153,13 +153,13 @@ impl Lists {
     /// Moves the nodes of the list `from` to the end of the list `to`, in their order, and empties
     /// `from`. It takes time for each node that moves.
     pub fn append_all(&mut self, to: u32, from: u32)
-        requires to_in { to < length self.old.lists }
-        requires from_in { from < length self.old.lists }
-        requires different { to ≢ from }
-        ensures appended { self.new
+        requires to { to < length self.old.lists }
+        requires from { from < length self.old.lists }
+        requires apart { to ≢ from }
+        ensures after { self.new
             ≡ with_list (with_list self.old from []) to (list_at self.old to ++ list_at self.old from) }
-        ensures nodes { self.new.nodes ≡ self.old.nodes }
-        ensures lists { length self.new.lists ≡ length self.old.lists }
+        ensures unchanged { self.new.nodes ≡ self.old.nodes }
+        ensures size { length self.new.lists ≡ length self.old.lists }
         ensures sound { IsSound self.new }
     {
         while let Some(node) = self.front(from) {

@@ -7,7 +7,7 @@ use Rattle.lisp_graph.specs.declared.command.Command.TheVariants.{Stats}
 use Rattle.lisp_graph.specs.declared.world.AreaKind.TheVariants.{Static, Dynamic}
 use Rattle.world_text.specs.declared.fault.WorldStep.{WorldStep}
 use Rattle.world_text.specs.declared.fault.WorldStep.TheVariants.{Next as on, TraceBegins}
-use Rattle.world_text.specs.declared.reading.reader.Part.TheVariants.{Sizing, FirstArea, Areas, Closed}
+use Rattle.world_text.specs.declared.reading.reader.Section.TheVariants.{Sizing, FirstArea, Areas, Closed}
 use Rattle.world_text.specs.declared.reading.reader.WorldReader.{WorldReader}
 use Rattle.world_text.specs.Words.{is_well_formed, words_of}
 use Rattle.world_text.specs.Next.{next}

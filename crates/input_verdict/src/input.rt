@@ -21,7 +21,7 @@ pub type JudgedInput = InputReader<InputJudge>;
 
 /// What a line requests.
 #[derive(Clone, Copy, Debug, PartialEq, Eq)]
-pub enum Step {
+pub enum LineEffect {
     Nothing,
     /// The world is whole, and a machine has to be opened for it.
     Opens,

@@ -10,7 +10,7 @@ ghost use Rattle.input_verdict.specs.Events.{event_of, events, trouble_at};
 ghost use Rattle.input_verdict.specs.Places.{IsPlace, Judged, MayDo};
 ghost use Rattle.input_verdict.specs.Verdict.{in_trace, judged_as, line_in, trace_next, world_next};
 
-use crate::input::{JudgedInput, Step};
+use crate::input::{JudgedInput, LineEffect};
 use line_input::{RunError, Status, world_trouble};
 use lisp_graph::Request;
 use trace_text::{LineKind, read_request};
@@ -18,24 +18,24 @@ use world_text::WorldFault;
 
 /// Judges a line of the world.
 #[inline(never)]
-fn world_line(place: &mut JudgedInput, text: &[u8]) -> Result<Step, WorldFault>
+fn world_line(place: &mut JudgedInput, text: &[u8]) -> Result<LineEffect, WorldFault>
     ensures judged { (command : OneCommand) → Judged place.old place.new (events place.old result command) (world_next place.old (line_at place.old.judge.builder text.now)) }
-    ensures counts { (place.new.lines ≡ place.old.lines) × (place.new.bytes ≡ place.old.bytes) }
-    ensures same { OnErr result (place.new ≡ place.old) }
+    ensures count { (place.new.lines ≡ place.old.lines) × (place.new.bytes ≡ place.old.bytes) }
+    ensures unchanged { OnErr result (place.new ≡ place.old) }
     ensures area { IfErr result (NamesArea place.old.judge.builder.world.areas) }
-    ensures open { in_trace place.new ≡ true → OnOk result (IsAccepted place.new.judge.builder.world) }
-    ensures may { (command : OneCommand) → IfOk result (λ step. MayDo place.new.judge.builder.world (event_of step command)) }
+    ensures accepted { in_trace place.new ≡ true → OnOk result (IsAccepted place.new.judge.builder.world) }
+    ensures allowed { (command : OneCommand) → IfOk result (λ step. MayDo place.new.judge.builder.world (event_of step command)) }
 {
     match place.judge.builder.line(text) {
         Ok(_) => {}
         Err(fault) => return Err(fault),
     }
     if !place.judge.builder.is_closed() {
-        return Ok(Step::Nothing);
+        return Ok(LineEffect::Nothing);
     }
     // This call gives the prover the invariant that a closed world is accepted.
     let _world = place.judge.builder.world();
-    Ok(Step::Opens)
+    Ok(LineEffect::Opens)
 }
 
 /// Judges a line of the trace.
@@ -44,22 +44,22 @@ fn trace_line(
     place: &mut JudgedInput,
     text: &[u8],
     command: &mut Request,
-) -> Result<Step, WorldFault>
+) -> Result<LineEffect, WorldFault>
     requires { is_closed place.old.judge.builder.part ≡ true }
     ensures judged { Judged place.old place.new (events place.old result command.new) (trace_next place.old (trace_line place.old.judge.builder.world.space place.old.judge.builder.world.areas text.now)) }
-    ensures counts { (place.new.lines ≡ place.old.lines) × (place.new.bytes ≡ place.old.bytes) }
-    ensures builder { place.new.judge.builder ≡ place.old.judge.builder }
-    ensures same { OnErr result (place.new ≡ place.old) }
+    ensures count { (place.new.lines ≡ place.old.lines) × (place.new.bytes ≡ place.old.bytes) }
+    ensures unchanged { place.new.judge.builder ≡ place.old.judge.builder }
+    ensures err { OnErr result (place.new ≡ place.old) }
     ensures area { IfErr result (NamesArea place.old.judge.builder.world.areas) }
     ensures refused { IfErr result (λ fault. status_of (trouble_at place.old fault) ≡ Status.Refused) }
-    ensures may { IfOk result (λ step. MayDo place.new.judge.builder.world (event_of step command.new)) }
+    ensures allowed { IfOk result (λ step. MayDo place.new.judge.builder.world (event_of step command.new)) }
 {
     let world = place.judge.builder.world();
     match read_request(text, &world.space, &world.areas, command) {
-        Ok(LineKind::Command) => Ok(Step::Does),
+        Ok(LineKind::Command) => Ok(LineEffect::Does),
         Ok(LineKind::End) => {
             place.judge.ended = true;
-            Ok(Step::Nothing)
+            Ok(LineEffect::Nothing)
         }
         Err(reason) => Err(WorldFault::Bad(reason)),
     }
@@ -67,15 +67,19 @@ fn trace_line(
 
 /// Judges a text as the next line.
 #[inline(always)]
-fn line_in(place: &mut JudgedInput, text: &[u8], command: &mut Request) -> Result<Step, WorldFault>
+fn line_in(
+    place: &mut JudgedInput,
+    text: &[u8],
+    command: &mut Request,
+) -> Result<LineEffect, WorldFault>
     requires { IsPlace place.old }
     ensures judged { Judged place.old place.new (events place.old result command.new) (line_in place.old text.now) }
-    ensures counts { (place.new.lines ≡ place.old.lines) × (place.new.bytes ≡ place.old.bytes) }
-    ensures same { OnErr result (place.new ≡ place.old) }
+    ensures count { (place.new.lines ≡ place.old.lines) × (place.new.bytes ≡ place.old.bytes) }
+    ensures unchanged { OnErr result (place.new ≡ place.old) }
     ensures area { IfErr result (NamesArea place.old.judge.builder.world.areas) }
     ensures early { IfErr result (λ fault. status_of (trouble_at place.old fault) ≢ Status.Refused → in_trace place.old ≡ false) }
-    ensures open { in_trace place.new ≡ true → OnOk result (IsAccepted place.new.judge.builder.world) }
-    ensures may { IfOk result (λ step. MayDo place.new.judge.builder.world (event_of step command.new)) }
+    ensures accepted { in_trace place.new ≡ true → OnOk result (IsAccepted place.new.judge.builder.world) }
+    ensures allowed { IfOk result (λ step. MayDo place.new.judge.builder.world (event_of step command.new)) }
 {
     if place.judge.builder.is_closed() {
         trace_line(place, text, command)
@@ -85,40 +89,40 @@ fn line_in(place: &mut JudgedInput, text: &[u8], command: &mut Request) -> Resul
 }
 
 /// The trouble if the line after this place is refused for this reason (`fault`).
-pub fn trouble(place: &JudgedInput, fault: WorldFault) -> RunError
-    requires lines { place.now.lines < 2 ^ 50 }
+pub fn run_error_of(place: &JudgedInput, fault: WorldFault) -> RunError
+    requires at_most { place.now.lines < 2 ^ 50 }
     requires area { NamesArea place.now.judge.builder.world.areas fault }
-    ensures is { result ≡ trouble_at place.now fault }
-    ensures line { result ≢ RunError.Read }
-    ensures trace { result ≢ RunError.Swap }
+    ensures value { result ≡ trouble_at place.now fault }
+    ensures read { result ≢ RunError.Read }
+    ensures swap { result ≢ RunError.Swap }
 {
     world_trouble(place.lines + 1, place.judge.world().areas.as_slice(), fault)
 }
 
 /// Goes past the next line, which has this text and, including its line feed if it has one, this many bytes. A command is written to
 /// `command`, so that it need not be moved. If the line is refused, or memory runs out, the place is unchanged, and
-/// `trouble` makes the trouble to report from the error. If its status isn't `Refused`, the trace isn't reached.
+/// `run_error_of` makes the trouble to report from the error. If its status isn't `Refused`, the trace isn't reached.
 #[inline(always)]
 pub fn judge_line(
     place: &mut JudgedInput,
     text: &[u8],
     size: usize,
     command: &mut Request,
-) -> Result<Step, WorldFault>
-    requires place { IsPlace place.old }
-    requires some { 1 ≤ size }
-    requires close { size ≤ length text.now + 1 }
+) -> Result<LineEffect, WorldFault>
+    requires sound { IsPlace place.old }
+    requires at_least { 1 ≤ size }
+    requires at_most { size ≤ length text.now + 1 }
     ensures judged { Judged place.old place.new (events place.old result command.new) (judged_as place.old text.now size) }
-    ensures place { OnOk result (IsPlace place.new) }
-    ensures same { OnErr result (place.new ≡ place.old) }
+    ensures stays_sound { OnOk result (IsPlace place.new) }
+    ensures unchanged { OnErr result (place.new ≡ place.old) }
     ensures area { IfErr result (NamesArea place.old.judge.builder.world.areas) }
     ensures early { IfErr result (λ fault. status_of (trouble_at place.old fault) ≢ Status.Refused → in_trace place.old ≡ false) }
-    ensures may { IfOk result (λ step. MayDo place.new.judge.builder.world (event_of step command.new)) }
+    ensures allowed { IfOk result (λ step. MayDo place.new.judge.builder.world (event_of step command.new)) }
 {
-    if let Some(reason) = place.broken(place.judge.ended, text.len(), size) {
+    if let Some(reason) = place.broken_limit(place.judge.ended, text.len(), size) {
         return Err(WorldFault::Bad(reason));
     }
     let step = line_in(place, text, command)?;
-    place.passed(size);
+    place.advance(size);
     Ok(step)
 }

@@ -8,6 +8,6 @@ mod input;
 mod judge;
 mod laws;
 
-pub use input::{InputJudge, JudgedInput, Step};
-pub use judge::{judge_line, trouble};
+pub use input::{InputJudge, JudgedInput, LineEffect};
+pub use judge::{judge_line, run_error_of};
 pub use laws::dumps_are_whole_inputs;

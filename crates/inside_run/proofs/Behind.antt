@@ -7,8 +7,8 @@ use Rattle.outer_ports.specs.Buffers.{Gathers}
 use Rattle.outer_ports.proofs.Gains.{cut_behind, gained_as, gained_more, gained_none}
 use Rattle.line_input.specs.declared.statuses.status.Status.{Status}
 use Rattle.line_input.specs.declared.statuses.status.Status.TheVariants.{Done}
-use Rattle.line_input.specs.declared.statuses.status.Stop.{Stop}
-use Rattle.line_input.specs.declared.statuses.status.Stop.TheVariants.{Tell, Write}
+use Rattle.line_input.specs.declared.statuses.status.RunStop.{RunStop}
+use Rattle.line_input.specs.declared.statuses.status.RunStop.TheVariants.{Tell, Write}
 use Rattle.line_input.specs.Statuses.{Closed, Finished}
 
 -- a prefix of a prefix is a prefix, too
@@ -16,7 +16,7 @@ cut_front : (text given pending : List ℕ) → IsCut text (given ++ pending) �
 cut_front text given pending cut = (pending ++ cut.0, let some = cut.1 in omega (arith, length-append pending cut.0), cut.2 ∙ append_assoc given pending cut.0)
 
 -- what was gathered is written, or the sink failed in it
-pub closed_behind : {held held' held'' : List ℕ → Type 0} (had pending text : List ℕ) (outcome : Result (Unit {0}) Stop) (status : Status)
+pub closed_behind : {held held' held'' : List ℕ → Type 0} (had pending text : List ℕ) (outcome : Result (Unit {0}) RunStop) (status : Status)
     → Gathers held held' had pending text outcome → IfErr outcome (λ stop. stop ≡ Write) → Finished held' held'' pending outcome status → Closed held held'' (had ++ text) Done status
 closed_behind had pending text (Ok x) status g write (inl f) =
     let h = g.whole in

@@ -3,8 +3,8 @@ use Rattle.std.specs.Prelude.{◌≡◌, ◌⊎◌, ◌++◌, IfSome, unwrap_or,
 use Rattle.std.specs.List.{starts_with}
 use Rattle.outer_ports.specs.Ports.{Gained, Gave, IsCut}
 use Rattle.outer_ports.specs.Pages.{Device}
-use Rattle.paged_machine.specs.lisp_heap.Contents.{Contents}
-use Rattle.paged_machine.specs.Holding.{MeansFor}
+use Rattle.paged_machine.specs.lisp_heap.HeapView.{HeapView}
+use Rattle.paged_machine.specs.Holding.{HasReading}
 use Rattle.line_input.specs.declared.statuses.status.Status.{Status}
 use Rattle.line_input.specs.declared.statuses.status.Status.TheVariants.{Done, WriteFailed}
 use Rattle.world_text.specs.Numbers.{number_in}
@@ -26,12 +26,12 @@ abbrev pub device_of : {A : Type 0} → List (String A) → Device
 device_of words = record { stored = []; fail = unwrap_or (fail_of words) 0; calls = 0; writes = 0; reads = 0 }
 
 -- the text of a machine: that of its heap, once a world was opened
-abbrev pub machine_text : Option Contents → List ℕ
+abbrev pub machine_text : Option HeapView → List ℕ
 machine_text None = []
 machine_text (Some heap) = inside_text heap
 
 -- what is written after the replies: the machine if the run reached its end, otherwise nothing
-abbrev pub shown : Status → Option Contents → List ℕ
+abbrev pub shown : Status → Option HeapView → List ℕ
 shown Done heap = machine_text heap
 shown status heap = []
 
@@ -42,7 +42,7 @@ Told held held' replies text ended status =
     ⊎ ((status ≡ WriteFailed) × ((front : List ℕ) × IsCut text front × Gained held held' (replies ++ front)))
 
 -- A run that shows its machine, and ended with this status. The input, what the source gave and the replies are as in a run that ended with the status `ended` and had this heap at its end: the heap has the meaning of its last state. If `ended` is `Done`, the heap is written after the replies; otherwise it isn't. The status is `ended`, or the sink failed in the heap's text.
-pub record Shows (left left' : Option (List ℕ)) (last : ℕ) (held held' : List ℕ → Type 0) (heap : Option Contents) (source_rose : Type 0) (rose : ℕ) (status : Status) : Type 0 where
+pub record Shows (left left' : Option (List ℕ)) (last : ℕ) (held held' : List ℕ → Type 0) (heap : Option HeapView) (source_rose : Type 0) (rose : ℕ) (status : Status) : Type 0 where
   pub i : List ℕ
   pub b : List ℕ
   pub replies : List ℕ
@@ -50,5 +50,5 @@ pub record Shows (left left' : Option (List ℕ)) (last : ℕ) (held held' : Lis
   pub input : IfSome left (λ bytes. bytes ≡ i)
   pub gave : Gave left left' b
   pub rest : i ≡ b ++ unwrap_or left' []
-  pub wrote : Wrote ended (record { input = i; taken = b; last = last; written = replies; stands = MeansFor heap; loaded = is_some heap; source_rose = source_rose; swap_rose = rose })
+  pub wrote : Wrote ended (record { input = i; taken = b; last = last; written = replies; stands = HasReading heap; loaded = is_some heap; source_rose = source_rose; swap_rose = rose })
   pub told : Told held held' replies (shown ended heap) ended status

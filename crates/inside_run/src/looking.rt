@@ -6,7 +6,7 @@ ghost use Rattle.line_input.specs.Statuses.{Closed};
 ghost use Rattle.inside_run.specs.Outcome.{machine_text};
 
 use crate::device::ShownSwap;
-use line_input::{Status, Stop, finish};
+use line_input::{RunStop, Status, finish};
 use outer_ports::{Sink, SinkBuffer};
 use paged_machine::Machine;
 
@@ -15,17 +15,17 @@ fn tell_machine<K: Sink, D: ShownSwap>(
     buffer: &mut SinkBuffer,
     sink: &mut K,
     machine: &mut Machine<D>,
-) -> Result<(), Stop>
+) -> Result<(), RunStop>
     ensures gathers { Gathers (K.stands sink.old) (K.stands sink.new)
         buffer.old.pending buffer.new.pending (machine_text machine.old.heap) result }
-    ensures same { machine.new ≡ machine.old }
-    ensures write { IfErr result (λ stop. stop ≡ Stop.Write) }
+    ensures unchanged { machine.new ≡ machine.old }
+    ensures write { IfErr result (λ stop. stop ≡ RunStop.Write) }
     ensures cause { HasCause (K.faults sink.old) (K.faults sink.new) result }
     ensures last { OnErr result (FailedLast (K.faults sink.old) (K.faults sink.new) (K.failed sink.new)) }
 {
     match D::gather_machine(buffer, sink, machine) {
         Ok(()) => Ok(()),
-        Err(_) => Err(Stop::Write),
+        Err(_) => Err(RunStop::Write),
     }
 }
 
@@ -36,12 +36,12 @@ pub fn finish_shown<K: Sink, D: ShownSwap>(
     sink: &mut K,
     machine: &mut Machine<D>,
 ) -> Status
-    ensures told { Closed (K.stands sink.old) (K.stands sink.new)
+    ensures written { Closed (K.stands sink.old) (K.stands sink.new)
         (buffer.old.pending ++ machine_text machine.old.heap) Status.Done result }
-    ensures same { machine.new ≡ machine.old }
+    ensures unchanged { machine.new ≡ machine.old }
     ensures write { result ≡ Status.WriteFailed → Rose (K.faults sink.old) (K.faults sink.new) }
     ensures last { result ≡ Status.WriteFailed → FailedLast (K.faults sink.old) (K.faults sink.new) (K.failed sink.new) }
-    ensures quiet { result ≢ Status.WriteFailed → K.faults sink.new ≡ K.faults sink.old }
+    ensures no_fault { result ≢ Status.WriteFailed → K.faults sink.new ≡ K.faults sink.old }
 {
     let outcome = tell_machine(buffer, sink, machine);
     finish(buffer, sink, outcome)

@@ -41,9 +41,9 @@ fn answer_shown<S: Source, K: Sink, D: ShownSwap>(
     ensures write { result ≡ Status.WriteFailed → Rose (K.faults sink.old) (K.faults sink.new) }
     ensures last { result ≡ Status.WriteFailed → FailedLast (K.faults sink.old) (K.faults sink.new) (K.failed sink.new) }
     ensures swap { result ≡ Status.SwapFailed → machine.old.faults < machine.new.faults }
-    ensures quiet_source { result ≢ Status.ReadFailed → result ≢ Status.WriteFailed → S.faults source.new ≡ S.faults source.old }
-    ensures quiet_sink { result ≢ Status.WriteFailed → K.faults sink.new ≡ K.faults sink.old }
-    ensures later { machine.old.faults ≤ machine.new.faults }
+    ensures source_no_fault { result ≢ Status.ReadFailed → result ≢ Status.WriteFailed → S.faults source.new ≡ S.faults source.old }
+    ensures sink_no_fault { result ≢ Status.WriteFailed → K.faults sink.new ≡ K.faults sink.old }
+    ensures never_falls { machine.old.faults ≤ machine.new.faults }
 {
     machine.idle_has_no_world();
     let mut reader = match LineReader::new(alloc) {
@@ -75,7 +75,7 @@ pub fn run_inside<S: Source, K: Sink, D: ShownSwap>(
     device: D,
 ) -> Ended<D>
     // The page call that fails is the one with the number in the arguments, and no page call was made yet.
-    requires asked { D.device device ≡ device_of words.now }
+    requires agrees { D.device device ≡ device_of words.now }
 
     // For an input, the replies are those of a run, as its status says, and the heap has the meaning of the state after its commands. That heap is written after them.
     ensures ran { (fail : ℕ) → fail_of words.now ≡ Some fail → ((status : Status) × (result.status ≡ code status)
@@ -113,9 +113,9 @@ pub fn run_inside<S: Source, K: Sink, D: ShownSwap>(
 
     // Otherwise the count is unchanged; that of the swap device, if no reply is `fault`, by `ran`. If the sink fails, the source or the swap
     // device may have failed before it.
-    ensures quiet_source { result.status ≢ 3 → result.status ≢ 1 → S.faults source.new ≡ S.faults source.old }
-    ensures quiet_sink { result.status ≢ 1 → K.faults sink.new ≡ K.faults sink.old }
-    ensures later { D.faults device ≤ result.machine.faults }
+    ensures source_no_fault { result.status ≢ 3 → result.status ≢ 1 → S.faults source.new ≡ S.faults source.old }
+    ensures sink_no_fault { result.status ≢ 1 → K.faults sink.new ≡ K.faults sink.old }
+    ensures never_falls { D.faults device ≤ result.machine.faults }
 {
     let mut machine = Machine::idle(device);
     if fail_number(words).is_none() {

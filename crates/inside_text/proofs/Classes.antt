@@ -9,7 +9,7 @@ use Rattle.area_space.specs.Table.{Table, IsUnclassed, chain, class_from as numb
 use Rattle.area_space.specs.Sound.{IsTable}
 use Rattle.area_space.specs.declared.classes.Class.{Class}
 use Rattle.std.specs.List.{flat_map, range_with_len}
-use Rattle.lisp_heap.specs.Contents.{Contents}
+use Rattle.lisp_heap.specs.HeapView.{HeapView}
 use Rattle.inside_text.specs.InsideText.{lines_of_class, owned_line, region_lines, word_line}
 use Rattle.inside_text.specs.Regions.{class_at, class_from, is_in}
 
@@ -79,12 +79,12 @@ owned t region class low =
     ∙ ap (λ (old : Bool). owned_line t region class.area class.level old) (old_is class.stale (slot_of t class.area class.level))
 
 -- the lines of a region that isn't free
-pub lines_owned : (heap : Contents) (t : Table) (at region : ℕ) (class : Class) → t ≡ heap.table → at / 4096 ≡ region → IsTable t → Contains (chain t (class_number t class)) (at / 4096) → class.level < levels_of t
+pub lines_owned : (heap : HeapView) (t : Table) (at region : ℕ) (class : Class) → t ≡ heap.table → at / 4096 ≡ region → IsTable t → Contains (chain t (class_number t class)) (at / 4096) → class.level < levels_of t
     → region_lines heap region ≡ owned_line t region class.area class.level class.stale ++ flat_map (word_line heap) (range_with_len (4096 * region) (used_of heap.table region))
 lines_owned heap t at region class same here sound m low =
     ap (lines_of_class heap region) (some_here heap.table t at region class same here sound m)
     ∙ ap (λ (w : List ℕ). w ++ flat_map (word_line heap) (range_with_len (4096 * region) (used_of heap.table region)))
     (subst (λ (x : Table). owned_line x region (class_number x class / 2 / levels_of x) (class_number x class / 2 % levels_of x) (class_number x class % 2 == 1) ≡ owned_line t region class.area class.level class.stale) same (owned t region class low))
 
-pub lines_free : (heap : Contents) (t : Table) (at region : ℕ) → t ≡ heap.table → at / 4096 ≡ region → IsUnclassed t (at / 4096) → region_lines heap region ≡ []
+pub lines_free : (heap : HeapView) (t : Table) (at region : ℕ) → t ≡ heap.table → at / 4096 ≡ region → IsUnclassed t (at / 4096) → region_lines heap region ≡ []
 lines_free heap t at region same here free = ap (lines_of_class heap region) (none_here heap.table t at region same here free)

@@ -17,7 +17,7 @@ use Rattle.paged_memory.specs.page_map.declared.place.PagePlace.{PagePlace}
 use Rattle.paged_memory.specs.page_map.declared.place.PagePlace.TheVariants.{Empty, InFrame, Swapped}
 use Rattle.paged_memory.specs.Paging.{IsPaged, Paging, is_swapped, marks_in, marks_of, resident_of, size_of, store_of, swapped_of}
 use Rattle.paged_memory.proofs.Nexts.{resident_inside}
-use Rattle.lisp_heap.specs.Contents.{Contents, Lists, lists_of}
+use Rattle.lisp_heap.specs.HeapView.{HeapView, MemoryLists, lists_of}
 use Rattle.inside_text.specs.InsideText.{calls_line, frame_line, page_lines, row_line}
 use Rattle.inside_text.specs.Pages.{frame_of, row_of}
 use Rattle.inside_text.specs.Words.{swapped_line}
@@ -40,11 +40,11 @@ below_row : (a n x : ℕ) → Has x (range_with_len a n) → x < a + n
 below_row a zero x h = absurd h
 below_row a (suc n) x h = elim (cases_lt x (a + suc n)) [ inl l ↦ l | inr ge ↦ (let later = below_row (a + 1) n x (h (λ e. absurd (omega (arith, e, ge)))) in omega (arith, later)) ]
 
-module _ (heap : Contents) (p : Paging) (stored : List Parts) (h : IsPaged p stored) (memory : lists_of (store_of p stored) ≡ heap.memory) where
+module _ (heap : HeapView) (p : Paging) (stored : List Parts) (h : IsPaged p stored) (memory : lists_of (store_of p stored) ≡ heap.memory) where
   marks_are : (page : ℕ) → page < size_of p → slice_index heap.memory.marks page ≡ marks_of p page
   marks_are page low =
       let regions = h.regions in
-      ap (λ (m : Lists). slice_index m.marks page) (sym memory) ∙ get_or-map-range_with_len (marks_of p) 0 (16 * length p.levels) page page 0 (omega (arith, regions, low)) (omega arith)
+      ap (λ (m : MemoryLists). slice_index m.marks page) (sym memory) ∙ get_or-map-range_with_len (marks_of p) 0 (16 * length p.levels) page page 0 (omega (arith, regions, low)) (omega arith)
 
   pub frames_are : resident_of p ≡ heap.resident → flat_map (frame_of p) (resident_of p) ≡ flat_map (frame_line heap) heap.resident
   frames_are same =
@@ -73,7 +73,7 @@ pub has_at : (done : List ℕ) (page : ℕ) (rest : List ℕ) → Has page (done
 has_at [] page rest = λ ne. absurd (ne refl)
 has_at (x ∷ done) page rest = λ _. has_at done page rest
 
-pub lines_are : (heap : Contents) (p : Paging) (stored : List Parts) → IsPaged p stored → lists_of (store_of p stored) ≡ heap.memory → resident_of p ≡ heap.resident → swapped_of p ≡ heap.counts.swaps.out
+pub lines_are : (heap : HeapView) (p : Paging) (stored : List Parts) → IsPaged p stored → lists_of (store_of p stored) ≡ heap.memory → resident_of p ≡ heap.resident → swapped_of p ≡ heap.counts.swaps.out
     → page_lines heap ≡ flat_map (frame_of p) (resident_of p) ++ (flat_map (row_of p) (range_with_len 0 (size_of p)) ++ calls_line heap.counts.swaps)
 lines_are heap p stored h memory resident out =
     ap (λ (w : List ℕ). w ++ (flat_map (row_line heap) heap.counts.swaps.out ++ calls_line heap.counts.swaps)) (sym (frames_are heap p stored h memory resident))

@@ -10,7 +10,7 @@ use Rattle.lisp_graph.specs.declared.command.Condemn.TheVariants.{Full}
 use Rattle.lisp_graph.specs.declared.world.AreaKind.TheVariants.{Dynamic}
 use Rattle.area_space.specs.Table.{Table}
 use Rattle.scavenger.specs.Scan.{Scan}
-use Rattle.lisp_heap.specs.Contents.{Contents, Lists}
+use Rattle.lisp_heap.specs.HeapView.{HeapView, MemoryLists}
 use Rattle.area_space.specs.mem_port.Swaps.{no_swaps}
 use Rattle.inside_text.specs.InsideText.{inside_text}
 
@@ -47,9 +47,9 @@ barrier_table = record {
 abbrev pub barrier_scan : Scan
 barrier_scan = record { registers = 4; scanned = 0; pages = 4 ∷ replicate 31 0; over = false; begun = 4; done = 0 }
 
-unfoldable pub barrier_heap : Contents
+unfoldable pub barrier_heap : HeapView
 barrier_heap = record {
-  memory = (let m : Lists = record { words = barrier_words; levels = 0 ∷ 0 ∷ []; marks = replicate 32 0; top = 1 } in m);
+  memory = (let m : MemoryLists = record { words = barrier_words; levels = 0 ∷ 0 ∷ []; marks = replicate 32 0; top = 1 } in m);
   table = barrier_table;
   scan = barrier_scan;
   registers = word Next (Fixnum (pos 1)) ∷ word Next (ListAt 4096) ∷ word Next Nil ∷ word Next (Fixnum (pos 1)) ∷ [];

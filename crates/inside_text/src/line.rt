@@ -75,8 +75,8 @@ fn push_level(text: &mut ReplyText, set: Levels, level: u8)
     requires from { 1 ≤ level }
     requires to { level ≤ 6 }
     requires room { length text.old ≤ 50 }
-    ensures is { text.new ≡ text.old ++ level_text set.0 level }
-    ensures short { length text.new ≤ length text.old + 2 }
+    ensures value { text.new ≡ text.old ++ level_text set.0 level }
+    ensures at_most { length text.new ≤ length text.old + 2 }
 {
     if set.intersects(Levels::one(level)) {
         text.push(&[b',', b'0' + level]);

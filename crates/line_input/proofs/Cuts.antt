@@ -3,7 +3,7 @@ use Rattle.std.proofs.Common.{◌≡◌, ℕ, ◌+◌, ◌<◌, ◌≤◌, List,
 use Rattle.std.proofs.lemmas.List.{append-nil, append_assoc, drop_more, take-append-drop, length-take-le, take_all, drop_all}
 use Rattle.line_input.specs.Lines.{Line, lines_of, onto, size_of, whole_lines}
 use Rattle.line_input.specs.Reader.{Buffered, no_feed, IsWholeLine, IsLastLine}
-use Rattle.line_input.specs.declared.lines.found.Found.{Found}
+use Rattle.line_input.specs.declared.lines.found.LineSpan.{LineSpan}
 
 pub both_true : (a b : Bool) → a && b ≡ true → (a ≡ true) × (b ≡ true)
 both_true true b h = (refl, h)
@@ -72,7 +72,7 @@ no_whole_lines [] h = refl
 no_whole_lines (x ∷ xs) h = ap whole_lines (lines_last (x ∷ xs) (omega arith) h)
 
 -- The next line, and the lines after it.
-pub record Passes (reader : Buffered) (found : Found) : Type 0 where
+pub record Passes (reader : Buffered) (found : LineSpan) : Type 0 where
   pub line : Line
   pub cuts : (more : List ℕ) → (reader.ended ≡ true → more ≡ []) → lines_of (reader.bytes ++ more) ≡ line ∷ lines_of (drop found.size reader.bytes ++ more)
   pub whole : reader.ended ≡ false → line.whole ≡ true
@@ -85,7 +85,7 @@ pub record Passes (reader : Buffered) (found : Found) : Type 0 where
 split_at : (bytes : List ℕ) (n : ℕ) → n < length bytes → get_or bytes n 0 ≡ 10 → bytes ≡ take n bytes ++ 10 ∷ drop (n + 1) bytes
 split_at bytes n below is = sym (take-append-drop n bytes) ∙ ap (λ xs. take n bytes ++ xs) (drop_more bytes n 0 below ∙ ap (λ x. x ∷ drop (n + 1) bytes) is)
 
-pub passes_whole : (reader : Buffered) (found : Found) → IsWholeLine reader found → Passes reader found
+pub passes_whole : (reader : Buffered) (found : LineSpan) → IsWholeLine reader found → Passes reader found
 passes_whole reader found h =
     let n : ℕ = found.length in
     let l : length (take n reader.bytes) ≡ n = length-take-le n reader.bytes (omega (arith, h.below)) in
@@ -104,7 +104,7 @@ passes_whole reader found h =
       close = omega (arith, h.size, l);
     }
 
-pub passes_last : (reader : Buffered) (found : Found) → IsLastLine reader found → Passes reader found
+pub passes_last : (reader : Buffered) (found : LineSpan) → IsLastLine reader found → Passes reader found
 passes_last reader found (h, ended) = record {
   line = record { text = reader.bytes; whole = false };
   cuts = λ more none.

@@ -5,7 +5,7 @@ use Rattle.std.proofs.lemmas.List.{append-nil, append_assoc, drop-append-le, dro
 use Rattle.outer_ports.specs.Ports.{Gave, IsAtEnd}
 use Rattle.outer_ports.proofs.Gains.{gave_nothing, gave_then}
 use Rattle.world_text.specs.declared.reading.reason.Reason.{Reason}
-use Rattle.line_input.specs.declared.lines.found.Found.{Found}
+use Rattle.line_input.specs.declared.lines.found.LineSpan.{LineSpan}
 use Rattle.line_input.specs.declared.judging.input.InputReader.{InputReader}
 use Rattle.line_input.specs.declared.statuses.status.RunError.{RunError}
 use Rattle.line_input.specs.declared.statuses.status.RunError.TheVariants as T
@@ -32,7 +32,7 @@ pub record Going {J W : Type 0} (by : Rules J W) (first : J) (left left' : Optio
   pub judges : (rest : List Line) → judged by (start first) (lines ++ rest) ≡ judged by place rest
 
 -- The next line, as it is judged
-pub record Judges {J W : Type 0} (by : Rules J W) (place : InputReader J) (reader : Buffered) (found : Found) (rest : List ℕ) : Type 0 where
+pub record Judges {J W : Type 0} (by : Rules J W) (place : InputReader J) (reader : Buffered) (found : LineSpan) (rest : List ℕ) : Type 0 where
   pub line : Line
   pub lines : List Line
   pub is : lines_of (reader.bytes ++ rest) ≡ line ∷ lines
@@ -88,7 +88,7 @@ taken_more {left} {left'} {left''} {lines} {b} {bytes} {reader} reader' piece t 
 }
 
 -- one more line was passed
-pub taken_passed : {left left' : Option (List ℕ)} {lines : List Line} {b : List ℕ} {bytes : ℕ} {reader : Buffered} (bytes' : ℕ) (reader' : Buffered) (found : Found) → Taken left left' lines b bytes reader → (p : Passes reader found)
+pub taken_passed : {left left' : Option (List ℕ)} {lines : List Line} {b : List ℕ} {bytes : ℕ} {reader : Buffered} (bytes' : ℕ) (reader' : Buffered) (found : LineSpan) → Taken left left' lines b bytes reader → (p : Passes reader found)
     → reader'.bytes ≡ drop found.size reader.bytes → reader'.ended ≡ reader.ended → bytes' ≡ bytes + found.size → Taken left left' (lines ++ p.line ∷ []) b bytes' reader'
 taken_passed {left} {left'} {lines} {b} {bytes} {reader} bytes' reader' found t p rest same counted = record {
   gave = t.gave;
@@ -130,7 +130,7 @@ module _ {J W : Type 0} (by : Rules J W) (first : J) where
     judges = going.judges;
   }
 
-  judges_passes : (place : InputReader J) (reader : Buffered) (found : Found) (rest : List ℕ) → (reader.ended ≡ true → rest ≡ []) → Passes reader found → Judges by place reader found rest
+  judges_passes : (place : InputReader J) (reader : Buffered) (found : LineSpan) (rest : List ℕ) → (reader.ended ≡ true → rest ≡ []) → Passes reader found → Judges by place reader found rest
   judges_passes place reader found rest none p = record {
     line = p.line;
     lines = lines_of (drop found.size reader.bytes ++ rest);
@@ -139,12 +139,12 @@ module _ {J W : Type 0} (by : Rules J W) (first : J) where
   }
 
   -- the prefix of a line is refused as the whole line would be
-  front_refused : (place : InputReader J) (reader : Buffered) (found : Found) → place.bytes ≤ 2 ^ 40 → IsAllBuffered reader found → enough by place ≤ length reader.bytes → judged_as by place (take found.length reader.bytes) found.size ≡ Err (T.Line (place.lines + 1) (front_reason by place))
+  front_refused : (place : InputReader J) (reader : Buffered) (found : LineSpan) → place.bytes ≤ 2 ^ 40 → IsAllBuffered reader found → enough by place ≤ length reader.bytes → judged_as by place (take found.length reader.bytes) found.size ≡ Err (T.Line (place.lines + 1) (front_reason by place))
   front_refused place reader found within h many =
       let l : length (take found.length reader.bytes) ≡ length reader.bytes = ap length (take_all found.length reader.bytes (omega (arith, h.all))) in
       judged_front by place (take found.length reader.bytes) found.size within (subst (λ k. enough by place ≤ k) (sym l) many) (subst (λ k. enough by place ≤ k) (sym h.size) many)
 
-  judges_next : (place : InputReader J) (reader : Buffered) (many : ℕ) (found : Found) (rest : List ℕ) → place.bytes ≤ 2 ^ 40 → many ≡ enough by place → (reader.ended ≡ true → rest ≡ []) → IsFound reader many found → Judges by place reader found rest
+  judges_next : (place : InputReader J) (reader : Buffered) (many : ℕ) (found : LineSpan) (rest : List ℕ) → place.bytes ≤ 2 ^ 40 → many ≡ enough by place → (reader.ended ≡ true → rest ≡ []) → IsFound reader many found → Judges by place reader found rest
   judges_next place reader many found rest within of none (inl h) = judges_passes place reader found rest none (passes_whole reader found h)
   judges_next place reader many found rest within of none (inr (inl h)) = judges_passes place reader found rest none (passes_last reader found h)
   judges_next place reader many found rest within of none (inr (inr (h, front))) =
@@ -158,7 +158,7 @@ module _ {J W : Type 0} (by : Rules J W) (first : J) where
       }
 
   -- an accepted line is passed as a whole
-  pub passes_accepted : (reader : Buffered) (many : ℕ) (found : Found) (place after : InputReader J) → place.bytes ≤ 2 ^ 40 → many ≡ enough by place → judged_as by place (take found.length reader.bytes) found.size ≡ Ok after → IsFound reader many found → Passes reader found
+  pub passes_accepted : (reader : Buffered) (many : ℕ) (found : LineSpan) (place after : InputReader J) → place.bytes ≤ 2 ^ 40 → many ≡ enough by place → judged_as by place (take found.length reader.bytes) found.size ≡ Ok after → IsFound reader many found → Passes reader found
   passes_accepted reader many found place after within of accepted (inl h) = passes_whole reader found h
   passes_accepted reader many found place after within of accepted (inr (inl h)) = passes_last reader found h
   passes_accepted reader many found place after within of accepted (inr (inr (h, front))) =
@@ -166,7 +166,7 @@ module _ {J W : Type 0} (by : Rules J W) (first : J) where
       absurd cc
 
   -- one more line was accepted
-  pub going_passed : {left left' : Option (List ℕ)} {place : InputReader J} {reader : Buffered} (after : InputReader J) (reader' : Buffered) (found : Found) → Going by first left left' place reader → Passes reader found
+  pub going_passed : {left left' : Option (List ℕ)} {place : InputReader J} {reader : Buffered} (after : InputReader J) (reader' : Buffered) (found : LineSpan) → Going by first left left' place reader → Passes reader found
       → judged_as by place (take found.length reader.bytes) found.size ≡ Ok after → reader'.bytes ≡ drop found.size reader.bytes → reader'.ended ≡ reader.ended → Going by first left left' after reader'
   going_passed {left} {left'} {place} {reader} after reader' found going p accepted bytes same = record {
     lines = going.lines ++ p.line ∷ [];
@@ -178,7 +178,7 @@ module _ {J W : Type 0} (by : Rules J W) (first : J) where
         ∙ ap (λ (s : Said J). decided s (λ behind. judged by behind rest)) (ap (judged_as by place p.line.text) p.size ∙ ap (λ t. judged_as by place t found.size) p.text ∙ accepted);
   }
 
-  pub less_left : (place after : InputReader J) (reader : Buffered) (found : Found) → judged_as by place (take found.length reader.bytes) found.size ≡ Ok after → FitsIn reader found → length reader.bytes ≤ 32769 → 2 ^ 40 - after.bytes < 2 ^ 40 - place.bytes
+  pub less_left : (place after : InputReader J) (reader : Buffered) (found : LineSpan) → judged_as by place (take found.length reader.bytes) found.size ≡ Ok after → FitsIn reader found → length reader.bytes ≤ 32769 → 2 ^ 40 - after.bytes < 2 ^ 40 - place.bytes
   less_left place after reader found accepted fits short =
       let p = passed by place (take found.length reader.bytes) found.size after accepted in
       falls place.bytes after.bytes found.size p.bytes fits.some (omega (arith, p.within, fits.all, short))
@@ -251,7 +251,7 @@ module _ {J W : Type 0} (by : Rules J W) (first : J) where
   reads_trouble i b T.Usage new said judged says = absurd judged.0
   reads_trouble i b (T.NoObject object) new said judged says = absurd judged.0
 
-  pub was_read_refused : {left left' : Option (List ℕ)} {place : InputReader J} {reader : Buffered} (going : Going by first left left' place reader) (many : ℕ) (found : Found) (new : InputReader J) (trouble : RunError) → (reader.ended ≡ true → IsAtEnd left') → place.bytes ≤ 2 ^ 40 → many ≡ enough by place
+  pub was_read_refused : {left left' : Option (List ℕ)} {place : InputReader J} {reader : Buffered} (going : Going by first left left' place reader) (many : ℕ) (found : LineSpan) (new : InputReader J) (trouble : RunError) → (reader.ended ≡ true → IsAtEnd left') → place.bytes ≤ 2 ^ 40 → many ≡ enough by place
       → IsFound reader many found → Judged new (Err trouble) (judged_as by place (take found.length reader.bytes) found.size) → WasRead by first left left' (Err trouble)
   was_read_refused {left} {left'} {place} {reader} going many found new trouble end within of is judges =
       let none = λ (is : reader.ended ≡ true). rest_end left' (end is) in

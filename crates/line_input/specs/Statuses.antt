@@ -11,8 +11,8 @@ use Rattle.line_input.specs.declared.statuses.status.Status.{Status}
 use Rattle.line_input.specs.declared.statuses.status.Status.TheVariants as S
 use Rattle.line_input.specs.declared.statuses.status.RunError.{RunError}
 use Rattle.line_input.specs.declared.statuses.status.RunError.TheVariants as T
-use Rattle.line_input.specs.declared.statuses.status.Stop.{Stop}
-use Rattle.line_input.specs.declared.statuses.status.Stop.TheVariants.{Write, Tell}
+use Rattle.line_input.specs.declared.statuses.status.RunStop.{RunStop}
+use Rattle.line_input.specs.declared.statuses.status.RunStop.TheVariants.{Write, Tell}
 
 -- Statuses
 
@@ -53,7 +53,7 @@ status_of T.Usage = S.Usage
 status_of (T.NoObject object) = S.NoObject
 
 -- the status of a run that reached its end, or stopped
-abbrev pub outcome_status : Result (Unit {0}) Stop → Status
+abbrev pub outcome_status : Result (Unit {0}) RunStop → Status
 outcome_status (Ok _) = S.Done
 outcome_status (Err Write) = S.WriteFailed
 outcome_status (Err (Tell trouble)) = status_of trouble
@@ -113,7 +113,7 @@ trouble_line T.Usage = codes "error: usage" ++ 10 ∷ []
 trouble_line (T.NoObject object) = codes "error: no object " ++ (decimal object ++ 10 ∷ [])
 
 -- what a run that reached its end, or stopped, still has to write
-abbrev pub outcome_line : Result (Unit {0}) Stop → List ℕ
+abbrev pub outcome_line : Result (Unit {0}) RunStop → List ℕ
 outcome_line (Err (Tell trouble)) = trouble_line trouble
 outcome_line _ = []
 
@@ -126,6 +126,6 @@ Closed held held' text status result =
     ⊎ ((result ≡ S.WriteFailed) × ((front : List ℕ) × IsCut text front × Gained held held' front))
 
 -- what was pending and the last line were written, or the sink failed in them; if it failed before, nothing more is written
-abbrev pub Finished : (List ℕ → Type 0) → (List ℕ → Type 0) → List ℕ → Result (Unit {0}) Stop → Status → Type 0
+abbrev pub Finished : (List ℕ → Type 0) → (List ℕ → Type 0) → List ℕ → Result (Unit {0}) RunStop → Status → Type 0
 Finished held held' pending (Err Write) result = (result ≡ S.WriteFailed) × Gained held held' []
 Finished held held' pending outcome result = Closed held held' (pending ++ outcome_line outcome) (outcome_status outcome) result

@@ -12,8 +12,8 @@ mod statuses;
 mod world_file;
 
 pub use judging::{InputReader, LineJudge, early_end, read_lines};
-pub use lines::{Found, LineReader};
-pub use statuses::{RunError, Status, Stop, finish, report, tell_line, world_trouble};
+pub use lines::{LineReader, LineSpan};
+pub use statuses::{RunError, RunStop, Status, finish, report, tell_line, world_trouble};
 pub use world_file::WorldFile;
 
 #[cfg(test)]

@@ -5,6 +5,6 @@ mod found;
 mod limits;
 mod reader;
 
-pub use found::Found;
+pub use found::LineSpan;
 pub use limits::{LONGEST_INPUT, LONGEST_LINE};
 pub use reader::LineReader;

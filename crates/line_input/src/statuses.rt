@@ -7,4 +7,4 @@ mod status;
 
 pub use ending::{finish, report, tell_line};
 pub use refused::world_trouble;
-pub use status::{RunError, Status, Stop};
+pub use status::{RunError, RunStop, Status};

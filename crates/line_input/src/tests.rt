@@ -2,7 +2,7 @@
 ghost use Rattle.std.specs.Prelude.{◌≡◌, ◌≤◌, ◌^◌, [], true};
 
 use crate::lines::LONGEST_INPUT;
-use crate::{Found, InputReader, LineReader, RunError, Status, Stop, finish};
+use crate::{InputReader, LineReader, LineSpan, RunError, RunStop, Status, finish};
 use lisp_graph::Name;
 use outer_ports::{SinkBuffer, SinkBytes, SourceBytes};
 use std::alloc::Global;
@@ -49,10 +49,10 @@ fn front_is(
     alloc: Global,
     input: &[u8],
     enough: usize,
-    front: Option<Found>,
+    front: Option<LineSpan>,
 ) -> Result<(), Fail>
-    requires some { 1 ≤ enough }
-    requires most { enough ≤ 32769 }
+    requires at_least { 1 ≤ enough }
+    requires in_range { enough ≤ 32769 }
 {
     let bytes = Vec::from_slice(alloc, input)?;
     let mut source = SourceBytes::new(bytes, 1, Vec::new(alloc));
@@ -73,7 +73,7 @@ fn fronts(rt: HostRuntime) -> Result<(), Fail> {
         (b"ab".as_slice(), 3, 2, 2),
         (b"\nab".as_slice(), 1, 0, 1),
     ] {
-        front_is(&rt, alloc, input, enough, Some(Found { length, size }))?;
+        front_is(&rt, alloc, input, enough, Some(LineSpan { length, size }))?;
     }
     front_is(&rt, alloc, b"", 1, None)
 }
@@ -82,7 +82,7 @@ fn fronts(rt: HostRuntime) -> Result<(), Fail> {
 fn told(
     rt: &impl Abort,
     alloc: Global,
-    stop: Stop,
+    stop: RunStop,
     status: Status,
     line: &[u8],
 ) -> Result<(), Fail> {
@@ -100,21 +100,21 @@ fn error_lines(rt: HostRuntime) -> Result<(), Fail> {
     told(
         &rt,
         alloc,
-        Stop::Tell(RunError::Line(4, Reason::NoObject { object: 7 })),
+        RunStop::Tell(RunError::Line(4, Reason::NoObject { object: 7 })),
         Status::Refused,
         b"error line 4: no object 7\n",
     )?;
     told(
         &rt,
         alloc,
-        Stop::Tell(RunError::TooSmall(3)),
+        RunStop::Tell(RunError::TooSmall(3)),
         Status::NoSpace,
         b"error line 3: space too small\n",
     )?;
     told(
         &rt,
         alloc,
-        Stop::Tell(RunError::NoObject(9)),
+        RunStop::Tell(RunError::NoObject(9)),
         Status::NoObject,
         b"error: no object 9\n",
     )?;
@@ -129,7 +129,7 @@ fn error_lines(rt: HostRuntime) -> Result<(), Fail> {
         told(
             &rt,
             alloc,
-            Stop::Tell(trouble),
+            RunStop::Tell(trouble),
             Status::NoSpace,
             b"error line 5: exhausted work 2 2 3\n",
         )?;
@@ -160,7 +160,10 @@ fn limits(rt: HostRuntime) -> Result<(), Fail> {
         (false, 32_769, 60_000, 60_000, Some(Reason::LineTooLong)),
         (false, 100_000, 32_769, 32_769, Some(Reason::LineTooLong)),
     ] {
-        assert_eq!(rt; place_before(left).broken(whole, length, size), reason);
+        assert_eq!(rt;
+            place_before(left).broken_limit(whole, length, size),
+            reason
+        );
     }
     Ok(())
 }
@@ -176,7 +179,7 @@ fn enough(rt: HostRuntime) -> Result<(), Fail> {
         (false, 1, 2),
         (false, 0, 1),
     ] {
-        assert!(rt; place_before(left).enough_if(whole) == bytes);
+        assert!(rt; place_before(left).bytes_to_decide(whole) == bytes);
     }
     Ok(())
 }

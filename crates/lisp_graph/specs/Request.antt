@@ -2,11 +2,11 @@
 use Rattle.std.specs.Prelude.{ℕ, ◌<◌, List, [], ◌∷◌, ◌++◌, length, Bool, true, false}
 use Rattle.lisp_graph.specs.declared.command.Command.{Command}
 use Rattle.lisp_graph.specs.declared.command.Command.TheVariants as C
-use Rattle.lisp_graph.specs.declared.short.Short.{Short}
-use Rattle.lisp_graph.specs.declared.short.Short.TheVariants as S
+use Rattle.lisp_graph.specs.declared.short.CommandHead.{CommandHead}
+use Rattle.lisp_graph.specs.declared.short.CommandHead.TheVariants as S
 
 -- the command of this short form, which has these registers if it is a list
-abbrev pub command_with : Short → List ℕ → Command
+abbrev pub command_with : CommandHead → List ℕ → Command
 command_with (S.Set to value) items = C.Set to value
 command_with (S.Move to from) items = C.Move to from
 command_with (S.Cons to area car cdr) items = C.Cons to area car cdr
@@ -28,7 +28,7 @@ command_with (S.PageOut count) items = C.PageOut count
 command_with S.Stats items = C.Stats
 command_with S.Dump items = C.Dump
 
-abbrev pub is_list : Short → Bool
+abbrev pub is_list : CommandHead → Bool
 is_list (S.List to area) = true
 is_list _ = false
 

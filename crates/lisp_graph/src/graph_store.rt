@@ -81,14 +81,14 @@ impl GraphStore {
     /// Executes a command of the program, from `set` to `eq` or `grow`. If memory runs out, nothing has changed; only a command
     /// that makes or widens an object needs memory.
     pub fn answer(&mut self, command: &Command) -> Result<Reply, NoMemory>
-        requires program { IsSome (effect self.old command.now) }
+        requires can { IsSome (effect self.old command.now) }
         requires registers { InRegisters (length self.old.registers) command.now }
-        requires limits { InLimits command.now }
+        requires in_range { InLimits command.now }
         ensures ok { IfOk result (λ reply. Answers self.old command.now reply self.new) }
-        ensures graph { IsGraph self.new }
-        ensures lasts { Lasts self.old self.new }
+        ensures sound { IsGraph self.new }
+        ensures preserves { Lasts self.old self.new }
         ensures err { OnErr result (self.new ≡ self.old) }
-        ensures allocates { OnErr result (Allocates self.old command.now) }
+        ensures cause { OnErr result (Allocates self.old command.now) }
     {
         self.store.answer(command)
     }

@@ -29,7 +29,7 @@ impl GraphWalk {
     /// A walk over this world's graph, which has a root for each register.
     pub fn new(world: World) -> GraphWalk
         requires graph { IsGraph (opening world) }
-        requires roots { length world.roots ≡ world.space.registers }
+        requires size { length world.roots ≡ world.space.registers }
         ensures { result ≡ opening world }
     {
         GraphWalk { world }

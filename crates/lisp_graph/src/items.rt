@@ -71,8 +71,8 @@ impl Items {
 
     /// The registers, in their order.
     pub fn as_slice(&self) -> &[u8]
-        ensures is { result.now ≡ self.now }
-        ensures few { length result.now ≤ 1024 }
+        ensures value { result.now ≡ self.now }
+        ensures at_most { length result.now ≤ 1024 }
     {
         self.registers.as_slice()
     }

@@ -32,7 +32,7 @@ pub use name::Name;
 pub use object::{Body, Object, Value};
 pub use reply::Reply;
 pub use request::Request;
-pub use short::Short;
+pub use short::CommandHead;
 pub use store_word::{NoMemory, SwapFault};
 pub use walk::{Form, Seen, Walk};
 pub use world::{AreaKind, AreaRule, World};

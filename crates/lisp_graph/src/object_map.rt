@@ -56,8 +56,8 @@ impl ObjectMap {
 
     /// How many objects there are, which is the next name.
     pub(crate) fn len(&self) -> u64
-        ensures is { result ≡ length self.now }
-        ensures small { result < 2 ^ 63 }
+        ensures value { result ≡ length self.now }
+        ensures at_most { result < 2 ^ 63 }
     {
         self.map.len() as u64
     }
@@ -89,7 +89,7 @@ impl ObjectMap {
     /// Writes a field of the block with this name.
     pub(crate) fn set_field(&mut self, name: u64, index: usize, value: Value)
         requires name { name < length self.old }
-        requires index { HasField (object_at self.old name).body index }
+        requires in_range { HasField (object_at self.old name).body index }
         ensures { self.new ≡ slice_set self.old name (record (object_at self.old name) { body = with_field (object_at self.old name).body index value }) }
     {
         write_field(self.map.get_mut(&name).unwrap(), index, value);

@@ -2,14 +2,14 @@
 ghost use Rattle.std.specs.Prelude.{◌≡◌, [], false};
 ghost use Rattle.lisp_graph.specs.Request.{HasRoom, command_with, is_list, with_item};
 
-use crate::{Command, Items, Short};
+use crate::{Command, CommandHead, Items};
 use std::marker::Model;
 
 /// One command. The registers of a list have a place of their own, so that each other command is written by a few bytes. Contracts see it as the
 /// command.
 #[derive(Debug, Drop)]
 pub struct Request {
-    short: Short,
+    short: CommandHead,
     items: Items,
 }
 
@@ -27,11 +27,11 @@ impl Request {
     pub fn new() -> Request
         ensures { result ≡ Command.Stats }
     {
-        Request::with_short(Short::Stats)
+        Request::with_short(CommandHead::Stats)
     }
 
     /// A command other than a list.
-    fn with_short(short: Short) -> Request
+    fn with_short(short: CommandHead) -> Request
         requires { is_list short ≡ false }
         ensures { result ≡ command_with short [] }
     {
@@ -46,22 +46,22 @@ impl Request {
         ensures { result ≡ command.now }
     {
         match command {
-            Command::Set { to, value } => Request::with_short(Short::Set {
+            Command::Set { to, value } => Request::with_short(CommandHead::Set {
                 to: *to,
                 value: *value,
             }),
-            Command::Move { to, from } => Request::with_short(Short::Move {
+            Command::Move { to, from } => Request::with_short(CommandHead::Move {
                 to: *to,
                 from: *from,
             }),
-            Command::Cons { to, area, car, cdr } => Request::with_short(Short::Cons {
+            Command::Cons { to, area, car, cdr } => Request::with_short(CommandHead::Cons {
                 to: *to,
                 area: *area,
                 car: *car,
                 cdr: *cdr,
             }),
             Command::List { to, area, items } => Request {
-                short: Short::List {
+                short: CommandHead::List {
                     to: *to,
                     area: *area,
                 },
@@ -72,33 +72,33 @@ impl Request {
                 area,
                 code,
                 length,
-            } => Request::with_short(Short::Make {
+            } => Request::with_short(CommandHead::Make {
                 to: *to,
                 area: *area,
                 code: *code,
                 length: *length,
             }),
-            Command::Grow { target, length } => Request::with_short(Short::Grow {
+            Command::Grow { target, length } => Request::with_short(CommandHead::Grow {
                 target: *target,
                 length: *length,
             }),
-            Command::Car { to, from } => Request::with_short(Short::Car {
+            Command::Car { to, from } => Request::with_short(CommandHead::Car {
                 to: *to,
                 from: *from,
             }),
-            Command::Cdr { to, from } => Request::with_short(Short::Cdr {
+            Command::Cdr { to, from } => Request::with_short(CommandHead::Cdr {
                 to: *to,
                 from: *from,
             }),
-            Command::Rplaca { target, from } => Request::with_short(Short::Rplaca {
+            Command::Rplaca { target, from } => Request::with_short(CommandHead::Rplaca {
                 target: *target,
                 from: *from,
             }),
-            Command::Rplacd { target, from } => Request::with_short(Short::Rplacd {
+            Command::Rplacd { target, from } => Request::with_short(CommandHead::Rplacd {
                 target: *target,
                 from: *from,
             }),
-            Command::Get { to, from, index } => Request::with_short(Short::Get {
+            Command::Get { to, from, index } => Request::with_short(CommandHead::Get {
                 to: *to,
                 from: *from,
                 index: *index,
@@ -107,27 +107,31 @@ impl Request {
                 target,
                 index,
                 from,
-            } => Request::with_short(Short::Put {
+            } => Request::with_short(CommandHead::Put {
                 target: *target,
                 index: *index,
                 from: *from,
             }),
-            Command::Size { of } => Request::with_short(Short::Size { of: *of }),
-            Command::Eq { left, right } => Request::with_short(Short::Eq {
+            Command::Size { of } => Request::with_short(CommandHead::Size { of: *of }),
+            Command::Eq { left, right } => Request::with_short(CommandHead::Eq {
                 left: *left,
                 right: *right,
             }),
-            Command::Flip { what } => Request::with_short(Short::Flip { what: *what }),
-            Command::Scavenge { count } => Request::with_short(Short::Scavenge { count: *count }),
-            Command::Reclaim => Request::with_short(Short::Reclaim),
-            Command::PageOut { count } => Request::with_short(Short::PageOut { count: *count }),
-            Command::Stats => Request::with_short(Short::Stats),
-            Command::Dump => Request::with_short(Short::Dump),
+            Command::Flip { what } => Request::with_short(CommandHead::Flip { what: *what }),
+            Command::Scavenge { count } => Request::with_short(CommandHead::Scavenge {
+                count: *count,
+            }),
+            Command::Reclaim => Request::with_short(CommandHead::Reclaim),
+            Command::PageOut { count } => Request::with_short(CommandHead::PageOut {
+                count: *count,
+            }),
+            Command::Stats => Request::with_short(CommandHead::Stats),
+            Command::Dump => Request::with_short(CommandHead::Dump),
         }
     }
 
     /// Becomes a command other than a list.
-    pub fn set(&mut self, short: Short)
+    pub fn set(&mut self, short: CommandHead)
         requires { is_list short ≡ false }
         ensures { self.new ≡ command_with short [] }
     {
@@ -138,7 +142,7 @@ impl Request {
     pub fn begin_list(&mut self, to: u8, area: u8)
         ensures { self.new ≡ Command.List to area [] }
     {
-        self.short = Short::List { to, area };
+        self.short = CommandHead::List { to, area };
         self.items.clear();
     }
 
@@ -151,7 +155,7 @@ impl Request {
     }
 
     /// The command without the registers of a list, and those registers.
-    pub fn parts(&self) -> (&Short, &Items)
+    pub fn parts(&self) -> (&CommandHead, &Items)
         ensures { self.now ≡ command_with result.0.now result.1.now }
     {
         (&self.short, &self.items)
@@ -162,15 +166,15 @@ impl Request {
         ensures { result ≡ self }
     {
         match self.short {
-            Short::Set { to, value } => Command::Set { to, value },
-            Short::Move { to, from } => Command::Move { to, from },
-            Short::Cons { to, area, car, cdr } => Command::Cons { to, area, car, cdr },
-            Short::List { to, area } => Command::List {
+            CommandHead::Set { to, value } => Command::Set { to, value },
+            CommandHead::Move { to, from } => Command::Move { to, from },
+            CommandHead::Cons { to, area, car, cdr } => Command::Cons { to, area, car, cdr },
+            CommandHead::List { to, area } => Command::List {
                 to,
                 area,
                 items: self.items,
             },
-            Short::Make {
+            CommandHead::Make {
                 to,
                 area,
                 code,
@@ -181,13 +185,13 @@ impl Request {
                 code,
                 length,
             },
-            Short::Grow { target, length } => Command::Grow { target, length },
-            Short::Car { to, from } => Command::Car { to, from },
-            Short::Cdr { to, from } => Command::Cdr { to, from },
-            Short::Rplaca { target, from } => Command::Rplaca { target, from },
-            Short::Rplacd { target, from } => Command::Rplacd { target, from },
-            Short::Get { to, from, index } => Command::Get { to, from, index },
-            Short::Put {
+            CommandHead::Grow { target, length } => Command::Grow { target, length },
+            CommandHead::Car { to, from } => Command::Car { to, from },
+            CommandHead::Cdr { to, from } => Command::Cdr { to, from },
+            CommandHead::Rplaca { target, from } => Command::Rplaca { target, from },
+            CommandHead::Rplacd { target, from } => Command::Rplacd { target, from },
+            CommandHead::Get { to, from, index } => Command::Get { to, from, index },
+            CommandHead::Put {
                 target,
                 index,
                 from,
@@ -196,14 +200,14 @@ impl Request {
                 index,
                 from,
             },
-            Short::Size { of } => Command::Size { of },
-            Short::Eq { left, right } => Command::Eq { left, right },
-            Short::Flip { what } => Command::Flip { what },
-            Short::Scavenge { count } => Command::Scavenge { count },
-            Short::Reclaim => Command::Reclaim,
-            Short::PageOut { count } => Command::PageOut { count },
-            Short::Stats => Command::Stats,
-            Short::Dump => Command::Dump,
+            CommandHead::Size { of } => Command::Size { of },
+            CommandHead::Eq { left, right } => Command::Eq { left, right },
+            CommandHead::Flip { what } => Command::Flip { what },
+            CommandHead::Scavenge { count } => Command::Scavenge { count },
+            CommandHead::Reclaim => Command::Reclaim,
+            CommandHead::PageOut { count } => Command::PageOut { count },
+            CommandHead::Stats => Command::Stats,
+            CommandHead::Dump => Command::Dump,
         }
     }
 }

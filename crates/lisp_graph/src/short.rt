@@ -3,7 +3,7 @@ use crate::{Condemn, Value};
 
 /// One command; a list command is without its registers, so that each command takes a few bytes.
 #[derive(Clone, Copy, Debug, PartialEq, Eq)]
-pub enum Short {
+pub enum CommandHead {
     /// Writes nil or a number to a register.
     Set {
         to: u8,

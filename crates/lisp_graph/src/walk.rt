@@ -40,24 +40,24 @@ pub trait Walk {
     /// The value of a register below `registers`.
     fn value_of_register(&mut self, register: u32) -> Result<Seen, SwapFault>
         requires { register < length (graph self.old).registers }
-        ensures is { IfOk result (λ seen. slice_get (graph self.old).registers register ≡ Some seen) }
+        ensures value { IfOk result (λ seen. slice_get (graph self.old).registers register ≡ Some seen) }
         ensures shows { IfOk result (λ seen. Shows (graph self.old) seen) }
-        ensures same { graph self.new ≡ graph self.old }
+        ensures unchanged { graph self.new ≡ graph self.old }
         ensures cause { HasCause (faults self.old) (faults self.new) result };
 
     /// The form of the object with this key.
     fn form_of(&mut self, key: u64) -> Result<Form, SwapFault>
         requires { (graph self.old).has key ≡ true }
-        ensures is { IfOk result (λ form. form ≡ (graph self.old).form key) }
-        ensures same { graph self.new ≡ graph self.old }
+        ensures value { IfOk result (λ form. form ≡ (graph self.old).form key) }
+        ensures unchanged { graph self.new ≡ graph self.old }
         ensures cause { HasCause (faults self.old) (faults self.new) result };
 
     /// A field of the object with this key, below its form's length.
     fn field_of(&mut self, key: u64, index: u32) -> Result<Seen, SwapFault>
-        requires has { (graph self.old).has key ≡ true }
-        requires within { index < ((graph self.old).form key).length }
-        ensures is { IfOk result (λ seen. seen ≡ (graph self.old).field key index) }
+        requires object { (graph self.old).has key ≡ true }
+        requires in_range { index < ((graph self.old).form key).length }
+        ensures value { IfOk result (λ seen. seen ≡ (graph self.old).field key index) }
         ensures shows { IfOk result (λ seen. Shows (graph self.old) seen) }
-        ensures same { graph self.new ≡ graph self.old }
+        ensures unchanged { graph self.new ≡ graph self.old }
         ensures cause { HasCause (faults self.old) (faults self.new) result };
 }

@@ -79,7 +79,7 @@ impl<'a> WorldWalk<'a> {
     /// A walk over this world's graph, which has a root for each register.
     pub fn new(world: &'a World) -> WorldWalk<'a>
         requires graph { IsGraph (opening world.now) }
-        requires roots { length world.now.roots ≡ world.now.space.registers }
+        requires size { length world.now.roots ≡ world.now.space.registers }
         ensures { result ≡ opening world.now }
     {
         WorldWalk { world }

@@ -11,10 +11,10 @@ use Rattle.area_space.specs.Accounts.{account_of}
 use Rattle.word_graph.specs.lisp_meaning.State.{State, aim_of, no_rule, rule_of}
 use Rattle.word_graph.specs.lisp_meaning.Charges.{account_now}
 use Rattle.word_graph.proofs.lisp_ground.Accounts.{account_agrees, areas_agree}
-use Rattle.lisp_heap.specs.Contents.{Contents, store_of}
+use Rattle.lisp_heap.specs.HeapView.{HeapView, store_of}
 use Rattle.lisp_heap.specs.Stands.{Stands}
 
-module _ (h : Contents) (s : State) (st : Stands h s) where
+module _ (h : HeapView) (s : State) (st : Stands h s) where
   pub area_known : (area : ℕ) → area < length h.table.kinds → area < length s.areas
   area_known area l = let a = ap (λ (ks : List AreaKind). length ks) st.kinds in let b = length-map s.areas (λ (rule : AreaRule). rule.kind) in omega arith
 

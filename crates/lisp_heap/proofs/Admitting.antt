@@ -10,7 +10,7 @@ use Rattle.lisp_graph.specs.declared.reply.Reply.{Reply}
 use Rattle.lisp_graph.specs.declared.reply.Reply.TheVariants as R
 use Rattle.lisp_graph.specs.Effect.{Effect, effect}
 use Rattle.mem_port.specs.Store.{MarksHold}
-use Rattle.mem_port.specs.View.{TellsIf}
+use Rattle.mem_port.specs.View.{AccountsForFaultsIf}
 use Rattle.mem_port.specs.declared.memory.Memory.{Ghosts}
 use Rattle.area_space.specs.View.{GroundView, view}
 use Rattle.area_space.specs.declared.ground.Ground.{Ground}
@@ -26,7 +26,7 @@ use Rattle.heap_collect.specs.Admitting.{Wants}
 use Rattle.heap_collect.specs.Laws.{AdmittedIsStep}
 use Rattle.heap_collect.proofs.Admitted.{prepared_goes}
 use Rattle.lisp_heap.specs.Admits.{Admits, Prepares, Unmade}
-use Rattle.lisp_heap.specs.Contents.{Contents, contents_at, counted, lists_of}
+use Rattle.lisp_heap.specs.HeapView.{HeapView, contents_at, counted, lists_of}
 use Rattle.lisp_heap.specs.Costs.{Makes}
 use Rattle.lisp_heap.specs.Making.{ScansFirst}
 use Rattle.lisp_heap.specs.NewMarks.{MarksMade}
@@ -38,7 +38,7 @@ use Rattle.lisp_heap.proofs.Telling.{tells_then, told_behind}
 use Rattle.lisp_heap.proofs.Units.{allocated_some}
 
 -- an allocation was made or refused: the heap is sound, the command ran, it took what it may, and marked what it may
-pub record Allocated (old new : Contents) (before after charge words read to : ℕ) (c : Command) (r : Reply) : Type 0 where
+pub record Allocated (old new : HeapView) (before after charge words read to : ℕ) (c : Command) (r : Reply) : Type 0 where
   pub sound : IsSound new
   pub runs : Runs old new before after c r
   pub makes : Makes old new before after charge words read r
@@ -57,7 +57,7 @@ module _ {M : Type 0} {g : Ghosts M} (ground : Ground M g) {scan : Scan} {regist
     -- it was made
     module _ (ground3 : Ground M g) (registers3 : List Parts) (after words read fixed to : ℕ) (c : Command) (r : Reply) (sound : IsSound (contents_at ground scan registers space)) (area_in : area < length ground.table.kinds)
         (all : allocates c ≡ true) (allowed : IsAllowed c) (wants : (s : State) → Wants s c area charge) (fine : (s : State) (e : Effect) → effect (graph_of s) c ≡ Some e → e.reply ≡ R.Fine)
-        (law : AdmittedIsStep) (marks : MarksHold (g.seen ground3.mem)) (performs : PerformsAt (g.seen ground2.mem) ground2.table registers2 (g.seen ground3.mem) ground3.table registers3 c r area level) (tells : TellsIf (view ground2).mem (view ground3).mem mid after (is_fault r))
+        (law : AdmittedIsStep) (marks : MarksHold (g.seen ground3.mem)) (performs : PerformsAt (g.seen ground2.mem) ground2.table registers2 (g.seen ground3.mem) ground3.table registers3 c r area level) (tells : AccountsForFaultsIf (view ground2).mem (view ground3).mem mid after (is_fault r))
         (few : r ≢ R.Fault → ground3.table.placed ≤ ground2.table.placed + (words + 2048 * read)) (cost : r ≢ R.Fault → after ≤ mid + 4 * (ground3.table.placed - ground2.table.placed) + fixed) (bound : fixed + 4 * words ≤ 128 * charge)
         (object : r ≡ R.Fine → made.MarksMade (g.seen ground2.mem) ground2.table (g.seen ground3.mem) ground3.table (get_or registers3 to null_word) words) where
       there : Made (contents_at ground scan registers space) (contents_at ground3 scan2 registers3 space) before after c r ground2.table.placed
@@ -106,5 +106,5 @@ module _ {M Z : Type 0} {g : Ghosts M} (ground ground3 : Ground M g) (v : Vec Pa
       (subst (λ (ws : List Parts). Allocated (contents_at ground scan ws space) (contents_at ground3 scan3 registers3 space) before after charge words read to c r) is x)
 
 -- it was refused
-pub allocated_none : {old new : Contents} {before after charge words read to : ℕ} {c : Command} {r : Reply} → Unmade old new before after c r → Allocated old new before after charge words read to c r
+pub allocated_none : {old new : HeapView} {before after charge words read to : ℕ} {c : Command} {r : Reply} → Unmade old new before after c r → Allocated old new before after charge words read to c r
 allocated_none x = record { sound = x.sound; runs = x.runs; makes = record { costs = λ fine. absurd (x.unmade fine); refused = x.refused }; order = λ fine. absurd (x.unmade fine); unmarked = λ fine. absurd (x.unmade fine) }

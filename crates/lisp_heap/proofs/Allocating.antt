@@ -22,11 +22,11 @@ use Rattle.word_graph.specs.lisp_meaning.Sound.{IsAllowed}
 use Rattle.word_graph.specs.lisp_meaning.Step.{answer_of, exceeds, may_fault}
 use Rattle.word_graph.proofs.lisp_ground.Accounts.{areas_agree, levels_agree}
 use Rattle.scavenger.specs.Scan.{Scan}
-use Rattle.heap_state.specs.transporter.LiveSame.{OnlyGrows}
+use Rattle.heap_state.specs.transporter.LiveWordsUnchanged.{OnlyGrows}
 use Rattle.heap_state.specs.transporter.Marking.{MarksFollow}
 use Rattle.heap_state.specs.transporter.Preserving.{RegistersPreserved}
 use Rattle.heap_state.specs.HasScannedAhead.{HasScannedAhead}
-use Rattle.heap_state.specs.Consistent.{IsConsistent}
+use Rattle.heap_state.specs.Consistent.{RepresentsState}
 use Rattle.heap_state.specs.RepresentsAll.{RepresentsAll}
 use Rattle.heap_state.specs.Performs.{PerformsAt, PerformsOn}
 use Rattle.heap_state.specs.Reads.{reads, IsDone}
@@ -40,9 +40,9 @@ use Rattle.heap_collect.specs.Admitting.{HasLeft, Wants}
 use Rattle.heap_collect.specs.Laws.{AdmittedIsStep, GoesTo, PreparedGoes}
 use Rattle.heap_collect.specs.Amounts.{Amount}
 use Rattle.heap_collect.specs.Freeing.{FreesAtMost}
-use Rattle.heap_collect.specs.Moments.{IsStanding}
+use Rattle.heap_collect.specs.Moments.{RepresentsMachineState}
 use Rattle.heap_collect.specs.Silent.{PreparesTo, StandsIn, done_from, placed_from}
-use Rattle.lisp_heap.specs.Contents.{Contents, Counts, contents_of}
+use Rattle.lisp_heap.specs.HeapView.{HeapView, Counts, contents_of}
 use Rattle.lisp_heap.specs.Costs.{Costs, CostsNothing, IsRefused, ScansSome, done_at, left_at, placed_at}
 use Rattle.lisp_heap.specs.Marked.{MarksPages}
 use Rattle.lisp_heap.specs.NewMarks.{MarksMade}
@@ -103,7 +103,7 @@ added done1 done2 placed1 placed2 placed3 before mid after limit charge words re
 copied : (done1 done2 placed1 placed2 placed3 words read : ℕ) → placed2 ≤ placed1 + 2048 * (done2 - done1) → placed3 ≤ placed2 + (words + 2048 * read) → placed3 ≤ placed1 + words + 2048 * ((done2 - done1) + read)
 copied done1 done2 placed1 placed2 placed3 words read a b = omega arith
 
-pub costs_made : (old new : Contents) (scan1 : Scan) (placed1 placed2 before mid after charge words read fixed : ℕ) → scan1.done ≡ done_at old → placed1 ≡ placed_at old → ScansSome new (left_at old new) (done_at old) (placed_at old) (old.space.rate * charge) → Amount scan1 new.scan (old.space.rate * charge)
+pub costs_made : (old new : HeapView) (scan1 : Scan) (placed1 placed2 before mid after charge words read fixed : ℕ) → scan1.done ≡ done_at old → placed1 ≡ placed_at old → ScansSome new (left_at old new) (done_at old) (placed_at old) (old.space.rate * charge) → Amount scan1 new.scan (old.space.rate * charge)
     → placed1 ≤ placed2 → placed2 ≤ placed1 + 2048 * (new.scan.done - scan1.done) → mid ≤ before + 4 * (placed2 - placed1) + 48 * (new.scan.done - scan1.done)
     → placed2 ≤ new.table.placed → new.table.placed ≤ placed2 + (words + 2048 * read) → after ≤ mid + 4 * (new.table.placed - placed2) + fixed → fixed + 4 * words ≤ 128 * charge
     → Costs old new before after charge words read
@@ -121,7 +121,7 @@ costs_made old new scan1 placed1 placed2 before mid after charge words read fixe
 
 -- What a refusal takes
 
-pub costs_nothing : (old new : Contents) (scan1 : Scan) (placed1 before after : ℕ) → scan1.done ≡ done_at old → placed1 ≡ placed_at old → new.scan ≡ scan1 → new.table.placed ≡ placed1 → after ≡ before → CostsNothing old new before after
+pub costs_nothing : (old new : HeapView) (scan1 : Scan) (placed1 before after : ℕ) → scan1.done ≡ done_at old → placed1 ≡ placed_at old → new.scan ≡ scan1 → new.table.placed ≡ placed1 → after ≡ before → CostsNothing old new before after
 costs_nothing old new scan1 placed1 before after done_is placed_is scan_same placed_same same = record { done = ap (λ (s : Scan). s.done) scan_same ∙ done_is; placed = placed_same ∙ placed_is; steps = same }
 
 -- Calls
@@ -140,7 +140,7 @@ module _ (m0 : Store) (t0 : Table) (scan0 : Scan) (registers0 : List Parts) (spa
         let found = sound.stands in
         silent registers0 found.1.map found.0 (unlisted m0 t0 scan0 registers0 found.1.map found.0 found.1.represents) (sym found.1.space) sound.registers
 
-    pub standing_ready : IsStanding m1 t1 scan1 registers0
+    pub standing_ready : RepresentsMachineState m1 t1 scan1 registers0
     standing_ready = record { map = ready.map; state = ready.mid; represents = ready.represents }
 
     kinds_mid : t0.kinds ≡ kinds_in ready.mid.areas
@@ -179,7 +179,7 @@ pub record Admitted (m1 m2 : Store) (t1 t2 : Table) (scan1 scan2 : Scan) (regist
   pub marks : MarksFollow m1 t1 m2 t2
 
 -- and it was made: the heap is sound, the command ran, and its reply is `fault` or `ok`
-pub record Made (old new : Contents) (before after : ℕ) (c : Command) (r : Reply) (placed2 : ℕ) : Type 0 where
+pub record Made (old new : HeapView) (before after : ℕ) (c : Command) (r : Reply) (placed2 : ℕ) : Type 0 where
   pub sound : IsSound new
   pub runs : Runs old new before after c r
   pub grows : placed2 ≤ new.table.placed
@@ -190,7 +190,7 @@ module _ {m0 m1 : Store} {t0 t1 : Table} {scan0 scan1 : Scan} {registers0 : List
   abbrev begun : PreparesTo m1 t1 scan1 registers0 p.sound.stands.0
   begun = ready m0 t0 scan0 registers0 space faults0 resident0 counts0 p.sound m1 t1 scan1 p.silent
 
-  pub standing_prepared : IsStanding m1 t1 scan1 registers0
+  pub standing_prepared : RepresentsMachineState m1 t1 scan1 registers0
   standing_prepared = standing_ready m0 t0 scan0 registers0 space faults0 resident0 counts0 p.sound m1 t1 scan1 p.silent
 
   pub area_prepared : area < areas_of t1
@@ -233,7 +233,7 @@ module _ {m0 m1 : Store} {t0 t1 : Table} {scan0 scan1 : Scan} {registers0 : List
     abbrev ahead : HasScannedAhead m1 t1 m2 t2 scan2 registers2 begun.map begun.mid (space.rate * charge)
     ahead = a.ahead begun.map begun.mid begun.represents
 
-    pub consistent_ahead : IsConsistent m2 t2 registers2
+    pub consistent_ahead : RepresentsState m2 t2 registers2
     consistent_ahead =
         let some = p.sound.areas.0 in
         let same = areas_begun in

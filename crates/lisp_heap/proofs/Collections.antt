@@ -20,7 +20,7 @@ use Rattle.heap_state.specs.StepsTo.{StepsTo}
 use Rattle.heap_state.proofs.Playing.{leaves_same, performs_fault}
 use Rattle.lisp_heap.specs.Words.{paged}
 use Rattle.scavenger.specs.Starting.{Begins, base_pages, is_base, may_name, units_on, used_on}
-use Rattle.lisp_heap.specs.Contents.{lists_of, store_of}
+use Rattle.lisp_heap.specs.HeapView.{lists_of, store_of}
 use Rattle.lisp_heap.proofs.Listed.{read_all, same_mark}
 use Rattle.lisp_heap.proofs.Unwanted.{pays_nothing}
 

@@ -11,13 +11,13 @@ use Rattle.word_graph.specs.lisp_meaning.Flip.{graph_of}
 use Rattle.world_text.specs.Dump.{IsDump}
 use Rattle.word_graph.specs.dump_laws.Written.{dumped}
 use Rattle.word_graph.proofs.dump_laws.Function.{dump_is_function}
-use Rattle.lisp_heap.specs.Contents.{Contents}
+use Rattle.lisp_heap.specs.HeapView.{HeapView}
 use Rattle.lisp_heap.specs.Stands.{Stands}
 use Rattle.lisp_heap.specs.Walking.{StandsAsBefore, StandsSince, graph_in}
 use Rattle.lisp_heap.proofs.Walking.{dump_is_of_state}
 
 -- a dump of what it shows is the dump of each state that it represents
-pub dumped_of_state : {E : Type 0} (h : Contents) (areas : List AreaRule) (result : Result (List ℕ) E) → IfOk result (λ text. IsDump (graph_in h) h.space areas text)
+pub dumped_of_state : {E : Type 0} (h : HeapView) (areas : List AreaRule) (result : Result (List ℕ) E) → IfOk result (λ text. IsDump (graph_in h) h.space areas text)
     → IfOk result (λ text. (s : State) → Stands h s → s.areas ≡ areas → text ≡ dumped (world_of s))
 dumped_of_state h areas result =
     IfOk-weaker result (λ (text : List ℕ). IsDump (graph_in h) h.space areas text) (λ (text : List ℕ). (s : State) → Stands h s → s.areas ≡ areas → text ≡ dumped (world_of s))
@@ -27,13 +27,13 @@ dumped_of_state h areas result =
     (dump_is_of_state h s st h.space areas text dump))))
 
 -- when a walk begins, the heap represents the same states,
-pub begins : (start : Option Contents) (heap : Contents) → start ≡ Some heap → StandsSince start heap
+pub begins : (start : Option HeapView) (heap : HeapView) → start ≡ Some heap → StandsSince start heap
 begins start heap is =
-    subst (λ (from : Option Contents). StandsSince from heap) (sym is)
+    subst (λ (from : Option HeapView). StandsSince from heap) (sym is)
     (record { words = refl; settled = refl; table = refl; scan = refl; stands = λ s st. st; world = record { registers = refl; space = refl; kinds = refl }; room = omega arith })
 
 -- it still does if it is only read,
-pub goes_on : (start : Option Contents) (old new : Contents) → StandsSince start old → StandsAsBefore old new → StandsSince start new
+pub goes_on : (start : Option HeapView) (old new : HeapView) → StandsSince start old → StandsAsBefore old new → StandsSince start new
 goes_on None old new since read = tt
 goes_on (Some start) old new since read = record {
   words = read.words ∙ since.words;
@@ -50,5 +50,5 @@ goes_on (Some start) old new since read = record {
 }
 
 -- and so at the end of the walk it represents the same states
-pub ends : (start : Option Contents) (heap new : Contents) → start ≡ Some heap → StandsSince start new → StandsAsBefore heap new
-ends start heap new is since = subst (λ (from : Option Contents). StandsSince from new) is since
+pub ends : (start : Option HeapView) (heap new : HeapView) → start ≡ Some heap → StandsSince start new → StandsAsBefore heap new
+ends start heap new is since = subst (λ (from : Option HeapView). StandsSince from new) is since

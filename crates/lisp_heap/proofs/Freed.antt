@@ -13,7 +13,7 @@ use Rattle.word_graph.proofs.lisp_meaning.Retained.{retention}
 use Rattle.scavenger.specs.Scan.{Scan}
 use Rattle.heap_state.specs.RepresentsAll.{RepresentsAll}
 use Rattle.heap_collect.specs.Moments.{HasSettled}
-use Rattle.lisp_heap.specs.Contents.{Counts, contents_of}
+use Rattle.lisp_heap.specs.HeapView.{Counts, contents_of}
 use Rattle.lisp_heap.specs.Freed.{Reclaimed, SilentRetains}
 use Rattle.lisp_heap.specs.Stands.{Stands}
 use Rattle.lisp_heap.proofs.Listed.{listed, unlisted}

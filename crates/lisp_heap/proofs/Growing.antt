@@ -24,16 +24,16 @@ use Rattle.word_graph.specs.lisp_meaning.Run.{SilentFlip, SilentReclaim, allocat
 use Rattle.word_graph.specs.lisp_meaning.Sound.{IsAllowed}
 use Rattle.word_graph.specs.lisp_meaning.Step.{wanted_by}
 use Rattle.word_graph.proofs.lisp_ground.Accounts.{areas_agree}
-use Rattle.heap_state.specs.transporter.Preserving.{AllFresh, RegistersPreserved, PreservesScanned}
+use Rattle.heap_state.specs.transporter.Preserving.{NoOldAddresses, RegistersPreserved, PreservesScanned}
 use Rattle.scavenger.specs.Scan.{Scan}
 use Rattle.heap_state.specs.HasScannedAhead.{HasScannedAhead}
-use Rattle.heap_state.specs.Consistent.{IsConsistent}
+use Rattle.heap_state.specs.Consistent.{RepresentsState}
 use Rattle.heap_state.specs.Represents.{Represents}
 use Rattle.heap_state.specs.RepresentsAll.{RepresentsAll}
 use Rattle.heap_state.specs.RepresentsLater.{RepresentsSame}
 use Rattle.heap_state.specs.Performs.{Performs}
 use Rattle.heap_state.specs.Reads.{reads, IsDone}
-use Rattle.heap_state.specs.Settled.{IsSettled, RegistersFresh}
+use Rattle.heap_state.specs.Settled.{IsSettled, NoOldAddressesInRegisters}
 use Rattle.heap_state.specs.StepsTo.{StepsTo}
 use Rattle.heap_commands.specs.declared.blocks.growing.Growing.TheVariants.{Answered}
 use Rattle.heap_commands.specs.Growth.{CanGrowIn, IsGrowing, WantsGrowth}
@@ -41,9 +41,9 @@ use Rattle.heap_commands.proofs.Grows.{growing_effect}
 use Rattle.heap_collect.specs.Admitting.{HasLeft, Wants}
 use Rattle.heap_collect.specs.Amounts.{Amount}
 use Rattle.heap_collect.specs.Laws.{AdmittedCommandIsStep, GoesTo, PreparedGoes, StandsAfterLook}
-use Rattle.heap_collect.specs.Moments.{IsStanding}
+use Rattle.heap_collect.specs.Moments.{RepresentsMachineState}
 use Rattle.heap_collect.specs.Silent.{IsSilent, PreparesTo, done_from, placed_from}
-use Rattle.lisp_heap.specs.Contents.{Contents, Counts, contents_of}
+use Rattle.lisp_heap.specs.HeapView.{HeapView, Counts, contents_of}
 use Rattle.lisp_heap.specs.Costs.{Costs, CostsLook, IsRefused, LookCosts, ScansSome, Spends, done_at, left_at, placed_at, wants_in}
 use Rattle.lisp_heap.specs.Marked.{MarksPages}
 use Rattle.lisp_heap.specs.Stands.{Told, IsSound, Runs, Stands}
@@ -118,7 +118,7 @@ all_told : (done1 done2 placed1 placed3 limit charge before after : ℕ) → 1 �
 all_told done1 done2 placed1 placed3 limit charge before after some (inl e) g x = omega arith
 all_told done1 done2 placed1 placed3 limit charge before after some (inr e) g x = omega arith
 
-pub costs_grown : (old new : Contents) (scan1 : Scan) (t1 : Table) (before after charge : ℕ) → scan1.done ≡ done_at old → t1.placed ≡ placed_at old → (Amount scan1 new.scan (old.space.rate * charge) → ScansSome new (left_at old new) (done_at old) (placed_at old) (old.space.rate * charge))
+pub costs_grown : (old new : HeapView) (scan1 : Scan) (t1 : Table) (before after charge : ℕ) → scan1.done ≡ done_at old → t1.placed ≡ placed_at old → (Amount scan1 new.scan (old.space.rate * charge) → ScansSome new (left_at old new) (done_at old) (placed_at old) (old.space.rate * charge))
     → Spends scan1 new.scan t1 new.table old.space.rate charge 99 1 before after → Costs old new before after charge charge 1
 costs_grown old new scan1 t1 before after charge done_is placed_is scans x = record {
   scans = scans x.amount;
@@ -132,7 +132,7 @@ costs_grown old new scan1 t1 before after charge done_is placed_is scans x = rec
     few (inl e) = inl e
     few (inr e) = inr e.0
 
-pub costs_looked : (old new : Contents) (scan1 : Scan) (t1 : Table) (before after : ℕ) → scan1.done ≡ done_at old → t1.placed ≡ placed_at old → LookCosts scan1 new.scan t1 new.table before after → CostsLook old new before after
+pub costs_looked : (old new : HeapView) (scan1 : Scan) (t1 : Table) (before after : ℕ) → scan1.done ≡ done_at old → t1.placed ≡ placed_at old → LookCosts scan1 new.scan t1 new.table before after → CostsLook old new before after
 costs_looked old new scan1 t1 before after done_is placed_is x = record {
   done = ap (λ (s : Scan). s.done) x.still ∙ done_is;
   bound = subst (λ (n : ℕ). after ≤ before + 59 + 4 * (new.table.placed - n)) placed_is x.bound;
@@ -148,17 +148,17 @@ looks_refused scan1 scan2 t0 t1 t2 before mid after a b x still same steps =
 
 -- A look at the block
 
-pub consistent_now : (m : Store) (t : Table) (scan : Scan) (registers : List Parts) → IsStanding m t scan registers → 0 < areas_of t → IsConsistent m t registers
+pub consistent_now : (m : Store) (t : Table) (scan : Scan) (registers : List Parts) → RepresentsMachineState m t scan registers → 0 < areas_of t → RepresentsState m t registers
 consistent_now m t scan registers x some =
     let same = areas_agree m t x.map x.state.space.levels x.state.areas x.state.store (aim_of x.state.phase) x.represents.represents.kept in
     record { map = x.map; state = x.state; represents = x.represents.represents; reach = x.represents.reach; some = omega arith }
 
 module _ (m0 m1 : Store) (t0 t1 : Table) (scan : Scan) (registers0 registers1 : List Parts) where
-  module _ (law : StandsAfterLook) (marks : MarksHold m1) (preserves : PreservesScanned m0 t0 m1 t1) (others : RegistersPreserved t1 registers0 registers1) (stays_fresh : RegistersFresh t0 registers0 → AllFresh m0 t0 → AllFresh m1 t1) (represented : RepresentsSame m0 t0 registers0 m1 t1 registers1) where
+  module _ (law : StandsAfterLook) (marks : MarksHold m1) (preserves : PreservesScanned m0 t0 m1 t1) (others : RegistersPreserved t1 registers0 registers1) (stays_fresh : NoOldAddressesInRegisters t0 registers0 → NoOldAddresses m0 t0 → NoOldAddresses m1 t1) (represented : RepresentsSame m0 t0 registers0 m1 t1 registers1) where
     pub looked : (k : RoleMap) (s : State) (x : RepresentsAll m0 t0 scan registers0 k s) → RepresentsAll m1 t1 scan registers1 (represented k s x.represents x.reach).map s
     looked k s x = law m0 m1 t0 t1 scan registers0 registers1 k s x marks preserves others stays_fresh (represented k s x.represents x.reach)
 
-    pub standing_looked : IsStanding m0 t0 scan registers0 → IsStanding m1 t1 scan registers1
+    pub standing_looked : RepresentsMachineState m0 t0 scan registers0 → RepresentsMachineState m1 t1 scan registers1
     standing_looked x = record { map = (represented x.map x.state x.represents.represents x.represents.reach).map; state = x.state; represents = looked x.map x.state x.represents }
 
 -- The wider block
@@ -176,7 +176,7 @@ module _ (m1 m2 : Store) (t1 t2 : Table) (scan1 scan2 : Scan) (registers1 regist
         let low = wants.area_in in
         omega arith
 
-    pub can_grow_there : IsStanding m1 t1 scan1 registers1 → HasLeft t2 area charge → CanGrowIn m2 t2 registers2 target wanted
+    pub can_grow_there : RepresentsMachineState m1 t1 scan1 registers1 → HasLeft t2 area charge → CanGrowIn m2 t2 registers2 target wanted
     can_grow_there x left =
         let y = ahead x.map x.state x.represents in
         record {

@@ -18,12 +18,12 @@ use Rattle.word_graph.specs.lisp_meaning.State as M
 use Rattle.word_graph.specs.lisp_meaning.Roles.{RoleMap}
 use Rattle.word_graph.specs.lisp_ground.GroundInvariant.{GroundInvariant}
 use Rattle.scavenger.specs.Scan.{Scan}
-use Rattle.scavenger.specs.Collecting.{Clean, Collects}
-use Rattle.heap_state.specs.Consistent.{IsConsistent}
+use Rattle.scavenger.specs.Collecting.{ScanInvariant, Collects}
+use Rattle.heap_state.specs.Consistent.{RepresentsState}
 use Rattle.heap_state.specs.RepresentsAll.{RepresentsAll}
 use Rattle.heap_state.specs.Scans.{Scans}
-use Rattle.heap_collect.specs.Moments.{IsStanding}
-use Rattle.lisp_heap.specs.Contents.{Counts, contents_of, lists_of, store_of}
+use Rattle.heap_collect.specs.Moments.{RepresentsMachineState}
+use Rattle.lisp_heap.specs.HeapView.{Counts, contents_of, lists_of, store_of}
 use Rattle.lisp_heap.specs.Stands.{IsSound as IsSoundHeap}
 
 -- What is represented doesn't depend on marks
@@ -42,7 +42,7 @@ module _ (m : Store) (marks : ℕ → ℕ) where
     agrees = x.agrees;
   }
 
-  remarked_clean : (t : Table) (scan : Scan) (registers : List Parts) → Clean m t scan registers → Clean other t scan registers
+  remarked_clean : (t : Table) (scan : Scan) (registers : List Parts) → ScanInvariant m t scan registers → ScanInvariant other t scan registers
   remarked_clean t scan registers x = record {
     count = x.count;
     pages = x.pages;
@@ -104,12 +104,12 @@ unlisted m t scan registers k s x = remarked (store_of (lists_of m)) m.marks t s
 -- What each heap has
 
 module _ (m : Store) (t : Table) (scan : Scan) (registers : List Parts) (space : Space) (faults : ℕ) (resident : List ℕ) (counts : Counts) (sound : IsSoundHeap (contents_of m t scan registers space faults resident counts)) where
-  pub standing : IsStanding m t scan registers
+  pub standing : RepresentsMachineState m t scan registers
   standing =
       let found = sound.stands in
       record { map = found.1.map; state = found.0; represents = unlisted m t scan registers found.1.map found.0 found.1.represents }
 
-  pub consistent : IsConsistent m t registers
+  pub consistent : RepresentsState m t registers
   unfolding standing
   consistent =
       let found = sound.stands in

@@ -8,26 +8,26 @@ use Rattle.area_space.specs.Table.{Table}
 use Rattle.word_graph.specs.lisp_meaning.Opening.{opening}
 use Rattle.scavenger.specs.Scan.{Scan}
 use Rattle.heap_load.specs.Loading.{RepresentsGroups, RepresentsSome, RepresentsWorld, emptied}
-use Rattle.lisp_heap.specs.Contents.{Contents, Counts, SameWorld, contents_of}
+use Rattle.lisp_heap.specs.HeapView.{HeapView, Counts, SameWorld, contents_of}
 use Rattle.lisp_heap.specs.Form.{world_with}
 use Rattle.lisp_heap.specs.Loaded.{StandsGrouped}
 use Rattle.lisp_heap.specs.Stands.{IsSound, Stands}
 use Rattle.lisp_heap.proofs.Listed.{listed, unlisted}
 
-module _ (m : Store) (t : Table) (scan : Scan) (registers : List Parts) (space : Space) (faults : ℕ) (resident : List ℕ) (counts : Counts) (world : World) (h : Contents) (view : contents_of m t scan registers space faults resident counts ≡ h)
+module _ (m : Store) (t : Table) (scan : Scan) (registers : List Parts) (space : Space) (faults : ℕ) (resident : List ℕ) (counts : Counts) (world : World) (h : HeapView) (view : contents_of m t scan registers space faults resident counts ≡ h)
     (empty : Stands h (opening (world_with world.space world.areas))) where
-  abbrev old : Contents
+  abbrev old : HeapView
   old = contents_of m t scan registers space faults resident counts
 
   pub here : Stands old (opening (world_with world.space world.areas))
-  here = subst (λ (x : Contents). Stands x (opening (world_with world.space world.areas))) (sym view) empty
+  here = subst (λ (x : HeapView). Stands x (opening (world_with world.space world.areas))) (sym view) empty
 
   -- what it consists of represents the world without objects
   pub represents_empty : RepresentsWorld m t registers (emptied world)
   represents_empty = record { map = here.map; represents = (unlisted m t scan registers here.map (opening (emptied world)) here.represents).represents }
 
   module _ (m' : Store) (t' : Table) (registers' : List Parts) (faults' : ℕ) (resident' : List ℕ) (counts' : Counts) (hold : MarksHold m') (count : length registers' ≡ length registers) (regions : t'.regions ≡ t.regions) where
-    abbrev new : Contents
+    abbrev new : HeapView
     new = contents_of m' t' scan registers' space faults' resident' counts'
 
     -- it represents what its parts represent, since nothing remains to be scanned

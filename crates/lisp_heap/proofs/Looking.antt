@@ -9,9 +9,9 @@ use Rattle.word_graph.specs.lisp_meaning.State.{Phase, Idle, Running}
 use Rattle.word_graph.specs.lisp_meaning.State as M
 use Rattle.word_graph.specs.lisp_meaning.Roles.{RoleMap}
 use Rattle.scavenger.specs.Scan.{Scan}
-use Rattle.scavenger.specs.Collecting.{Clean}
+use Rattle.scavenger.specs.Collecting.{ScanInvariant}
 use Rattle.heap_state.specs.Scans.{Scans}
-use Rattle.lisp_heap.specs.Contents.{Counts, contents_of}
+use Rattle.lisp_heap.specs.HeapView.{Counts, contents_of}
 use Rattle.lisp_heap.specs.Stands.{IsSound}
 use Rattle.lisp_heap.proofs.Listed.{standing}
 
@@ -20,7 +20,7 @@ module _ (m : Store) (t : Table) (scan : Scan) (registers : List Parts) (k : Rol
   each_page Idle x = x.pages
   each_page (Running c) x = x.clean.pages
 
-  going : scan.over ≡ false → (p : Phase) → Scans m t scan registers k s p 0 → Clean m t scan registers
+  going : scan.over ≡ false → (p : Phase) → Scans m t scan registers k s p 0 → ScanInvariant m t scan registers
   going runs Idle x = absurd (let over : scan.over ≡ true = x.over in cc)
   going runs (Running c) x = x.clean
 
@@ -33,7 +33,7 @@ module _ (m : Store) (t : Table) (scan : Scan) (registers : List Parts) (space :
       let found = standing m t scan registers space faults resident counts sound in
       each_page m t scan registers found.map found.state.store found.state.phase found.represents.scans
 
-  pub clean_looked : scan.over ≡ false → Clean m t scan registers
+  pub clean_looked : scan.over ≡ false → ScanInvariant m t scan registers
   clean_looked runs =
       let found = standing m t scan registers space faults resident counts sound in
       going m t scan registers found.map found.state.store runs found.state.phase found.represents.scans

@@ -9,29 +9,29 @@ use Rattle.area_space.specs.Table.{Table}
 use Rattle.area_space.specs.View.{GroundView, view}
 use Rattle.area_space.specs.declared.ground.Ground.{Ground}
 use Rattle.scavenger.specs.Scan.{Scan}
-use Rattle.heap_collect.specs.Moments.{IsStanding}
+use Rattle.heap_collect.specs.Moments.{RepresentsMachineState}
 use Rattle.heap_collect.specs.Silent.{full_levels_on}
 use Rattle.lisp_heap.specs.Admits.{Prepares}
-use Rattle.lisp_heap.specs.Contents.{Lists, contents_at, lists_of}
+use Rattle.lisp_heap.specs.HeapView.{MemoryLists, contents_at, lists_of}
 use Rattle.lisp_heap.specs.Growth.{LooksAndWidens}
 use Rattle.lisp_heap.specs.Making.{IsReady, Moment, ScansBeforeGrowth}
 use Rattle.lisp_heap.proofs.Collections.{begins_listed}
 use Rattle.lisp_heap.proofs.Ordered.{up_to_listed}
 
-abbrev pub moment : Lists → Table → Scan → List Parts → Moment
+abbrev pub moment : MemoryLists → Table → Scan → List Parts → Moment
 moment memory table scan registers = record { memory = memory; table = table; scan = scan; registers = registers }
 
 -- two with the same parts
-pub moment_same : {m m' : Lists} {t t' : Table} {s s' : Scan} {ws ws' : List Parts} → m' ≡ m → t' ≡ t → s' ≡ s → ws' ≡ ws → moment m' t' s' ws' ≡ moment m t s ws
+pub moment_same : {m m' : MemoryLists} {t t' : Table} {s s' : Scan} {ws ws' : List Parts} → m' ≡ m → t' ≡ t → s' ≡ s → ws' ≡ ws → moment m' t' s' ws' ≡ moment m t s ws
 moment_same {m} {m'} {t} {t'} {s} {s'} {ws} {ws'} x y z w =
-    ap (λ (i : Lists). moment i t' s' ws') x ∙ ap (λ (i : Table). moment m i s' ws') y ∙ ap (λ (i : Scan). moment m t i ws') z ∙ ap (λ (i : List Parts). moment m t s i) w
+    ap (λ (i : MemoryLists). moment i t' s' ws') x ∙ ap (λ (i : Table). moment m i s' ws') y ∙ ap (λ (i : Scan). moment m t i ws') z ∙ ap (λ (i : List Parts). moment m t s i) w
 
 some_then : {A : Type 0} {P Q : A → Type 0} (o : Option A) → ((x : A) → P x → Q x) → IfSome o P → IfSome o Q
 some_then None f x = tt
 some_then (Some a) f x = f a x
 
 -- after the silent steps
-pub ready_there : {M : Type 0} {g : Ghosts M} (ground : Ground M g) {scan : Scan} {registers : List Parts} {space : Space} {pages : List ℕ} (x : Prepares (view ground) scan space pages) → IsStanding x.ground.mem.store x.ground.table x.begun registers
+pub ready_there : {M : Type 0} {g : Ghosts M} (ground : Ground M g) {scan : Scan} {registers : List Parts} {space : Space} {pages : List ℕ} (x : Prepares (view ground) scan space pages) → RepresentsMachineState x.ground.mem.store x.ground.table x.begun registers
     → IsReady (contents_at ground scan registers space) (moment (lists_of x.ground.mem.store) x.ground.table x.begun registers)
 ready_there ground {scan} {registers} {space} {pages} x standing = record {
   registers = refl;
@@ -42,7 +42,7 @@ ready_there ground {scan} {registers} {space} {pages} x standing = record {
 }
 
 -- a block was looked at, units were scanned, and it grew
-pub growth_order : {M : Type 0} {g : Ghosts M} (ground ground3 : Ground M g) {scan scan3 : Scan} {registers registers3 : List Parts} {space : Space} (charge : ℕ) (x : Prepares (view ground) scan space (g.resident ground.mem)) → IsStanding x.ground.mem.store x.ground.table x.begun registers
+pub growth_order : {M : Type 0} {g : Ghosts M} (ground ground3 : Ground M g) {scan scan3 : Scan} {registers registers3 : List Parts} {space : Space} (charge : ℕ) (x : Prepares (view ground) scan space (g.resident ground.mem)) → RepresentsMachineState x.ground.mem.store x.ground.table x.begun registers
     → LooksAndWidens x.ground (view ground3) x.begun scan3 registers registers3 charge (space.rate * charge) → ScansBeforeGrowth (contents_at ground scan registers space) (contents_at ground3 scan3 registers3 space) charge
 growth_order ground ground3 {scan} {scan3} {registers} {registers3} {space} charge x standing y =
     let w = y.widens in

@@ -12,9 +12,9 @@ use Rattle.lisp_graph.specs.declared.reply.Reply.TheVariants as R
 use Rattle.mem_port.specs.Store.{Store, level_of_word}
 use Rattle.area_space.specs.Table.{Table, stale}
 use Rattle.heap_state.specs.Marks.{MarksByStoring, MarksOf, stores}
-use Rattle.heap_state.specs.transporter.LiveSame.{OnlyGrows}
+use Rattle.heap_state.specs.transporter.LiveWordsUnchanged.{OnlyGrows}
 use Rattle.heap_state.specs.transporter.Marking.{HasMarker, IsForward, IsPlaced, MarksFollow, MayMark, TurnsOneWay, placed, forwarded, settled}
-use Rattle.heap_state.specs.transporter.Settling.{HasOld}
+use Rattle.heap_state.specs.transporter.Settling.{RefersToOld}
 use Rattle.heap_state.specs.transporter.obj_layout.Forwards.{word_at, Final}
 use Rattle.heap_state.proofs.transporter.Alive.{grows-then, old-before}
 use Rattle.heap_state.proofs.Fetching.{fault_cases}
@@ -22,7 +22,7 @@ use Rattle.heap_state.proofs.Marked.{marks_after, marks_of}
 use Rattle.heap_commands.specs.NewMarks as made
 use Rattle.heap_collect.specs.Freeing.{FreesAtMost, IsFreed}
 use Rattle.heap_collect.proofs.Freed.{frees_nothing}
-use Rattle.lisp_heap.specs.Contents.{Contents, Lists, lists_of, store_of}
+use Rattle.lisp_heap.specs.HeapView.{HeapView, MemoryLists, lists_of, store_of}
 use Rattle.lisp_heap.specs.Marked.{HasMarked, IsGone, MarksPages, WasPlaced, by_forward, by_place, by_settling, by_storing}
 use Rattle.lisp_heap.specs.NewMarks.{GaveMarks, MarksMade}
 use Rattle.lisp_heap.proofs.Listed.{same_mark}
@@ -47,7 +47,7 @@ module _ (m m1 m2 : Store) (t t1 t2 : Table) (c : Command) (r : Reply) (frees : 
   gone : (region : ℕ) → IsFreed t t1 region → IsGone t t2 region
   gone region x = record { old = x.old; now = λ old. (let was = old-before grows old in x.free (stale was.0) was.1) }
 
-  still_old : (w : Parts) → HasOld t1 w → HasOld t2 w
+  still_old : (w : Parts) → RefersToOld t1 w → RefersToOld t2 w
   still_old w x = (x.0, x.1, (x.2.0, subst (λ (rs : List ℕ). Contains rs (x.0 / 4096)) (sym (grows.old_chains x.2.0)) x.2.1))
 
   was_placed : (a : ℕ) → IsPlaced t1 t2 a → WasPlaced t t2 a
@@ -61,8 +61,8 @@ module _ (m m1 m2 : Store) (t t1 t2 : Table) (c : Command) (r : Reply) (frees : 
   turned at a (forwarded before after) =
       by_forward (λ was. elim (frees.words a) [ inl e ↦ absurd (before (subst IsForward (sym e) was)) | inr x ↦ gone (a / 4096) x.0 ]) after
   turned at a (settled had lost) = elim (frees.words a) [
-    | inl e ↦ by_settling (still_old (word_at m.words a) (subst (HasOld t1) e had)) lost
-    | inr x ↦ absurd (let h = subst (HasOld t1) x.1 had in let none : None ≡ Some h.0 = h.1 in cc)
+    | inl e ↦ by_settling (still_old (word_at m.words a) (subst (RefersToOld t1) e had)) lost
+    | inr x ↦ absurd (let h = subst (RefersToOld t1) x.1 had in let none : None ≡ Some h.0 = h.1 in cc)
   ]
 
   marker : (at page : ℕ) → (m2.marks page ≡ 0) ⊎ HasMarker m1 t1 m2 t2 page → (m2.marks page ≡ 0) ⊎ ((a : ℕ) × (a / 256 ≡ page) × HasMarked c r at m.words t m2.words m2.levels t2 a)
@@ -97,31 +97,31 @@ module _ (m m1 m2 : Store) (t t1 t2 : Table) (c : Command) (r : Reply) (frees : 
   ]
 
 -- an object was made after silent steps, and the marks are in lists
-pub made_marked : (old new : Contents) (m m1 m2 : Store) (t1 : Table) (c : Command) → old.memory ≡ lists_of m → new.memory ≡ lists_of m2 → length m2.levels ≡ length m.levels → FreesAtMost m old.table m1 t1 → OnlyGrows t1 new.table
+pub made_marked : (old new : HeapView) (m m1 m2 : Store) (t1 : Table) (c : Command) → old.memory ≡ lists_of m → new.memory ≡ lists_of m2 → length m2.levels ≡ length m.levels → FreesAtMost m old.table m1 t1 → OnlyGrows t1 new.table
     → (word : Parts) (count : ℕ) → made.MarksMade m1 t1 m2 new.table word count → MarksMade c old new word count
 made_marked old new m m1 m2 t1 c is_old is_new size frees grows word count x = record {
   address = x.address;
   refers = x.refers;
   at = x.at;
-  final = subst (λ (lists : Lists). Final lists.words x.address x.at) (sym is_new) x.final;
+  final = subst (λ (lists : MemoryLists). Final lists.words x.address x.at) (sym is_new) x.final;
   placed = λ a from to. was_placed m m1 m2 old.table t1 new.table c R.Fine frees grows a (x.placed a from to);
   unmarked = λ page clean. elim (cases_lt page (16 * length m.levels)) [
-    | inl low ↦ elim (made_turned m m1 m2 old.table t1 new.table c R.Fine frees grows word count x page (sym (same_mark m page low) ∙ subst (λ (lists : Lists). (store_of lists).marks page ≡ 0) is_old clean)) [
-      | inl e ↦ inl (subst (λ (lists : Lists). (store_of lists).marks page ≡ 0) (sym is_new) (same_mark m2 page (omega arith) ∙ e))
+    | inl low ↦ elim (made_turned m m1 m2 old.table t1 new.table c R.Fine frees grows word count x page (sym (same_mark m page low) ∙ subst (λ (lists : MemoryLists). (store_of lists).marks page ≡ 0) is_old clean)) [
+      | inl e ↦ inl (subst (λ (lists : MemoryLists). (store_of lists).marks page ≡ 0) (sym is_new) (same_mark m2 page (omega arith) ∙ e))
       | inr h ↦ inr (h.0, h.1, gave h.0 h.2 h.3)
     ]
     | inr past ↦
         let size_listed = length-map (range_with_len 0 (16 * length m2.levels)) m2.marks in
         let all = length-range_with_len 0 (16 * length m2.levels) in
-        inl (subst (λ (lists : Lists). (store_of lists).marks page ≡ 0) (sym is_new) (get_or_past (map m2.marks (range_with_len 0 (16 * length m2.levels))) page 0 (omega arith)))
+        inl (subst (λ (lists : MemoryLists). (store_of lists).marks page ≡ 0) (sym is_new) (get_or_past (map m2.marks (range_with_len 0 (16 * length m2.levels))) page 0 (omega arith)))
   ];
 }
   where
     gave : (a : ℕ) → HasMarked c R.Fine x.at m.words old.table m2.words m2.levels new.table a → (x.at ≤ a → a < x.at + count → 0 < level_of_word m2.levels (word_at m2.words a)) → GaveMarks c old new x.at count a
     gave a may young = record {
-      may = subst (λ (lists : Lists). HasMarked c R.Fine x.at lists.words old.table new.memory.words new.memory.levels new.table a) (sym is_old)
-          (subst (λ (lists : Lists). HasMarked c R.Fine x.at m.words old.table lists.words lists.levels new.table a) (sym is_new) may);
-      young = subst (λ (lists : Lists). x.at ≤ a → a < x.at + count → 0 < level_of_word lists.levels (word_at lists.words a)) (sym is_new) young;
+      may = subst (λ (lists : MemoryLists). HasMarked c R.Fine x.at lists.words old.table new.memory.words new.memory.levels new.table a) (sym is_old)
+          (subst (λ (lists : MemoryLists). HasMarked c R.Fine x.at m.words old.table lists.words lists.levels new.table a) (sym is_new) may);
+      young = subst (λ (lists : MemoryLists). x.at ≤ a → a < x.at + count → 0 < level_of_word lists.levels (word_at lists.words a)) (sym is_new) young;
     }
 
 -- what was performed on the heap

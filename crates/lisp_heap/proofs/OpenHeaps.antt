@@ -20,7 +20,7 @@ use Rattle.word_graph.specs.lisp_meaning.Empty.{blank_map, IsBare}
 use Rattle.word_graph.specs.lisp_meaning.Roles.{value_of}
 use Rattle.word_graph.specs.lisp_ground.GroundInvariant.{GroundInvariant}
 use Rattle.word_graph.proofs.lisp_ground.Starting.{fresh_kept_on}
-use Rattle.lisp_heap.specs.Contents.{Contents, Counts, contents_of}
+use Rattle.lisp_heap.specs.HeapView.{HeapView, Counts, contents_of}
 use Rattle.lisp_heap.specs.Form.{IsForm, world_with}
 use Rattle.lisp_heap.specs.Stands.{Stands, IsSound as IsSoundHeap}
 use Rattle.heap_commands.specs.cdr_lists.Words.{plain}
@@ -74,7 +74,7 @@ module _ (m : Memory.Store) (pages : ℕ) (space : Space) (areas : List AreaRule
     marks = sound.marked;
   }
 
-  abbrev opened : Contents
+  abbrev opened : HeapView
   opened = contents_of m table scan registers space faults resident counts
 
   pub opened_stands : Stands opened (opening world)

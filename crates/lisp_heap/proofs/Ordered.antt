@@ -12,7 +12,7 @@ use Rattle.scavenger.specs.declared.scan_set.Progress.TheVariants.{Scanned}
 use Rattle.scavenger.specs.Scan.{Scan}
 use Rattle.scavenger.specs.Scanning.{Scans, ScansRegister, ScansWord, StillCollects, register, word}
 use Rattle.scavenger.specs.Sweeping.{ScansMany, ScansUpTo, nothing, more}
-use Rattle.lisp_heap.specs.Contents.{lists_of, store_of}
+use Rattle.lisp_heap.specs.HeapView.{lists_of, store_of}
 use Rattle.lisp_heap.specs.Units.{FollowsOrder}
 use Rattle.lisp_heap.proofs.Listed.{remarked_collects, same_mark}
 

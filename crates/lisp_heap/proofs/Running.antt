@@ -11,7 +11,7 @@ use Rattle.lisp_graph.specs.declared.reply.Reply.{Reply}
 use Rattle.lisp_graph.specs.declared.reply.Reply.TheVariants as R
 use Rattle.lisp_graph.specs.World.{IsSpace}
 use Rattle.mem_port.specs.Store.{MarksHold, Store}
-use Rattle.mem_port.specs.View.{TellsIf}
+use Rattle.mem_port.specs.View.{AccountsForFaultsIf}
 use Rattle.area_space.specs.Fresh.{kinds_in}
 use Rattle.area_space.specs.Table.{Table}
 use Rattle.area_space.specs.View.{view}
@@ -24,7 +24,7 @@ use Rattle.word_graph.specs.lisp_meaning.Roles.{RoleMap}
 use Rattle.word_graph.specs.lisp_meaning.Sound.{IsAllowed}
 use Rattle.scavenger.specs.Scan.{Scan}
 use Rattle.heap_collect.specs.Laws.{GoesTo}
-use Rattle.heap_state.specs.Consistent.{IsConsistent}
+use Rattle.heap_state.specs.Consistent.{RepresentsState}
 use Rattle.heap_state.specs.RepresentsAll.{RepresentsAll}
 use Rattle.heap_state.specs.Laws.{PerformsIsStep}
 use Rattle.heap_state.specs.Performs.{Performs}
@@ -32,7 +32,7 @@ use Rattle.heap_state.specs.Reads.{reads, is_fault, IsDone}
 use Rattle.heap_state.specs.Settled.{IsSettled}
 use Rattle.heap_state.specs.StepsTo.{StepsTo}
 use Rattle.heap_state.proofs.Reached.{steps_bear}
-use Rattle.lisp_heap.specs.Contents.{Contents, Counts, contents_at, contents_of, counted}
+use Rattle.lisp_heap.specs.HeapView.{HeapView, Counts, contents_at, contents_of, counted}
 use Rattle.lisp_heap.specs.Costs.{done_at, placed_at}
 use Rattle.lisp_heap.specs.Marked.{MarksPages}
 use Rattle.lisp_heap.specs.Stands.{IsSound, Keeps, Runs, Stands, Told, scans_for}
@@ -47,14 +47,14 @@ not_less n = omega arith
 
 -- What a command that met a swap error keeps
 
-pub keeps_plain : (c : Command) (old new : Contents) → allocates c ≡ false → old.scan.done ≤ new.scan.done → old.table.placed ≤ new.table.placed → Keeps c old new
+pub keeps_plain : (c : Command) (old new : HeapView) → allocates c ≡ false → old.scan.done ≤ new.scan.done → old.table.placed ≤ new.table.placed → Keeps c old new
 keeps_plain c old new none done placed = record {
   scanned = subst (λ (b : Bool). (if b then done_at old else old.scan.done) ≤ new.scan.done) (sym none) done;
   placed = subst (λ (b : Bool). (if b then placed_at old else old.table.placed) ≤ new.table.placed) (sym none) placed;
 }
 
 -- after its silent steps
-pub keeps_allocating : (c : Command) (old new : Contents) (done placed : ℕ) → allocates c ≡ true → done ≡ done_at old → placed ≡ placed_at old → done ≤ new.scan.done → placed ≤ new.table.placed → Keeps c old new
+pub keeps_allocating : (c : Command) (old new : HeapView) (done placed : ℕ) → allocates c ≡ true → done ≡ done_at old → placed ≡ placed_at old → done ≤ new.scan.done → placed ≤ new.table.placed → Keeps c old new
 keeps_allocating c old new done placed all done_is placed_is more_done more_placed = record {
   scanned = subst (λ (b : Bool). (if b then done_at old else old.scan.done) ≤ new.scan.done) (sym all) (subst (λ (n : ℕ). n ≤ new.scan.done) done_is more_done);
   placed = subst (λ (b : Bool). (if b then placed_at old else old.table.placed) ≤ new.table.placed) (sym all) (subst (λ (n : ℕ). n ≤ new.table.placed) placed_is more_placed);
@@ -71,10 +71,10 @@ pays_scan c all none = cc
 -- What runs
 
 module _ (m m' : Store) (t t' : Table) (scan scan' : Scan) (registers registers' : List Parts) (space : Space) (faults faults' : ℕ) (resident resident' : List ℕ) (counts counts' : Counts) (before after : ℕ) (c : Command) (r : Reply) where
-  abbrev old : Contents
+  abbrev old : HeapView
   old = contents_of m t scan registers space faults resident counts
 
-  abbrev new : Contents
+  abbrev new : HeapView
   new = contents_of m' t' scan' registers' space faults' resident' counts'
 
   -- from each state that it represented, the definition goes on to one that it represents then
@@ -137,7 +137,7 @@ module _ (m m' : Store) (t t' : Table) (scan scan' : Scan) (registers registers'
 -- what is performed by one
 module _ (m m' : Store) (t t' : Table) (scan : Scan) (registers registers' : List Parts) (space : Space) (faults faults' : ℕ) (resident resident' : List ℕ) (counts counts' : Counts) (before after : ℕ) (c : Command) (r : Reply) where
   pub performs_runs : PerformsIsStep → IsSound (contents_of m t scan registers space faults resident counts) → MarksHold m' → IsAllowed c → allocates c ≡ false → Performs m t registers m' t' registers' c r
-      → TellsIf (record { store = m; faults = faults; taken = counts.taken; resident = length resident }) (record { store = m'; faults = faults'; taken = counts'.taken; resident = length resident' }) before after (is_fault r)
+      → AccountsForFaultsIf (record { store = m; faults = faults; taken = counts.taken; resident = length resident }) (record { store = m'; faults = faults'; taken = counts'.taken; resident = length resident' }) before after (is_fault r)
       → IsSound (contents_of m' t' scan registers' space faults' resident' counts') × Runs (contents_of m t scan registers space faults resident counts) (contents_of m' t' scan registers' space faults' resident' counts') before after c r
   performs_runs law sound marks allowed none performs told =
       step_runs m m' t t' scan scan registers registers' space faults faults' resident resident' counts counts' before after c r sound marks allowed none
@@ -147,7 +147,7 @@ module _ (m m' : Store) (t t' : Table) (scan : Scan) (registers registers' : Lis
 -- the registers are in a vector, and are lent
 module _ {M Z : Type 0} {g : Ghosts M} (ground ground' : Ground M g) {scan : Scan} (v : Vec Parts Z) {registers registers' : List Parts} {space : Space} {before after : ℕ} (c : Command) {r : Reply} where
   pub lent_runs : registers ≡ v.items → length registers ≡ v.len → PerformsIsStep → MarksHold (g.seen ground'.mem) → IsSound (contents_at ground scan v.items space) → IsAllowed c → allocates c ≡ false
-      → Performs (g.seen ground.mem) ground.table registers (g.seen ground'.mem) ground'.table registers' c r → TellsIf (view ground).mem (view ground').mem before after (is_fault r)
+      → Performs (g.seen ground.mem) ground.table registers (g.seen ground'.mem) ground'.table registers' c r → AccountsForFaultsIf (view ground).mem (view ground').mem before after (is_fault r)
       → IsSound (contents_at ground' scan (with_items v registers').items space) × Runs (contents_at ground scan v.items space) (contents_at ground' scan (with_items v registers').items space) before after c r
   lent_runs lent count law marks sound allowed none performs told =
       subst (λ (ws : List Parts). IsSound (contents_at ground' scan ws space) × Runs (contents_at ground scan v.items space) (contents_at ground' scan ws space) before after c r)
@@ -155,5 +155,5 @@ module _ {M Z : Type 0} {g : Ghosts M} (ground ground' : Ground M g) {scan : Sca
       (performs_runs (g.seen ground.mem) (g.seen ground'.mem) ground.table ground'.table scan v.items registers' space (g.faults ground.mem) (g.faults ground'.mem) (g.resident ground.mem) (g.resident ground'.mem) (counted g ground.mem) (counted g ground'.mem) before after c r
       law sound marks allowed none (subst (λ (ws : List Parts). Performs (g.seen ground.mem) ground.table ws (g.seen ground'.mem) ground'.table registers' c r) lent performs) told)
 
-pub lent_consistent : {M : Type 0} {g : Ghosts M} (ground : Ground M g) {scan : Scan} {lent registers : List Parts} {space : Space} → lent ≡ registers → IsSound (contents_at ground scan registers space) → IsConsistent (g.seen ground.mem) ground.table lent
+pub lent_consistent : {M : Type 0} {g : Ghosts M} (ground : Ground M g) {scan : Scan} {lent registers : List Parts} {space : Space} → lent ≡ registers → IsSound (contents_at ground scan registers space) → RepresentsState (g.seen ground.mem) ground.table lent
 lent_consistent {M} {g} ground {scan} {lent} {registers} {space} same sound = rw (same) (consistent (g.seen ground.mem) ground.table scan registers space (g.faults ground.mem) (g.resident ground.mem) (counted g ground.mem) sound)

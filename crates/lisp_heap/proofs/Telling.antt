@@ -10,20 +10,20 @@ use Rattle.lisp_graph.specs.declared.command.Command.TheVariants as C
 use Rattle.lisp_graph.specs.declared.reply.Reply.{Reply}
 use Rattle.lisp_graph.specs.declared.reply.Reply.TheVariants as R
 use Rattle.mem_port.specs.Store.{Store}
-use Rattle.mem_port.specs.View.{MemoryView, TellsIf}
+use Rattle.mem_port.specs.View.{MemoryView, AccountsForFaultsIf}
 use Rattle.area_space.specs.Frees.{outside_old}
 use Rattle.area_space.specs.Table.{Table}
 use Rattle.word_graph.specs.lisp_meaning.Run.{allocates}
 use Rattle.scavenger.specs.Scan.{Scan}
 use Rattle.heap_state.specs.Reads.{is_fault, reply_of}
 use Rattle.heap_collect.specs.Silent.{reclaims_alone, resident_from}
-use Rattle.lisp_heap.specs.Contents.{Contents}
+use Rattle.lisp_heap.specs.HeapView.{HeapView}
 use Rattle.lisp_heap.specs.Costs.{Takes}
 use Rattle.lisp_heap.specs.Stands.{Told, frees_pages, resident_before}
 use Rattle.lisp_heap.specs.Words.{paged}
 
 -- a heap's memory, as a call shows it
-abbrev pub memory_of : Store → Contents → MemoryView
+abbrev pub memory_of : Store → HeapView → MemoryView
 memory_of store heap = record { store = store; faults = heap.faults; taken = heap.counts.taken; resident = length heap.resident }
 
 -- a reply is `fault`, or its test says that it isn't
@@ -50,12 +50,12 @@ from_short : (t : Table) (scan : Scan) (space : Space) (pages : List ℕ) → le
 from_short t scan space pages = either_short (reclaims_alone t scan space) (outside_old t pages) pages (filter_short _ pages)
 
 -- no page becomes resident by the silent steps
-pub before_short : (c : Command) (heap : Contents) → length (resident_before c heap) ≤ length heap.resident
+pub before_short : (c : Command) (heap : HeapView) → length (resident_before c heap) ≤ length heap.resident
 before_short c heap = either_short (allocates c) (resident_from heap.table heap.scan heap.space heap.resident) heap.resident (from_short heap.table heap.scan heap.space heap.resident)
 
 -- Reports
 
-pub told_by : {store store' : Store} (old new : Contents) (before after : ℕ) (c : Command) (r : Reply) → TellsIf (memory_of store old) (memory_of store' new) before after (is_fault r) → Told old new before after c r
+pub told_by : {store store' : Store} (old new : HeapView) (before after : ℕ) (c : Command) (r : Reply) → AccountsForFaultsIf (memory_of store old) (memory_of store' new) before after (is_fault r) → Told old new before after c r
 told_by old new before after c r x = record {
   later = x.later;
   fault = λ e. x.failed (ap is_fault e);
@@ -66,7 +66,7 @@ told_by old new before after c r x = record {
 }
 
 -- the memory wasn't used
-pub nothing_asked : (v : MemoryView) (steps : ℕ) (faulted : Bool) → faulted ≡ false → TellsIf v v steps steps faulted
+pub nothing_asked : (v : MemoryView) (steps : ℕ) (faulted : Bool) → faulted ≡ false → AccountsForFaultsIf v v steps steps faulted
 nothing_asked v steps faulted none = record {
   later = omega arith;
   failed = λ e. let bad : true ≡ false = sym e ∙ none in absurd (cc);
@@ -77,7 +77,7 @@ nothing_asked v steps faulted none = record {
 }
 
 -- the memory counted nothing
-pub told_still : (old new : Contents) (steps : ℕ) (c : Command) (r : Reply) → new.faults ≡ old.faults → new.counts.taken ≡ old.counts.taken → is_fault r ≡ false → (frees_pages c ≡ false → length new.resident ≡ length old.resident) → Told old new steps steps c r
+pub told_still : (old new : HeapView) (steps : ℕ) (c : Command) (r : Reply) → new.faults ≡ old.faults → new.counts.taken ≡ old.counts.taken → is_fault r ≡ false → (frees_pages c ≡ false → length new.resident ≡ length old.resident) → Told old new steps steps c r
 told_still old new steps c r faults taken none resident = record {
   later = omega arith;
   fault = λ e. let bad : true ≡ false = sym (ap is_fault e) ∙ none in absurd (cc);
@@ -88,7 +88,7 @@ told_still old new steps c r faults taken none resident = record {
 }
 
 -- pages were evicted
-pub told_paged : (old new : Contents) (count : ℕ) (evicted : Result ℕ SwapFault) → TellsFaults old.faults new.faults evicted → new.counts.taken ≡ old.counts.taken → Told old new 0 0 (C.PageOut count) (paged evicted)
+pub told_paged : (old new : HeapView) (count : ℕ) (evicted : Result ℕ SwapFault) → TellsFaults old.faults new.faults evicted → new.counts.taken ≡ old.counts.taken → Told old new 0 0 (C.PageOut count) (paged evicted)
 told_paged old new count (Ok n) x taken = record {
   later = x.later;
   fault = λ e. absurd (cc);
@@ -107,7 +107,7 @@ told_paged old new count (Err fault) x taken = record {
 }
 
 -- one call after another, the first of which met no swap error
-pub tells_then : {v v1 v2 : MemoryView} {before mid after : ℕ} {faulted : Bool} → TellsIf v v1 before mid false → TellsIf v1 v2 mid after faulted → TellsIf v v2 before after faulted
+pub tells_then : {v v1 v2 : MemoryView} {before mid after : ℕ} {faulted : Bool} → AccountsForFaultsIf v v1 before mid false → AccountsForFaultsIf v1 v2 mid after faulted → AccountsForFaultsIf v v2 before after faulted
 tells_then x y =
     let same = x.quiet refl in
     let more = x.room refl in
@@ -121,8 +121,8 @@ tells_then x y =
     }
 
 -- an allocation, after its silent steps
-pub told_behind : {store' : Store} (old new : Contents) (v : MemoryView) (before after : ℕ) (c : Command) (r : Reply) → allocates c ≡ true → v.faults ≡ old.faults → v.taken ≡ old.counts.taken → v.resident ≡ length (resident_from old.table old.scan old.space old.resident)
-    → TellsIf v (memory_of store' new) before after (is_fault r) → Told old new before after c r
+pub told_behind : {store' : Store} (old new : HeapView) (v : MemoryView) (before after : ℕ) (c : Command) (r : Reply) → allocates c ≡ true → v.faults ≡ old.faults → v.taken ≡ old.counts.taken → v.resident ≡ length (resident_from old.table old.scan old.space old.resident)
+    → AccountsForFaultsIf v (memory_of store' new) before after (is_fault r) → Told old new before after c r
 told_behind old new v before after c r all faults taken resident x =
     let ready : length (resident_before c old) ≡ v.resident = ap length (cond-true (allocates c) (resident_from old.table old.scan old.space old.resident) old.resident all) ∙ sym resident in
     record {
@@ -139,7 +139,7 @@ pub cost_of : {A : Type 0} (answer : Result Reply SwapFault) → OnOk answer A �
 cost_of (Ok reply) cost other = cost
 cost_of (Err fault) cost other = absurd (other refl)
 
-pub takes_by : {old new : Contents} {before after words steps : ℕ} (answer : Result Reply SwapFault) (r : Reply) → r ≡ reply_of answer → new.table.placed ≤ old.table.placed + words → OnOk answer (after ≤ before + 4 * (new.table.placed - old.table.placed) + steps)
+pub takes_by : {old new : HeapView} {before after words steps : ℕ} (answer : Result Reply SwapFault) (r : Reply) → r ≡ reply_of answer → new.table.placed ≤ old.table.placed + words → OnOk answer (after ≤ before + 4 * (new.table.placed - old.table.placed) + steps)
     → Takes old new before after words steps r
 takes_by answer r is few cost = record { few = few; cost = λ other. cost_of answer cost (λ e. other (is ∙ e)) }
 

@@ -17,7 +17,7 @@ use Rattle.heap_state.specs.transporter.Writes.{Writes}
 use Rattle.heap_state.specs.transporter.declared.parcel.Parcel.{Parcel}
 use Rattle.heap_commands.specs.Moves.{MovesOrLays}
 use Rattle.heap_commands.specs.cdr_lists.Parts.{LaysPair}
-use Rattle.lisp_heap.specs.Contents.{lists_of}
+use Rattle.lisp_heap.specs.HeapView.{lists_of}
 use Rattle.lisp_heap.proofs.Listed.{same_mark}
 use Rattle.lisp_heap.proofs.Ordered.{in_lists, unmarked}
 

@@ -11,12 +11,12 @@ use Rattle.word_graph.specs.lisp_meaning.Roles.{RoleMap}
 use Rattle.lisp_graph.proofs.Totals.{total-suc, total-zero}
 use Rattle.scavenger.specs.Scan.{Scan}
 use Rattle.scavenger.specs.Left.{register_left, units_of, word_left}
-use Rattle.scavenger.specs.Collecting.{Clean}
+use Rattle.scavenger.specs.Collecting.{ScanInvariant}
 use Rattle.heap_state.specs.Scans.{Scans}
 use Rattle.heap_state.proofs.Over.{at_last, some_left}
 use Rattle.heap_collect.specs.Amounts.{Amount}
 use Rattle.heap_collect.specs.Silent.{flips_alone}
-use Rattle.lisp_heap.specs.Contents.{Contents, store_of}
+use Rattle.lisp_heap.specs.HeapView.{HeapView, store_of}
 use Rattle.lisp_heap.specs.Costs.{ScansSome, done_at, left_at, left_in, placed_at}
 use Rattle.lisp_heap.specs.Stands.{IsSound, Stands}
 use Rattle.lisp_heap.specs.Units.{IsOwing, IsUnfinished}
@@ -43,13 +43,13 @@ nothing m t scan registers over =
     shut : (a : ℕ) → word_left scan t a ≡ false
     shut a = cc
 
-pub nothing_left : (heap : Contents) → IsSound heap → heap.scan.over ≡ true → left_in heap ≡ 0
+pub nothing_left : (heap : HeapView) → IsSound heap → heap.scan.over ≡ true → left_in heap ≡ 0
 nothing_left heap sound over = nothing (store_of heap.memory) heap.table heap.scan heap.registers over
 
 -- A unit remains
 
 module _ (m : Store) (t : Table) (scan : Scan) (registers : List Parts) (k : RoleMap) (s : M.Store) (going : scan.over ≡ false) where
-  clean : (p : Phase) → Scans m t scan registers k s p 0 → Clean m t scan registers
+  clean : (p : Phase) → Scans m t scan registers k s p 0 → ScanInvariant m t scan registers
   clean Idle x = absurd (let over : scan.over ≡ true = x.over in cc)
   clean (Running c) x = x.clean
 
@@ -57,11 +57,11 @@ module _ (m : Store) (t : Table) (scan : Scan) (registers : List Parts) (k : Rol
   behind Idle x = absurd (let over : scan.over ≡ true = x.over in cc)
   behind (Running c) x = at_last m t scan registers k s c x (sym x.over ∙ going)
 
-module _ (heap : Contents) (sound : IsSound heap) (going : heap.scan.over ≡ false) where
+module _ (heap : HeapView) (sound : IsSound heap) (going : heap.scan.over ≡ false) where
   abbrev found : (s : State) × Stands heap s
   found = sound.stands
 
-  clean_here : Clean (store_of heap.memory) heap.table heap.scan heap.registers
+  clean_here : ScanInvariant (store_of heap.memory) heap.table heap.scan heap.registers
   clean_here = clean (store_of heap.memory) heap.table heap.scan heap.registers found.1.map found.0.store going found.0.phase found.1.represents.scans
 
   pub unfinished : IsUnfinished heap
@@ -75,7 +75,7 @@ module _ (heap : Contents) (sound : IsSound heap) (going : heap.scan.over ≡ fa
 
 -- What was scanned
 
-module _ (old new : Contents) (sound : IsSound old) (sound' : IsSound new) (begun : new.scan.begun ≡ old.scan.begun) (stays : old.scan.over ≡ true → new.scan.over ≡ true) where
+module _ (old new : HeapView) (sound : IsSound old) (sound' : IsSound new) (begun : new.scan.begun ≡ old.scan.begun) (stays : old.scan.over ≡ true → new.scan.over ≡ true) where
   left_after : new.scan.over ≡ false → left_in new + (new.scan.done + old.table.placed) ≡ left_in old + (old.scan.done + new.table.placed)
   left_after going = elim (cases_Bool old.scan.over) [
     | inl over ↦ absurd (let a = stays over in cc)
@@ -93,7 +93,7 @@ module _ (old new : Contents) (sound : IsSound old) (sound' : IsSound new) (begu
       all (inr x) = inr (x.0, nothing_left new sound' x.1)
 
 -- after the silent steps of an allocation
-module _ (old new : Contents) (sound : IsSound old) (sound' : IsSound new) (scan1 : Scan) (done_is : scan1.done ≡ done_at old) (still : flips_alone old.table old.scan old.space ≡ false → scan1 ≡ old.scan)
+module _ (old new : HeapView) (sound : IsSound old) (sound' : IsSound new) (scan1 : Scan) (done_is : scan1.done ≡ done_at old) (still : flips_alone old.table old.scan old.space ≡ false → scan1 ≡ old.scan)
     (begun : new.scan.begun ≡ scan1.begun) (stays : scan1.over ≡ true → new.scan.over ≡ true) where
   left_then : (b : Bool) → flips_alone old.table old.scan old.space ≡ b → new.scan.over ≡ false
       → left_in new + (new.scan.done + (if b then 0 else old.table.placed)) ≡ (if b then new.scan.begun else left_in old) + ((if b then 0 else old.scan.done) + new.table.placed)

@@ -6,7 +6,7 @@ use Rattle.lisp_graph.specs.declared.command.Command.{Command}
 use Rattle.lisp_graph.specs.declared.command.Condemn.TheVariants.{Chosen}
 use Rattle.lisp_graph.specs.declared.reply.Reply.{Reply}
 use Rattle.lisp_graph.specs.declared.reply.Reply.TheVariants as R
-use Rattle.mem_port.specs.View.{TellsIf}
+use Rattle.mem_port.specs.View.{AccountsForFaultsIf}
 use Rattle.area_space.specs.Fresh.{kinds_in}
 use Rattle.area_space.specs.View.{GroundView}
 use Rattle.word_graph.specs.lisp_meaning.Roles.{RoleMap}
@@ -17,13 +17,13 @@ use Rattle.word_graph.specs.lisp_meaning.Step.{may_fault}
 use Rattle.scavenger.specs.Scan.{Scan}
 use Rattle.scavenger.specs.Views.{Begins, ScansUpTo}
 use Rattle.heap_state.specs.Views.{HasScannedAhead, RepresentsAll}
-use Rattle.heap_state.specs.transporter.LiveSame.{OnlyGrows}
+use Rattle.heap_state.specs.transporter.LiveWordsUnchanged.{OnlyGrows}
 use Rattle.heap_state.specs.transporter.Preserving.{RegistersPreserved}
 use Rattle.heap_collect.specs.Admitting.{HasLeft, Wants}
 use Rattle.heap_collect.specs.Amounts.{Amount}
 use Rattle.heap_collect.specs.Silent.{done_from, flips_alone, full_levels_on, placed_from, reclaims_alone, resident_from}
 use Rattle.heap_collect.specs.Views.{FreesAtMost, PreparesTo, ScansOn}
-use Rattle.lisp_heap.specs.Contents.{Contents}
+use Rattle.lisp_heap.specs.HeapView.{HeapView}
 use Rattle.lisp_heap.specs.Costs.{CostsNothing, IsRefused}
 use Rattle.lisp_heap.specs.Stands.{IsSound, Runs}
 
@@ -59,15 +59,15 @@ pub record Admits (v v' : GroundView) (scan scan' : Scan) (registers registers' 
   pub table : OnlyGrows first.ground.table v'.table
   pub few : v'.table.placed ≤ first.ground.table.placed + 2048 * (scan'.done - first.begun.done)
   pub cost : after ≤ before + 4 * (v'.table.placed - first.ground.table.placed) + 48 * (scan'.done - first.begun.done)
-  pub tells : TellsIf first.ground.mem v'.mem before after false
+  pub tells : AccountsForFaultsIf first.ground.mem v'.mem before after false
 
 -- A command, with these counts of memory accesses before and after it, ran on the heap and made nothing: its charge was refused, or a page call failed.
-pub record Unmade (old new : Contents) (before after : ℕ) (c : Command) (r : Reply) : Type 0 where
+pub record Unmade (old new : HeapView) (before after : ℕ) (c : Command) (r : Reply) : Type 0 where
   pub sound : IsSound new
   pub runs : Runs old new before after c r
   pub refused : IsRefused r → CostsNothing old new before after
   pub unmade : r ≡ R.Fine → ⊥
 
 -- the same for any command that needs `charge` words of the area
-abbrev pub Refuses : Contents → Contents → ℕ → ℕ → ℕ → ℕ → Reply → Type 0
+abbrev pub Refuses : HeapView → HeapView → ℕ → ℕ → ℕ → ℕ → Reply → Type 0
 Refuses old new area charge before after r = (c : Command) → allocates c ≡ true → IsAllowed c → IsTrue (may_fault c) → ((s : State) → Wants s c area charge) → Unmade old new before after c r

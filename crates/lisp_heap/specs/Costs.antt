@@ -12,32 +12,32 @@ use Rattle.scavenger.specs.Scan.{Scan}
 use Rattle.scavenger.specs.Left.{units_of}
 use Rattle.heap_collect.specs.Amounts.{Amount}
 use Rattle.heap_collect.specs.Silent.{done_from, flips_alone, placed_from}
-use Rattle.lisp_heap.specs.Contents.{Contents, store_of}
+use Rattle.lisp_heap.specs.HeapView.{HeapView, store_of}
 
 -- the units scanned, and the words placed since the flip, of the collection that runs when an allocation begins
-abbrev pub done_at : Contents → ℕ
+abbrev pub done_at : HeapView → ℕ
 done_at heap = done_from heap.table heap.scan heap.space
 
-abbrev pub placed_at : Contents → ℕ
+abbrev pub placed_at : HeapView → ℕ
 placed_at heap = placed_from heap.table heap.scan heap.space
 
 -- the registers and the words that remain to be scanned: none if the scan has finished, and none if no collection runs
-abbrev pub left_in : Contents → ℕ
+abbrev pub left_in : HeapView → ℕ
 left_in heap = units_of (store_of heap.memory) heap.scan heap.table heap.registers
 
 -- those that remain when an allocation begins; if a silent flip occurs, those that there are at its start
-abbrev pub left_at : Contents → Contents → ℕ
+abbrev pub left_at : HeapView → HeapView → ℕ
 left_at old new = if flips_alone old.table old.scan old.space then new.scan.begun else left_in old
 
 -- `limit` units were requested, when `before` units remained, `done` were scanned and `placed` words were placed. This number was scanned, or all that remained, including words placed meanwhile.
-pub record ScansSome (new : Contents) (before done placed limit : ℕ) : Type 0 where
+pub record ScansSome (new : HeapView) (before done placed limit : ℕ) : Type 0 where
   pub some : done ≤ new.scan.done
   pub amount : (new.scan.done ≡ done + limit) ⊎ ((new.scan.done < done + limit) × (left_in new ≡ 0))
   -- while the scan hasn't finished, the units that remain are those that remained before and the words placed, less the units scanned
   pub left : new.scan.over ≡ false → left_in new + (new.scan.done + placed) ≡ before + (done + new.table.placed)
 
 -- An allocation with this charge was made, with these counts of memory accesses before and after it. It made `words` words and read `read` registers.
-pub record Costs (old new : Contents) (before after charge words read : ℕ) : Type 0 where
+pub record Costs (old new : HeapView) (before after charge words read : ℕ) : Type 0 where
   -- the units scanned for each word charged are those that the rate requires, or all that remained
   pub scans : ScansSome new (left_at old new) (done_at old) (placed_at old) (old.space.rate * charge)
   -- at most 128 memory accesses a word charged, 128 a unit that the rate requires, and 8 a word copied
@@ -51,18 +51,18 @@ IsRefused (R.Exhausted area charged wanted quota) = Unit {0}
 IsRefused _ = ⊥
 
 -- A command, with these counts of memory accesses before and after it, was refused: no unit was scanned, no word placed, and no memory accessed.
-pub record CostsNothing (old new : Contents) (before after : ℕ) : Type 0 where
+pub record CostsNothing (old new : HeapView) (before after : ℕ) : Type 0 where
   pub done : new.scan.done ≡ done_at old
   pub placed : new.table.placed ≡ placed_at old
   pub steps : after ≡ before
 
 -- The same by the reply: it was made with this charge, or it was refused.
-pub record Makes (old new : Contents) (before after charge words read : ℕ) (r : Reply) : Type 0 where
+pub record Makes (old new : HeapView) (before after charge words read : ℕ) (r : Reply) : Type 0 where
   pub costs : r ≡ R.Fine → Costs old new before after charge words read
   pub refused : IsRefused r → CostsNothing old new before after
 
 -- A command with this reply, and these counts of memory accesses before and after it, placed at most `words` words; and if no swap error occurred it took at most `steps` memory accesses, and 4 for each word placed.
-pub record Takes (old new : Contents) (before after words steps : ℕ) (r : Reply) : Type 0 where
+pub record Takes (old new : HeapView) (before after words steps : ℕ) (r : Reply) : Type 0 where
   pub few : new.table.placed ≤ old.table.placed + words
   pub cost : r ≢ R.Fault → after ≤ before + 4 * (new.table.placed - old.table.placed) + steps
 
@@ -73,7 +73,7 @@ abbrev pub wants_in : State → Command → Option Wanted
 wants_in s c = wanted_by (effect (graph_of s) c)
 
 -- A command, with these counts of memory accesses before and after it, looked at one register, and requires no charge.
-pub record CostsLook (old new : Contents) (before after : ℕ) : Type 0 where
+pub record CostsLook (old new : HeapView) (before after : ℕ) : Type 0 where
   -- no unit was scanned
   pub done : new.scan.done ≡ done_at old
   -- at most 59 memory accesses, and 4 a word copied

@@ -4,11 +4,11 @@ use Rattle.word_graph.specs.lisp_meaning.State.{Collection, Running, State}
 use Rattle.word_graph.specs.lisp_meaning.Flip.{Settles}
 use Rattle.word_graph.specs.lisp_meaning.Laws.{Retains}
 use Rattle.word_graph.specs.lisp_meaning.Run.{SilentReclaim}
-use Rattle.lisp_heap.specs.Contents.{Contents}
+use Rattle.lisp_heap.specs.HeapView.{HeapView}
 use Rattle.lisp_heap.specs.Stands.{Stands}
 
 -- In a state a collection ran, and the heap represents one that follows its reclaim; each account is what it was, less what was freed, and at most what is retained.
-pub record Reclaimed (new : Contents) (s : State) : Type 0 where
+pub record Reclaimed (new : HeapView) (s : State) : Type 0 where
   pub collection : Collection
   pub next : State
   pub running : s.phase ≡ Running collection

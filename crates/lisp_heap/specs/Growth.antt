@@ -4,7 +4,7 @@ use Rattle.store_word.specs.Words.{Parts}
 use Rattle.area_space.specs.View.{GroundView}
 use Rattle.scavenger.specs.Scan.{Scan}
 use Rattle.scavenger.specs.Views.{ScansUpTo}
-use Rattle.heap_state.specs.transporter.LiveSame.{OnlyGrows}
+use Rattle.heap_state.specs.transporter.LiveWordsUnchanged.{OnlyGrows}
 use Rattle.heap_state.specs.transporter.Preserving.{RegistersPreserved}
 
 -- units were scanned, and then `charge` words were made

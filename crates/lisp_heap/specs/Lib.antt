@@ -1,6 +1,6 @@
 pub mod Form
 pub mod Words
-pub mod Contents
+pub mod HeapView
 pub mod Marked
 pub mod NewMarks
 pub mod Stands

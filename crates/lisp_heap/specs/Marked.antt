@@ -8,7 +8,7 @@ use Rattle.mem_port.specs.Store.{Store, level_of_word}
 use Rattle.area_space.specs.Table.{Table, used_of, IsOld}
 use Rattle.heap_state.specs.Marks.{stores}
 use Rattle.heap_state.specs.transporter.Marking.{IsForward}
-use Rattle.heap_state.specs.transporter.Settling.{HasOld}
+use Rattle.heap_state.specs.transporter.Settling.{RefersToOld}
 use Rattle.heap_state.specs.transporter.obj_layout.Forwards.{word_at}
 
 -- a region was old and isn't any more: what was in it is gone
@@ -25,7 +25,7 @@ pub record WasPlaced (t t' : Table) (a : ℕ) : Type 0 where
 pub data HasMarked (c : Command) (r : Reply) (at : ℕ) (words : List Parts) (t : Table) (words' : List Parts) (levels' : List ℕ) (t' : Table) (a : ℕ) : Type 0 where
   by_place : WasPlaced t t' a → HasMarked c r at words t words' levels' t' a
   by_forward : (IsForward (word_at words a) → IsGone t t' (a / 4096)) → IsForward (word_at words' a) → HasMarked c r at words t words' levels' t' a
-  by_settling : HasOld t' (word_at words a) → (HasOld t' (word_at words' a) → ⊥) → HasMarked c r at words t words' levels' t' a
+  by_settling : RefersToOld t' (word_at words a) → (RefersToOld t' (word_at words' a) → ⊥) → HasMarked c r at words t words' levels' t' a
   by_storing : stores c ≡ true → a ≡ at → (r ≢ R.Fault → 0 < level_of_word levels' (word_at words' a)) → HasMarked c r at words t words' levels' t' a
 
 -- A page without marks got some only from such a word of it; at most one word was stored into an object

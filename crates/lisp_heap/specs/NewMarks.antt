@@ -6,16 +6,16 @@ use Rattle.lisp_graph.specs.declared.reply.Reply.TheVariants as R
 use Rattle.mem_port.specs.Store.{level_of_word}
 use Rattle.heap_state.specs.transporter.Settling.{reference_of}
 use Rattle.heap_state.specs.transporter.obj_layout.Forwards.{word_at, Final}
-use Rattle.lisp_heap.specs.Contents.{Contents, store_of}
+use Rattle.lisp_heap.specs.HeapView.{HeapView, store_of}
 use Rattle.lisp_heap.specs.Marked.{HasMarked, WasPlaced}
 
 -- a word may have given marks to its page; one of the new object's `count` words from an address on, only if it has an address of level 1 or more
-pub record GaveMarks (c : Command) (old new : Contents) (at count a : ℕ) : Type 0 where
+pub record GaveMarks (c : Command) (old new : HeapView) (at count a : ℕ) : Type 0 where
   pub may : HasMarked c R.Fine at old.memory.words old.table new.memory.words new.memory.levels new.table a
   pub young : at ≤ a → a < at + count → 0 < level_of_word new.memory.levels (word_at new.memory.words a)
 
 -- A word refers to an object that the command made, of `count` words at its final address. They were placed; and a page without marks got some only from a word that may have given them.
-pub record MarksMade (c : Command) (old new : Contents) (word : Parts) (count : ℕ) : Type 0 where
+pub record MarksMade (c : Command) (old new : HeapView) (word : Parts) (count : ℕ) : Type 0 where
   pub address : ℕ
   pub refers : reference_of word.content ≡ Some address
   pub at : ℕ

@@ -17,23 +17,23 @@ use Rattle.heap_state.specs.RepresentsAll.{RepresentsAll}
 use Rattle.heap_state.specs.Reads.{reads, IsDone}
 use Rattle.heap_state.specs.Settled.{IsSettled}
 use Rattle.heap_collect.specs.Silent.{resident_from}
-use Rattle.lisp_heap.specs.Contents.{Contents, SameWorld, store_of}
+use Rattle.lisp_heap.specs.HeapView.{HeapView, SameWorld, store_of}
 use Rattle.lisp_heap.specs.Costs.{done_at, placed_at}
 use Rattle.lisp_heap.specs.Marked.{MarksPages}
 
 -- the memory image of the heap: its memory, its table, its registers and what remains to be scanned
-abbrev pub machine_of : Contents → Image
+abbrev pub machine_of : HeapView → Image
 machine_of heap = image_of (store_of heap.memory) heap.table (rest_of heap.scan heap.table heap.registers)
 
 -- The heap represents the state: memory, table, registers and scan do, by a map of its words, and space and areas are the state's.
-pub record Stands (heap : Contents) (s : State) : Type 0 where
+pub record Stands (heap : HeapView) (s : State) : Type 0 where
   pub map : RoleMap
   pub represents : RepresentsAll (store_of heap.memory) heap.table heap.scan heap.registers map s
   pub space : heap.space ≡ s.space
   pub kinds : heap.table.kinds ≡ kinds_in s.areas
 
 -- The invariant of each heap: it represents some state, and has a machine's sizes.
-pub record IsSound (heap : Contents) : Type 0 where
+pub record IsSound (heap : HeapView) : Type 0 where
   pub stands : (s : State) × Stands heap s
   pub sizes : IsSpace heap.space
   pub areas : (1 ≤ length heap.table.kinds) × (length heap.table.kinds ≤ 16)
@@ -41,14 +41,14 @@ pub record IsSound (heap : Contents) : Type 0 where
   pub regions : heap.table.regions ≡ heap.space.regions
 
 -- the units scanned, and the words placed since the flip, of the collection that runs when a command begins, after the silent steps before it
-abbrev pub done_before : Command → Contents → ℕ
+abbrev pub done_before : Command → HeapView → ℕ
 done_before c heap = if allocates c then done_at heap else heap.scan.done
 
-abbrev pub placed_before : Command → Contents → ℕ
+abbrev pub placed_before : Command → HeapView → ℕ
 placed_before c heap = if allocates c then placed_at heap else heap.table.placed
 
 -- What a command did before it met a swap error remains: units that were scanned are scanned, and what was transported is where it was placed.
-pub record Keeps (c : Command) (old new : Contents) : Type 0 where
+pub record Keeps (c : Command) (old new : HeapView) : Type 0 where
   pub scanned : done_before c old ≤ new.scan.done
   pub placed : placed_before c old ≤ new.table.placed
 
@@ -65,11 +65,11 @@ frees_pages C.Reclaim = true
 frees_pages c = false
 
 -- the pages that are resident when a command begins, in order of use: after the silent steps before it those outside the regions that were freed
-abbrev pub resident_before : Command → Contents → List ℕ
+abbrev pub resident_before : Command → HeapView → List ℕ
 resident_before c heap = if allocates c then resident_from heap.table heap.scan heap.space heap.resident else heap.resident
 
--- What a command, with these counts of memory accesses before and after it, reports of the memory: each swap error is in its count, each access too, and after the silent steps no page left its frame except for another one, or, if the reply is `fault`, one for a page that wasn't read.
-pub record Told (old new : Contents) (before after : ℕ) (c : Command) (r : Reply) : Type 0 where
+-- What a command, with these counts of memory accesses before and after it, reports of the memory: each swap error is in its count, each access too, and at least as many pages are resident as after the silent steps, or, if the reply is `fault`, at most one fewer: the one that was evicted for a page that wasn't read.
+pub record Told (old new : HeapView) (before after : ℕ) (c : Command) (r : Reply) : Type 0 where
   pub later : old.faults ≤ new.faults
   pub fault : r ≡ R.Fault → old.faults < new.faults
   pub sure : r ≢ R.Fault → new.faults ≡ old.faults
@@ -78,7 +78,7 @@ pub record Told (old new : Contents) (before after : ℕ) (c : Command) (r : Rep
   pub gone : frees_pages c ≡ false → length (resident_before c old) ≤ length new.resident + 1
 
 -- A command ran with this reply: from each state that the heap represented the definition does it, and the heap represents what follows. The world is the same, and what it met is reported; a swap error undoes nothing. A register that was read is settled, if the command was done. No page got marks without a word that may give them. A command that neither pays for units nor begins a scan leaves the scan as it is.
-pub record Runs (old new : Contents) (before after : ℕ) (c : Command) (r : Reply) : Type 0 where
+pub record Runs (old new : HeapView) (before after : ℕ) (c : Command) (r : Reply) : Type 0 where
   pub does : (s : State) → Stands old s → ((next : State) × Does s c (Replied r) next × Stands new next)
   pub world : SameWorld old new
   pub told : Told old new before after c r

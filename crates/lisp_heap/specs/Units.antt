@@ -7,7 +7,7 @@ use Rattle.word_graph.specs.lisp_meaning.State.{Phase, Idle, Running, State}
 use Rattle.scavenger.specs.Left.{next_of}
 use Rattle.scavenger.specs.Scan.{Scan}
 use Rattle.scavenger.specs.Sweeping.{ScansMany}
-use Rattle.lisp_heap.specs.Contents.{Contents, store_of}
+use Rattle.lisp_heap.specs.HeapView.{HeapView, store_of}
 use Rattle.lisp_heap.specs.Costs.{left_in}
 use Rattle.lisp_heap.specs.Stands.{Stands}
 
@@ -19,7 +19,7 @@ pub record FollowsOrder (m : Store) (t : Table) (scan : Scan) (registers : List 
   pub few : count ≤ limit
   pub all : count < limit → next_of scan' t' ≡ None
 
-abbrev pub ScansInOrder : Contents → Contents → ℕ → Type 0
+abbrev pub ScansInOrder : HeapView → HeapView → ℕ → Type 0
 ScansInOrder old new limit = FollowsOrder (store_of old.memory) old.table old.scan old.registers (store_of new.memory) new.table new.scan new.registers limit
 
 -- a collection runs, and less is paid than is owed
@@ -28,6 +28,6 @@ IsOwing Idle = ⊥
 IsOwing (Running c) = c.paid < c.owed
 
 -- A unit remains; and in each state that the heap represents a collection runs that has paid less than it owes.
-pub record IsUnfinished (heap : Contents) : Type 0 where
+pub record IsUnfinished (heap : HeapView) : Type 0 where
   pub left : 0 < left_in heap
   pub owing : (s : State) → Stands heap s → IsOwing s.phase

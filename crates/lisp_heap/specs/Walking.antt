@@ -9,23 +9,23 @@ use Rattle.world_text.specs.Dump.{IsDump}
 use Rattle.word_graph.specs.why_held.declared.rows.CensusRow.{CensusRow}
 use Rattle.word_graph.specs.why_held.Reached.{IsReachedCensus}
 use Rattle.word_graph.specs.Shown.{shown_by}
-use Rattle.lisp_heap.specs.Contents.{Contents, SameWorld, store_of}
+use Rattle.lisp_heap.specs.HeapView.{HeapView, SameWorld, store_of}
 use Rattle.lisp_heap.specs.Stands.{Stands}
 
 -- the graph of its words, whose keys are the addresses that the registers reach
-abbrev pub graph_in : Contents → KeyedGraph
+abbrev pub graph_in : HeapView → KeyedGraph
 graph_in heap = shown_by (store_of heap.memory) heap.table heap.registers
 
 -- a dump of it is a dump of each state that the heap represents,
 abbrev pub DumpIsOfState : Type 0
-DumpIsOfState = (heap : Contents) (s : State) → Stands heap s → (space : Space) (areas : List AreaRule) (text : List ℕ) → IsDump (graph_in heap) space areas text → IsDump (keyed (graph_of s)) space areas text
+DumpIsOfState = (heap : HeapView) (s : State) → Stands heap s → (space : Space) (areas : List AreaRule) (text : List ℕ) → IsDump (graph_in heap) space areas text → IsDump (keyed (graph_of s)) space areas text
 
 -- and so is a census of what is reached
 abbrev pub CensusIsOfState : Type 0
-CensusIsOfState = (heap : Contents) (s : State) → Stands heap s → (rows : List CensusRow) → IsReachedCensus (graph_in heap) rows → IsReachedCensus (keyed (graph_of s)) rows
+CensusIsOfState = (heap : HeapView) (s : State) → Stands heap s → (rows : List CensusRow) → IsReachedCensus (graph_in heap) rows → IsReachedCensus (keyed (graph_of s)) rows
 
 -- A heap was only read: no word was written and no register settled, it represents each state that it represented before, and its world is the same. For each swap error at most one page fewer is resident.
-pub record StandsAsBefore (old new : Contents) : Type 0 where
+pub record StandsAsBefore (old new : HeapView) : Type 0 where
   pub words : new.memory.words ≡ old.memory.words
   pub settled : new.registers ≡ old.registers
   pub table : new.table ≡ old.table
@@ -35,6 +35,6 @@ pub record StandsAsBefore (old new : Contents) : Type 0 where
   pub room : length old.resident + old.faults ≤ length new.resident + new.faults
 
 -- if a walk began with some heap, this one has only been read since
-abbrev pub StandsSince : Option Contents → Contents → Type 0
+abbrev pub StandsSince : Option HeapView → HeapView → Type 0
 StandsSince None heap = Unit {0}
 StandsSince (Some start) heap = StandsAsBefore start heap

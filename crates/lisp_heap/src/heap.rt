@@ -28,7 +28,7 @@ mod walk;
 use area_space::{Ground, RegionTable};
 use heap_state::commands_are_steps;
 use lisp_graph::{AreaKind, Areas, Reply};
-use mem_port::{Memory, known};
+use mem_port::{Memory, assert_invariant};
 use scavenger::ScanSet;
 use std::alloc::Global;
 use std::marker::Model;
@@ -44,10 +44,10 @@ pub struct Heap<M: Memory> {
 }
 
 impl<M: Memory> Model for Heap<M> {
-    ghost use Rattle.lisp_heap.specs.Contents.{Contents, contents_of, counted};
+    ghost use Rattle.lisp_heap.specs.HeapView.{HeapView, contents_of, counted};
     ghost use Rattle.lisp_heap.specs.Stands.{IsSound};
 
-    ghost Value = { Contents };
+    ghost Value = { HeapView };
 
     ghost view = { λ h. contents_of (M.seen h.ground.mem) h.ground.table h.scan h.registers.items h.space (M.faults h.ground.mem) (M.resident h.ground.mem) (counted M.Memory h.ground.mem) };
 
@@ -66,16 +66,16 @@ impl<M: Memory> Heap<M> {
     /// Opens a heap over a new memory of the space's size. It is refused if the allocator has no memory,
     /// and then `mem` is returned unchanged.
     pub fn open(alloc: Global, space: &Space, areas: &Areas, mem: M) -> Result<Heap<M>, Refused<M>>
-        requires form { IsForm space.now areas.now }
+        requires sound { IsForm space.now areas.now }
         requires fresh { IsFresh (M.seen mem) space.now.regions space.now.levels }
         ensures stands { IfOk result (λ heap. Stands heap (opening (world_with space.now areas.now))) }
         ensures registers { IfOk result (λ heap. length heap.registers ≡ space.now.registers) }
-        ensures kinds { IfOk result (λ heap. heap.table.kinds ≡ kinds_in areas.now) }
+        ensures value { IfOk result (λ heap. heap.table.kinds ≡ kinds_in areas.now) }
         ensures space { IfOk result (λ heap. heap.space ≡ space.now) }
-        ensures faults { IfOk result (λ heap. heap.faults ≡ M.faults mem) }
-        ensures back { IfErr result (λ refused. refused.back ≡ mem) }
+        ensures no_fault { IfOk result (λ heap. heap.faults ≡ M.faults mem) }
+        ensures err { IfErr result (λ refused. refused.back ≡ mem) }
     {
-        known(&mem);
+        assert_invariant(&mem);
         let parts = match make_parts(alloc, space, areas) {
             Ok(parts) => parts,
             Err(_) => return Err(Refused { back: mem }),
@@ -109,7 +109,7 @@ impl<M: Memory> Heap<M> {
 fn make_parts(alloc: Global, space: &Space, areas: &Areas) -> Result<HeapParts, NoMemory>
     requires { IsForm space.now areas.now }
     ensures table { IfOk result (λ parts. parts.table ≡ fresh space.now.regions space.now.levels areas.now) }
-    ensures scan { IfOk result (λ parts. parts.scan ≡ nothing_left space.now.registers (16 * space.now.regions)) }
+    ensures idle { IfOk result (λ parts. parts.scan ≡ nothing_left space.now.registers (16 * space.now.regions)) }
     ensures registers { IfOk result (λ parts. parts.registers.items ≡ replicate space.now.registers (plain NilWord)) }
 {
     let table = RegionTable::new(alloc, space, areas)?;
@@ -133,22 +133,22 @@ fn reply_of(answer: Result<Reply, SwapFault>) -> Reply
 }
 
 // The same at the end of a command: it is known that its memory satisfies the law of marks.
-fn replied<M: Memory>(mem: &M, answer: Result<Reply, SwapFault>) -> Reply
-    ensures is { result ≡ reply_of answer }
+fn finish_reply<M: Memory>(mem: &M, answer: Result<Reply, SwapFault>) -> Reply
+    ensures value { result ≡ reply_of answer }
     ensures marks { MarksHold (M.seen mem.now) }
 {
-    known(mem);
+    assert_invariant(mem);
     reply_of(answer)
 }
 
 // Ends a command that was performed, and makes nothing: what it performed is a transition.
-fn ended<M: Memory>(mem: &M, answer: Result<Reply, SwapFault>) -> Reply
-    ensures is { result ≡ reply_of answer }
+fn finish_step<M: Memory>(mem: &M, answer: Result<Reply, SwapFault>) -> Reply
+    ensures value { result ≡ reply_of answer }
     ensures marks { MarksHold (M.seen mem.now) }
     ensures step { PerformsIsStep }
 {
     commands_are_steps();
-    replied(mem, answer)
+    finish_reply(mem, answer)
 }
 
 // The level of an object that a command makes in an area of this kind.

@@ -4,7 +4,7 @@ ghost use Rattle.word_graph.specs.lisp_meaning.State.{State};
 ghost use Rattle.word_graph.specs.lisp_meaning.Stands.{Stands as Means};
 ghost use Rattle.world_text.specs.Limits.{IsAccepted};
 ghost use Rattle.heap_load.specs.Loading.{FitsQuotas};
-ghost use Rattle.lisp_heap.specs.Contents.{Contents};
+ghost use Rattle.lisp_heap.specs.HeapView.{HeapView};
 ghost use Rattle.lisp_heap.specs.Stands.{Stands, machine_of};
 ghost use Rattle.lisp_heap.specs.Freed.{SilentRetains};
 ghost use Rattle.lisp_heap.specs.Room.{HeapsArePlaceable, MovedHasPlace, NewHasPlace, SpareHasPlace};
@@ -13,7 +13,7 @@ ghost use Rattle.lisp_heap.specs.Walking.{DumpIsOfState, CensusIsOfState};
 /// A heap that represents a state has its meaning: each register and each object is found in its
 /// words, under a naming.
 pub fn standing_is_meaning()
-    ensures { (heap : Contents) (s : State) → Stands heap s → Means (machine_of heap) s }
+    ensures { (heap : HeapView) (s : State) → Stands heap s → Means (machine_of heap) s }
 {}
 
 /// What a walk over a heap shows has the dump and the census of each state that the heap represents.

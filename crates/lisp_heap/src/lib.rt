@@ -1,7 +1,7 @@
 //! The heap: one call for each command of the program.
 //!
 //! Objects are in the regions of a memory. Contracts see the contents of a heap
-//! (`specs/Contents.antt`), and what it represents is the invariant of `lisp_meaning`
+//! (`specs/HeapView.antt`), and what it represents is the invariant of `lisp_meaning`
 //! (`specs/Stands.antt`): each heap represents a state, as the invariant of its type, and each call is
 //! one command of the definition there, whether or not a collection runs. A reply is the
 //! definition's, or `Fault`, but that only if the memory's count of swap errors rose. The commands themselves

@@ -96,10 +96,10 @@ pub extern "C" fn lispm_raw_line(
     output: &mut [u8],
     needed: &mut usize,
 ) -> u8
-    ensures feed { no_feed text.now ≡ false → (seat.new.slot.held ≡ seat.old.slot.held) × IsHanded output.old output.new needed.new result [] 11 }
+    ensures refused { no_feed text.now ≡ false → (seat.new.slot.held ≡ seat.old.slot.held) × IsHanded output.old output.new needed.new result [] 11 }
     ensures empty { no_feed text.now ≡ true → seat.old.slot.held ≡ None → (seat.new.slot.held ≡ None) × IsHanded output.old output.new needed.new result [] 9 }
-    ensures kept { no_feed text.now ≡ true → IsSome seat.old.slot.held → IsSome seat.new.slot.held }
-    ensures feeds { (session : ByteSession) → no_feed text.now ≡ true → seat.old.slot.held ≡ Some session
+    ensures unchanged { no_feed text.now ≡ true → IsSome seat.old.slot.held → IsSome seat.new.slot.held }
+    ensures does { (session : ByteSession) → no_feed text.now ≡ true → seat.old.slot.held ≡ Some session
         → IfSome seat.new.slot.held (λ after. Feeds session.session.state session.session after.session text.now output.old output.new needed.new result) }
 {
     if has_feed(text) {
@@ -121,9 +121,9 @@ pub extern "C" fn lispm_raw_again(
     output: &mut [u8],
     needed: &mut usize,
 ) -> u8
-    ensures same { seat.new.slot.held ≡ seat.old.slot.held }
+    ensures unchanged { seat.new.slot.held ≡ seat.old.slot.held }
     ensures empty { seat.old.slot.held ≡ None → IsHanded output.old output.new needed.new result [] 9 }
-    ensures again { (session : ByteSession) → seat.old.slot.held ≡ Some session
+    ensures does { (session : ByteSession) → seat.old.slot.held ≡ Some session
         → IsHanded output.old output.new needed.new result session.session.answer (number_of session.session.state) }
 {
     let Some(session) = seat.take(alloc) else {
@@ -144,8 +144,8 @@ pub extern "C" fn lispm_raw_end(
     needed: &mut usize,
 ) -> u8
     ensures empty { seat.old.slot.held ≡ None → (seat.new.slot.held ≡ None) × IsHanded output.old output.new needed.new result [] 9 }
-    ensures kept { IsSome seat.old.slot.held → IsSome seat.new.slot.held }
-    ensures ends { (session : ByteSession) → seat.old.slot.held ≡ Some session
+    ensures unchanged { IsSome seat.old.slot.held → IsSome seat.new.slot.held }
+    ensures end { (session : ByteSession) → seat.old.slot.held ≡ Some session
         → IfSome seat.new.slot.held (λ after. Ends session.session.state session.session after.session output.old output.new needed.new result) }
 {
     let Some(mut session) = seat.take(alloc) else {

@@ -4,17 +4,17 @@ use Rattle.std.proofs.lemmas.Bool.{false≢true}
 use Rattle.std.proofs.lemmas.List.{length-set}
 use Rattle.store_word.specs.Words.{Parts}
 use Rattle.mem_port.specs.Store.{Store, Stores, StoresNothing}
-use Rattle.mem_port.specs.View.{MemoryView, Quiet, Tells, TellsIf}
+use Rattle.mem_port.specs.View.{MemoryView, WithoutFault, AccountsForFaults, AccountsForFaultsIf}
 
 -- A call that met no swap error
 
-pub answered : {T E : Type 0} {v v' : MemoryView} {n n' : ℕ} (x : T) → Tells {T = T} {E = E} v v' n n' (Ok x) → Quiet v v' n n'
+pub answered : {T E : Type 0} {v v' : MemoryView} {n n' : ℕ} (x : T) → AccountsForFaults {T = T} {E = E} v v' n n' (Ok x) → WithoutFault v v' n n'
 answered x tells = record { faults = tells.cause.quiet; honest = tells.honest; room = tells.room.answered }
 
-pub answered-if : {v v' : MemoryView} {n n' : ℕ} → TellsIf v v' n n' false → Quiet v v' n n'
+pub answered-if : {v v' : MemoryView} {n n' : ℕ} → AccountsForFaultsIf v v' n n' false → WithoutFault v v' n n'
 answered-if tells = record { faults = tells.quiet refl; honest = tells.honest; room = tells.room refl }
 
-pub answers : {v v' : MemoryView} {n n' : ℕ} → Quiet v v' n n' → TellsIf v v' n n' false
+pub answers : {v v' : MemoryView} {n n' : ℕ} → WithoutFault v v' n n' → AccountsForFaultsIf v v' n n' false
 answers q = record {
   later = (let f = q.faults in omega arith);
   failed = λ e. absurd (false≢true e);
@@ -25,7 +25,7 @@ answers q = record {
 }
 
 -- two such calls
-pub quiet-twice : {v v' v'' : MemoryView} {n n' n'' : ℕ} → Quiet v v' n n' → Quiet v' v'' n' n'' → Quiet v v'' n n''
+pub quiet-twice : {v v' v'' : MemoryView} {n n' n'' : ℕ} → WithoutFault v v' n n' → WithoutFault v' v'' n' n'' → WithoutFault v v'' n n''
 quiet-twice p q = record {
   faults = q.faults ∙ p.faults;
   honest = (let a = p.honest in let b = q.honest in omega arith);
@@ -33,7 +33,7 @@ quiet-twice p q = record {
 }
 
 -- and one that met a swap error after them
-pub quiet-then_fault : {T E : Type 0} {v v' v'' : MemoryView} {n n' n'' : ℕ} (e : E) → Quiet v v' n n' → Tells {T = T} {E = E} v' v'' n' n'' (Err e) → (faulted : Bool) → faulted ≡ true → TellsIf v v'' n n'' faulted
+pub quiet-then_fault : {T E : Type 0} {v v' v'' : MemoryView} {n n' n'' : ℕ} (e : E) → WithoutFault v v' n n' → AccountsForFaults {T = T} {E = E} v' v'' n' n'' (Err e) → (faulted : Bool) → faulted ≡ true → AccountsForFaultsIf v v'' n n'' faulted
 quiet-then_fault e q tells faulted is = record {
   later = (let a = q.faults in let b = tells.cause.later in omega arith);
   failed = λ _. (let a = q.faults in let b = tells.cause.failed in omega arith);

@@ -17,7 +17,7 @@ module _ {M : Type 0} (g : Ghosts M) where
   shown it = record { store = g.seen it; faults = g.faults it; taken = g.taken it; resident = length (g.resident it) }
 
 -- a call reports each swap error, counts each of its memory accesses, and evicts no page except for another one
-pub record Tells {T E : Type 0} (old new : MemoryView) (steps steps' : ℕ) (result : Result T E) : Type 0 where
+pub record AccountsForFaults {T E : Type 0} (old new : MemoryView) (steps steps' : ℕ) (result : Result T E) : Type 0 where
   pub cause : TellsFaults old.faults new.faults result
   pub honest : new.taken + steps ≡ old.taken + steps'
   pub room : LeavesRoom old.resident new.resident result
@@ -28,7 +28,7 @@ pub record TellsFreeing {T E : Type 0} (old new : MemoryView) (steps steps' : �
   pub honest : new.taken + steps ≡ old.taken + steps'
 
 -- the same for a call whose result says in its own way whether it met a swap error
-pub record TellsIf (old new : MemoryView) (steps steps' : ℕ) (faulted : Bool) : Type 0 where
+pub record AccountsForFaultsIf (old new : MemoryView) (steps steps' : ℕ) (faulted : Bool) : Type 0 where
   pub later : old.faults ≤ new.faults
   pub failed : faulted ≡ true → old.faults < new.faults
   pub quiet : faulted ≡ false → new.faults ≡ old.faults
@@ -37,7 +37,7 @@ pub record TellsIf (old new : MemoryView) (steps steps' : ℕ) (faulted : Bool) 
   pub gone : old.resident ≤ new.resident + 1
 
 -- what calls that met no swap error leave: the same count of swap errors, the memory accesses counted, and no fewer resident pages
-pub record Quiet (old new : MemoryView) (steps steps' : ℕ) : Type 0 where
+pub record WithoutFault (old new : MemoryView) (steps steps' : ℕ) : Type 0 where
   pub faults : new.faults ≡ old.faults
   pub honest : new.taken + steps ≡ old.taken + steps'
   pub room : old.resident ≤ new.resident

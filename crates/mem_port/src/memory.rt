@@ -54,9 +54,9 @@ pub trait Memory {
     fn read<L: Ledger>(&mut self, at: u32, steps: &mut Steps<L>) -> Result<Word, SwapFault>
         requires { at < length (seen self.old).words }
         ensures value { IfOk result (λ word. slice_get (seen self.old).words at ≡ Some word) }
-        ensures stays { StoresNothing (seen self.old) (seen self.new) }
-        ensures sure { held self.old (at / 256) → IsOk result }
-        ensures kept { held self.old (at / 256) → (page : ℕ) → held self.old page → held self.new page }
+        ensures unchanged { StoresNothing (seen self.old) (seen self.new) }
+        ensures succeeds { held self.old (at / 256) → IsOk result }
+        ensures stays_held { held self.old (at / 256) → (page : ℕ) → held self.old page → held self.new page }
         ensures cause { TellsFaults (faults self.old) (faults self.new) result }
         ensures room { LeavesRoom (length (resident self.old)) (length (resident self.new)) result }
         ensures taken { taken self.new ≡ taken self.old + 1 }
@@ -73,8 +73,8 @@ pub trait Memory {
         requires { at < length (seen self.old).words }
         ensures ok { OnOk result (Stores (seen self.old) (seen self.new) at word) }
         ensures err { OnErr result (StoresNothing (seen self.old) (seen self.new)) }
-        ensures sure { held self.old (at / 256) → IsOk result }
-        ensures kept { held self.old (at / 256) → (page : ℕ) → held self.old page → held self.new page }
+        ensures succeeds { held self.old (at / 256) → IsOk result }
+        ensures stays_held { held self.old (at / 256) → (page : ℕ) → held self.old page → held self.new page }
         ensures cause { TellsFaults (faults self.old) (faults self.new) result }
         ensures room { LeavesRoom (length (resident self.old)) (length (resident self.new)) result }
         ensures taken { taken self.new ≡ taken self.old + 1 }
@@ -83,10 +83,10 @@ pub trait Memory {
     /// Holds up to 24 pages together, in the order of the list, whatever was held before. Each page
     /// takes one memory access. On a swap error nothing is stored, and the count of swap errors rises.
     fn hold<L: Ledger>(&mut self, pages: &[u32], steps: &mut Steps<L>) -> Result<(), SwapFault>
-        requires few { length pages.now ≤ HOLD_LIMIT }
-        requires inside { All (λ page. 256 * page < length (seen self.old).words) pages.now }
+        requires at_most { length pages.now ≤ HOLD_LIMIT }
+        requires in_range { All (λ page. 256 * page < length (seen self.old).words) pages.now }
         ensures ok { OnOk result (All (λ page. held self.new page) pages.now) }
-        ensures stays { StoresNothing (seen self.old) (seen self.new) }
+        ensures unchanged { StoresNothing (seen self.old) (seen self.new) }
         ensures cause { TellsFaults (faults self.old) (faults self.new) result }
         ensures room { LeavesRoom (length (resident self.old)) (length (resident self.new)) result }
         ensures taken { taken self.new ≡ taken self.old + length pages.now }
@@ -96,9 +96,9 @@ pub trait Memory {
     /// ones. The page of the first is used, and then the page that they are copied to. No swap error
     /// occurs. It takes two memory accesses a word.
     fn copy_on<L: Ledger>(&mut self, from: u32, to: u32, count: u32, steps: &mut Steps<L>)
-        requires some { 0 < count }
-        requires from_inside { from + count ≤ length (seen self.old).words }
-        requires to_inside { to + count ≤ length (seen self.old).words }
+        requires at_least { 0 < count }
+        requires from { from + count ≤ length (seen self.old).words }
+        requires to { to + count ≤ length (seen self.old).words }
         requires apart { (from + count ≤ to) ⊎ (to + count ≤ from) }
 
         // Both places are on one page each, which is held.
@@ -108,26 +108,26 @@ pub trait Memory {
         requires to_held { held self.old (to / 256) }
 
         // The words are copied.
-        ensures copied { Covers (seen self.old) (seen self.new) to count (λ i. slice_index_or (seen self.old).words (from + i) null_word) }
+        ensures written { Covers (seen self.old) (seen self.new) to count (λ i. slice_index_or (seen self.old).words (from + i) null_word) }
 
         // The pages, swap errors and the cost.
-        ensures kept { (page : ℕ) → held self.old page → held self.new page }
+        ensures stays_held { (page : ℕ) → held self.old page → held self.new page }
         ensures resident { length (resident self.new) ≡ length (resident self.old) }
-        ensures faults { faults self.new ≡ faults self.old }
+        ensures no_fault { faults self.new ≡ faults self.old }
         ensures taken { taken self.new ≡ taken self.old + 2 * count }
         ensures cost { steps.new ≡ steps.old + 2 * count };
 
     /// Writes one word to `count` addresses, at least one, of a held page. No swap error occurs. It takes one
     /// memory access a word.
     fn fill_on<L: Ledger>(&mut self, at: u32, count: u32, word: Word, steps: &mut Steps<L>)
-        requires some { 0 < count }
-        requires inside { at + count ≤ length (seen self.old).words }
+        requires at_least { 0 < count }
+        requires in_range { at + count ≤ length (seen self.old).words }
         requires page { at % 256 + count ≤ 256 }
         requires held { held self.old (at / 256) }
         ensures filled { Covers (seen self.old) (seen self.new) at count (λ _. word) }
-        ensures kept { (page : ℕ) → held self.old page → held self.new page }
+        ensures stays_held { (page : ℕ) → held self.old page → held self.new page }
         ensures resident { length (resident self.new) ≡ length (resident self.old) }
-        ensures faults { faults self.new ≡ faults self.old }
+        ensures no_fault { faults self.new ≡ faults self.old }
         ensures taken { taken self.new ≡ taken self.old + count }
         ensures cost { steps.new ≡ steps.old + count };
 
@@ -137,20 +137,20 @@ pub trait Memory {
         requires { region < length (seen self.old).levels }
         ensures cleared { Clears (seen self.old) (seen self.new) region }
         ensures resident { resident self.new ≡ outside region (resident self.old) }
-        ensures kept { (page : ℕ) → page / 16 ≢ region → held self.old page → held self.new page }
-        ensures faults { faults self.new ≡ faults self.old }
+        ensures stays_held { (page : ℕ) → page / 16 ≢ region → held self.old page → held self.new page }
+        ensures no_fault { faults self.new ≡ faults self.old }
         ensures taken { taken self.new ≡ taken self.old };
 
     /// Sets the level, at most the greatest level, of a region whose words are NULL and whose
     /// addresses are in no word.
     fn set_level(&mut self, region: u32, level: u8)
-        requires inside { region < length (seen self.old).levels }
-        requires low { level ≤ (seen self.old).top }
-        requires unused { IsUnused (seen self.old) region }
+        requires in_range { region < length (seen self.old).levels }
+        requires at_most { level ≤ (seen self.old).top }
+        requires free { IsUnused (seen self.old) region }
         ensures level { seen self.new ≡ record (seen self.old) { levels = slice_set (seen self.old).levels region level } }
-        ensures kept { (page : ℕ) → held self.old page → held self.new page }
+        ensures stays_held { (page : ℕ) → held self.old page → held self.new page }
         ensures resident { resident self.new ≡ resident self.old }
-        ensures faults { faults self.new ≡ faults self.old }
+        ensures no_fault { faults self.new ≡ faults self.old }
         ensures taken { taken self.new ≡ taken self.old };
 
     /// The level of the region of an address.
@@ -174,27 +174,27 @@ pub trait Memory {
     /// Drops the marks of a page if no address of level 1 or more is on it.
     fn remark(&mut self, page: u32)
         requires { 256 * page < length (seen self.old).words }
-        ensures exact { Remarks (seen self.old) (seen self.new) page }
-        ensures kept { (page : ℕ) → held self.old page → held self.new page }
+        ensures marks { Remarks (seen self.old) (seen self.new) page }
+        ensures stays_held { (page : ℕ) → held self.old page → held self.new page }
         ensures resident { resident self.new ≡ resident self.old }
-        ensures faults { faults self.new ≡ faults self.old }
+        ensures no_fault { faults self.new ≡ faults self.old }
         ensures taken { taken self.new ≡ taken self.old };
 
     /// Evicts this many resident pages, or all if there are fewer, the least recently used
     /// first, and returns how many. Afterwards a page that was held may no longer be. If it fails, which raises
     /// the count of swap errors, it has evicted fewer, the least recently used first.
     fn evict_oldest(&mut self, count: u32) -> Result<u32, SwapFault>
-        ensures evicted { OnOk result (resident self.new ≡ drop (min count (length (resident self.old))) (resident self.old)) }
+        ensures resident { OnOk result (resident self.new ≡ drop (min count (length (resident self.old))) (resident self.old)) }
         ensures count { IfOk result (λ evicted. evicted ≡ min count (length (resident self.old))) }
         ensures stops { OnErr result (EvictsFewer (resident self.old) (resident self.new) count) }
-        ensures stays { StoresNothing (seen self.old) (seen self.new) }
+        ensures unchanged { StoresNothing (seen self.old) (seen self.new) }
         ensures cause { TellsFaults (faults self.old) (faults self.new) result }
         ensures taken { taken self.new ≡ taken self.old };
 }
 
 /// What always holds of a memory, by the number of its pages: its sizes, the range of its levels,
 /// and that the marks of each page have the levels of the addresses on it.
-pub fn known<M: Memory>(mem: &M)
+pub fn assert_invariant<M: Memory>(mem: &M)
     ensures { (pages : ℕ) × IsSound (M.seen mem.now) pages }
 {
     let _pages = mem.pages();

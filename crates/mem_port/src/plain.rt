@@ -175,11 +175,11 @@ impl Memory for PlainMemory {
 // Writes a value to the places from one up to another.
 fn fill_range<T: Copy>(xs: &mut [T], from: usize, to: usize, value: T)
     requires order { from ≤ to }
-    requires inside { to ≤ length xs.old }
+    requires in_range { to ≤ length xs.old }
     ensures size { length xs.new ≡ length xs.old }
-    ensures below { (k : ℕ) → k < from → slice_get xs.new k ≡ slice_get xs.old k }
+    ensures before { (k : ℕ) → k < from → slice_get xs.new k ≡ slice_get xs.old k }
     ensures filled { (k : ℕ) → from ≤ k → k < to → slice_get xs.new k ≡ Some value }
-    ensures above { (k : ℕ) → to ≤ k → slice_get xs.new k ≡ slice_get xs.old k }
+    ensures unchanged { (k : ℕ) → to ≤ k → slice_get xs.new k ≡ slice_get xs.old k }
 {
     for i in from..to {
         xs[i] = value;
@@ -188,8 +188,8 @@ fn fill_range<T: Copy>(xs: &mut [T], from: usize, to: usize, value: T)
 
 // Copies `count` words from one place to another.
 fn copy_range(words: &mut [Word], from: usize, to: usize, count: usize)
-    requires from_inside { from + count ≤ length words.old }
-    requires to_inside { to + count ≤ length words.old }
+    requires from { from + count ≤ length words.old }
+    requires to { to + count ≤ length words.old }
     ensures { Overwrites words.old words.new to count (λ i. slice_index_or words.old (from + i) null_word) }
 {
     words.copy_within(from..from + count, to);

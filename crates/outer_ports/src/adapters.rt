@@ -98,7 +98,7 @@ impl<W: Write> Sink for SinkWrite<W> {
     fn give(&mut self, piece: &[u8]) -> Result<usize, SinkFault>
         ensures some { IfOk result (λ n. 0 < n) }
         ensures fits { IfOk result (λ n. n ≤ length piece.now) }
-        ensures written { WriteAppends self.old.told self.new.told result piece.now }
+        ensures after { WriteAppends self.old.told self.new.told result piece.now }
         ensures cause { HasCause self.old.faults self.new.faults result }
         ensures failed { self.new.failed ≡ is_err result }
         ensures once { OnErr result (self.new.faults ≡ next_count self.old.faults) }
@@ -118,8 +118,8 @@ fn counted<E: Drop>(
     fault: E,
     faults: &mut u64,
 ) -> Result<usize, E>
-    ensures passes { IfOk outcome (λ n. least ≤ n → (result ≡ Ok n) × (faults.new ≡ faults.old)) }
-    ensures short { IfOk outcome (λ n. n < least →
+    ensures ok { IfOk outcome (λ n. least ≤ n → (result ≡ Ok n) × (faults.new ≡ faults.old)) }
+    ensures at_most { IfOk outcome (λ n. n < least →
         (result ≡ Err fault) × (faults.new ≡ next_count faults.old)) }
     ensures fails { OnErr outcome ((result ≡ Err fault) × (faults.new ≡ next_count faults.old)) }
     ensures cause { HasCause faults.old faults.new result }

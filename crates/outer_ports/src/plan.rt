@@ -55,8 +55,8 @@ impl FaultPlan {
 
     /// Counts a call that failed.
     pub(crate) fn fail(&mut self)
-        ensures counted { self.new ≡ after_call self.old true }
-        ensures later { self.old.faults ≤ self.new.faults }
+        ensures after { self.new ≡ after_call self.old true }
+        ensures never_falls { self.old.faults ≤ self.new.faults }
     {
         self.calls = self.calls.saturating_add(1);
         self.faults = self.faults.saturating_add(1);

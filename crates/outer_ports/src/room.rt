@@ -12,8 +12,8 @@ pub fn copy_at(room: &mut [u8], len: usize, piece: &[u8])
 
 /// Drops `front` of the first `len` bytes of the buffer, and moves the others to its front.
 pub(crate) fn drop_front(room: &mut [u8], front: usize, len: usize)
-    requires front { front ≤ len }
-    requires len { len ≤ length room.old }
+    requires order { front ≤ len }
+    requires at_most { len ≤ length room.old }
     ensures { take (len - front) room.new ≡ drop front (take len room.old) }
 {
     room.copy_within(front..len, 0);

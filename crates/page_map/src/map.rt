@@ -29,15 +29,15 @@ impl Model for PageMap {
 
 // A page enters its bucket, is removed from it, or neither.
 fn relist(lists: &mut Lists, buckets: u32, page: u32, was_empty: bool, is_empty: bool)
-    requires some { 0 < buckets }
-    requires bucket { page % buckets < length lists.old.lists }
+    requires at_least { 0 < buckets }
+    requires in_range { page % buckets < length lists.old.lists }
     requires page { page < lists.old.nodes }
-    requires enters { was_empty ≡ true → IsFree lists.old page }
-    requires leaves { was_empty ≡ false → Contains (list_at lists.old (page % buckets)) page }
+    requires free { was_empty ≡ true → IsFree lists.old page }
+    requires listed { was_empty ≡ false → Contains (list_at lists.old (page % buckets)) page }
     requires sound { IsSound lists.old }
-    ensures relisted { lists.new ≡ with_list lists.old (page % buckets)
+    ensures after { lists.new ≡ with_list lists.old (page % buckets)
         (bucket_after was_empty is_empty page (list_at lists.old (page % buckets))) }
-    ensures sound { IsSound lists.new }
+    ensures stays_sound { IsSound lists.new }
 {
     match (was_empty, is_empty) {
         (true, false) => lists.push_back(page % buckets, page),
@@ -93,7 +93,7 @@ impl PageMap {
 
     /// How many buckets there are: one more than a quarter of the pages.
     pub fn buckets(&self) -> u32
-        ensures buckets { result ≡ length self.now.buckets }
+        ensures value { result ≡ length self.now.buckets }
         ensures sound { IsMap self.now }
     {
         self.buckets
@@ -104,7 +104,7 @@ impl PageMap {
         requires { bucket < length self.now.buckets }
         ensures first { result ≡ first_of (pages_in self.now bucket) }
         ensures none { IsNone result ↔ (pages_in self.now bucket ≡ []) }
-        ensures there { IfSome result (λ page. place_at self.now page ≢ PagePlace.Empty) }
+        ensures some { IfSome result (λ page. place_at self.now page ≢ PagePlace.Empty) }
         ensures sound { IsMap self.now }
     {
         self.lists.front(bucket)
@@ -113,10 +113,10 @@ impl PageMap {
     /// The page after one that isn't empty, in its bucket; None if and only if that is the last.
     pub fn after(&self, page: u32) -> Option<u32>
         requires { place_at self.now page ≢ PagePlace.Empty }
-        ensures next { result ≡ next_in (pages_in self.now (bucket_of self.now page)) page }
+        ensures value { result ≡ next_in (pages_in self.now (bucket_of self.now page)) page }
         ensures none { IsNone result
             ↔ (last_of (pages_in self.now (bucket_of self.now page)) ≡ Some page) }
-        ensures there { IfSome result (λ next. place_at self.now next ≢ PagePlace.Empty) }
+        ensures some { IfSome result (λ next. place_at self.now next ≢ PagePlace.Empty) }
         ensures sound { IsMap self.now }
     {
         self.lists.next(page)

@@ -11,14 +11,14 @@ use Rattle.lisp_graph.specs.declared.command.Command.{Command}
 use Rattle.lisp_graph.specs.declared.command.Command.TheVariants as C
 use Rattle.lisp_heap.specs.lisp_meaning.State.{State}
 use Rattle.lisp_heap.specs.lisp_meaning.Opening.{opening}
-use Rattle.lisp_heap.specs.Contents.{Contents}
+use Rattle.lisp_heap.specs.HeapView.{HeapView}
 use Rattle.lisp_heap.specs.Stands.{Stands}
 use Rattle.lisp_heap.specs.Form.{IsForm}
 use Rattle.world_text.specs.Limits.{IsAccepted}
 use Rattle.lisp_graph.specs.Commands.{IsRunnable}
 use Rattle.paged_machine.specs.Holding.{CanRun, StandsFor, Takes, holding}
-use Rattle.paged_machine.specs.declared.machine.Stage.{Stage}
-use Rattle.paged_machine.specs.declared.machine.Stage.TheVariants.{Swap, Memory, Part, Heap}
+use Rattle.paged_machine.specs.declared.machine.MachineStage.{MachineStage}
+use Rattle.paged_machine.specs.declared.machine.MachineStage.TheVariants.{Swap, Memory, Part, Heap}
 
 -- What a heap takes
 
@@ -60,21 +60,21 @@ runs registers areas world C.Stats same few h = tt
 runs registers areas world C.Dump same few h = tt
 
 -- if a heap represents what another represented, so does the machine that holds it
-pub stands_on : (held : Option Contents) (old new : Contents) → held ≡ Some old → ((s : State) → Stands old s → Stands new s) → (s : State) → StandsFor held s → StandsFor (Some new) s
+pub stands_on : (held : Option HeapView) (old new : HeapView) → held ≡ Some old → ((s : State) → Stands old s → Stands new s) → (s : State) → StandsFor held s → StandsFor (Some new) s
 stands_on None old new is on s stands = absurd stands
 stands_on (Some heap) old new is on s stands =
     let here : heap ≡ old = cc (is) in
-    on s (subst (λ (h : Contents). Stands h s) here stands)
+    on s (subst (λ (h : HeapView). Stands h s) here stands)
 
 -- a machine that represents a world's opening can be given each command that can be run in the world
-pub takes_on : {E : Type 0} (world : World) (heap : Contents) (result : Result (Unit {0}) E) → IsAccepted world → OnOk result (Stands heap (opening world)) → OnOk result ((command : Command) → IsRunnable world command → Takes (Some heap) command)
+pub takes_on : {E : Type 0} (world : World) (heap : HeapView) (result : Result (Unit {0}) E) → IsAccepted world → OnOk result (Stands heap (opening world)) → OnOk result ((command : Command) → IsRunnable world command → Takes (Some heap) command)
 takes_on world heap (Err error) accepted stands = tt
 takes_on world heap (Ok done) accepted stands = λ command runnable.
     runs (length heap.registers) (length heap.table.kinds) world command (sym (stands.represents.represents.count ∙ accepted.limits.roots))
     (sym (ap (λ (ks : List AreaKind). length ks) stands.kinds ∙ length-map world.areas (λ (rule : AreaRule). rule.kind))) runnable
 
 -- an idle machine shows no heap
-pub idle_bare : {D : Type 0} (faults : D → ℕ) (stage : Option (Stage D)) → (holding faults stage).idle ≡ true → is_some (holding faults stage).heap ≡ false
+pub idle_bare : {D : Type 0} (faults : D → ℕ) (stage : Option (MachineStage D)) → (holding faults stage).idle ≡ true → is_some (holding faults stage).heap ≡ false
 idle_bare faults None is = refl
 idle_bare faults (Some (Swap swap)) is = refl
 idle_bare faults (Some (Memory memory)) is = refl

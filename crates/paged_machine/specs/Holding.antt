@@ -6,38 +6,38 @@ use Rattle.lisp_graph.specs.declared.command.Command.TheVariants as C
 use Rattle.lisp_graph.specs.Commands.{IsPlain}
 use Rattle.lisp_heap.specs.lisp_meaning.State.{State}
 use Rattle.lisp_heap.specs.lisp_meaning.Stands.{Stands as Means}
-use Rattle.lisp_heap.specs.Contents.{Contents}
+use Rattle.lisp_heap.specs.HeapView.{HeapView}
 use Rattle.lisp_heap.specs.Stands.{Stands, machine_of}
-use Rattle.paged_machine.specs.declared.machine.Stage.{Stage}
-use Rattle.paged_machine.specs.declared.machine.Stage.TheVariants.{Swap, Memory, Part, Heap}
+use Rattle.paged_machine.specs.declared.machine.MachineStage.{MachineStage}
+use Rattle.paged_machine.specs.declared.machine.MachineStage.TheVariants.{Swap, Memory, Part, Heap}
 
 -- whether it holds its swap alone; the contents of its heap, once a world was loaded; and how often the swap failed
 pub record Holding : Type 0 where
   pub idle : Bool
-  pub heap : Option Contents
+  pub heap : Option HeapView
   pub faults : ℕ
 
 -- what is held: a swap, a memory over it, or a heap over that, into which a world was loaded or wasn't
-abbrev pub held_as : {D : Type 0} → (D → ℕ) → Stage D → Holding
+abbrev pub held_as : {D : Type 0} → (D → ℕ) → MachineStage D → Holding
 held_as faults (Swap swap) = record { idle = true; heap = None; faults = faults swap }
 held_as faults (Memory memory) = record { idle = false; heap = None; faults = faults memory.1 }
 held_as faults (Part heap) = record { idle = false; heap = None; faults = heap.faults }
 held_as faults (Heap heap) = record { idle = false; heap = Some heap; faults = heap.faults }
 
 -- nothing is held only while something else is opened
-abbrev pub holding : {D : Type 0} → (D → ℕ) → Option (Stage D) → Holding
+abbrev pub holding : {D : Type 0} → (D → ℕ) → Option (MachineStage D) → Holding
 holding faults None = record { idle = false; heap = None; faults = 0 }
 holding faults (Some stage) = held_as faults stage
 
 -- the heap represents the state
-abbrev pub StandsFor : Option Contents → State → Type 0
+abbrev pub StandsFor : Option HeapView → State → Type 0
 StandsFor None s = ⊥
 StandsFor (Some heap) s = Stands heap s
 
 -- the heap has the meaning of the state: under a naming, each register and each object is found in its words
-abbrev pub MeansFor : Option Contents → State → Type 0
-MeansFor None s = ⊥
-MeansFor (Some heap) s = Means (machine_of heap) s
+abbrev pub HasReading : Option HeapView → State → Type 0
+HasReading None s = ⊥
+HasReading (Some heap) s = Means (machine_of heap) s
 
 -- a command whose registers and areas are below these numbers, within the limits of its other numbers
 abbrev pub CanRun : ℕ → ℕ → Command → Type 0
@@ -63,6 +63,6 @@ CanRun registers areas C.Stats = Unit {0}
 CanRun registers areas C.Dump = Unit {0}
 
 -- the machine can be given the command: its world was loaded, and its heap has the command's registers and areas
-abbrev pub Takes : Option Contents → Command → Type 0
+abbrev pub Takes : Option HeapView → Command → Type 0
 Takes None command = ⊥
 Takes (Some heap) command = CanRun (length heap.registers) (length heap.table.kinds) command

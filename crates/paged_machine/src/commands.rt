@@ -4,7 +4,7 @@ ghost use Rattle.lisp_heap.specs.Stands.{Runs};
 ghost use Rattle.paged_machine.specs.Asks.{is_replied};
 ghost use Rattle.paged_machine.specs.Holding.{CanRun};
 
-use lisp_graph::{Command, Reply, Request, Short};
+use lisp_graph::{Command, CommandHead, Reply, Request};
 use lisp_heap::Heap;
 use mem_port::Memory;
 use std::sync::ledger::{Blank, Ledger};
@@ -19,41 +19,41 @@ pub fn run_request<M: Memory, L: Ledger>(
 ) -> Reply
     requires name { blank.name ≡ L.name }
     requires parts { blank.parts ≡ L.parts }
-    requires one { blank.parts ≡ 1 }
-    requires runnable { CanRun (length heap.old.registers) (length heap.old.table.kinds) command.now }
+    requires at_least { blank.parts ≡ 1 }
+    requires can { CanRun (length heap.old.registers) (length heap.old.table.kinds) command.now }
     requires replied { is_replied command.now ≡ true }
     ensures { (taken : ℕ) × Runs heap.old heap.new 0 taken command.now result }
 {
     let (short, items) = command.parts();
     let mut steps = Steps::<L>::new(blank);
     match short {
-        Short::Set { to, value } => heap.set(*to, *value),
-        Short::Move { to, from } => heap.copy_register(*to, *from, &mut steps),
-        Short::Cons { to, area, car, cdr } => heap.cons(*to, *area, *car, *cdr, &mut steps),
-        Short::List { to, area } => heap.list(*to, *area, items, &mut steps),
-        Short::Make {
+        CommandHead::Set { to, value } => heap.set(*to, *value),
+        CommandHead::Move { to, from } => heap.copy_register(*to, *from, &mut steps),
+        CommandHead::Cons { to, area, car, cdr } => heap.cons(*to, *area, *car, *cdr, &mut steps),
+        CommandHead::List { to, area } => heap.list(*to, *area, items, &mut steps),
+        CommandHead::Make {
             to,
             area,
             code,
             length,
         } => heap.make(*to, *area, *code, *length, &mut steps),
-        Short::Grow { target, length } => heap.grow(*target, *length, &mut steps),
-        Short::Car { to, from } => heap.car(*to, *from, &mut steps),
-        Short::Cdr { to, from } => heap.cdr(*to, *from, &mut steps),
-        Short::Rplaca { target, from } => heap.rplaca(*target, *from, &mut steps),
-        Short::Rplacd { target, from } => heap.rplacd(*target, *from, &mut steps),
-        Short::Get { to, from, index } => heap.get(*to, *from, *index, &mut steps),
-        Short::Put {
+        CommandHead::Grow { target, length } => heap.grow(*target, *length, &mut steps),
+        CommandHead::Car { to, from } => heap.car(*to, *from, &mut steps),
+        CommandHead::Cdr { to, from } => heap.cdr(*to, *from, &mut steps),
+        CommandHead::Rplaca { target, from } => heap.rplaca(*target, *from, &mut steps),
+        CommandHead::Rplacd { target, from } => heap.rplacd(*target, *from, &mut steps),
+        CommandHead::Get { to, from, index } => heap.get(*to, *from, *index, &mut steps),
+        CommandHead::Put {
             target,
             index,
             from,
         } => heap.put(*target, *index, *from, &mut steps),
-        Short::Size { of } => heap.size(*of, &mut steps),
-        Short::Eq { left, right } => heap.eq(*left, *right, &mut steps),
-        Short::Flip { what } => heap.flip(*what),
-        Short::Scavenge { count } => heap.scavenge(*count, &mut steps),
-        Short::Reclaim => heap.reclaim(),
-        Short::PageOut { count } => heap.page_out(*count),
+        CommandHead::Size { of } => heap.size(*of, &mut steps),
+        CommandHead::Eq { left, right } => heap.eq(*left, *right, &mut steps),
+        CommandHead::Flip { what } => heap.flip(*what),
+        CommandHead::Scavenge { count } => heap.scavenge(*count, &mut steps),
+        CommandHead::Reclaim => heap.reclaim(),
+        CommandHead::PageOut { count } => heap.page_out(*count),
         _ => unreachable!(),
     }
 }
@@ -66,8 +66,8 @@ pub fn run_command<M: Memory, L: Ledger>(
 ) -> Reply
     requires name { blank.name ≡ L.name }
     requires parts { blank.parts ≡ L.parts }
-    requires one { blank.parts ≡ 1 }
-    requires runnable { CanRun (length heap.old.registers) (length heap.old.table.kinds) command.now }
+    requires at_least { blank.parts ≡ 1 }
+    requires can { CanRun (length heap.old.registers) (length heap.old.table.kinds) command.now }
     requires replied { is_replied command.now ≡ true }
     ensures { (taken : ℕ) × Runs heap.old heap.new 0 taken command.now result }
 {

@@ -40,25 +40,25 @@ pub trait Engine {
     /// without objects; only a swap failure raises the count of swap errors. A world was loaded if and only if it succeeds.
     fn open(&mut self, alloc: Global, world: &World) -> Result<(), LoadFault>
         requires idle { is_idle self.old }
-        requires world { IsAccepted world.now }
+        requires accepted { IsAccepted world.now }
         ensures stands { OnOk result (stands self.new (opening world.now)) }
         ensures takes { OnOk result ((command : OneCommand) → IsRunnable world.now command → takes self.new command) }
-        ensures loaded { loaded self.new ≡ is_ok result }
-        ensures later { faults self.old ≤ faults self.new }
+        ensures value { loaded self.new ≡ is_ok result }
+        ensures never_falls { faults self.old ≤ faults self.new }
         ensures swap { is_fault result ≡ true → faults self.old < faults self.new }
-        ensures quiet { is_fault result ≡ false → faults self.new ≡ faults self.old }
-        ensures bare { world.now.objects ≡ [] → is_fault result ≡ false };
+        ensures no_fault { is_fault result ≡ false → faults self.new ≡ faults self.old }
+        ensures succeeds { world.now.objects ≡ [] → is_fault result ≡ false };
 
     /// Runs a command that replies by a `Reply`: any but `stats` and `dump`. The count of swap errors rises if and only if the reply is `Fault`.
     fn answer(&mut self, command: &Request) -> Reply
-        requires takes { takes self.old command.now }
+        requires can { takes self.old command.now }
         requires replied { is_replied command.now ≡ true }
         ensures does { (old : State) → stands self.old old → ((new : State) × Does old command.now (Replied result) new × stands self.new new) }
         ensures takes { (other : OneCommand) → takes self.old other → takes self.new other }
-        ensures loaded { loaded self.new ≡ loaded self.old }
+        ensures unchanged { loaded self.new ≡ loaded self.old }
         ensures fault { result ≡ Reply.Fault → faults self.old < faults self.new }
-        ensures quiet { result ≢ Reply.Fault → faults self.new ≡ faults self.old }
-        ensures later { faults self.old ≤ faults self.new };
+        ensures no_fault { result ≢ Reply.Fault → faults self.new ≡ faults self.old }
+        ensures never_falls { faults self.old ≤ faults self.new };
 
     /// The words that an area is charged in any state that it represents.
     fn account(&self, area: u8) -> u32
@@ -67,12 +67,12 @@ pub trait Engine {
 
     /// The text of a dump in this world. It fails if memory runs out, or if the swap fails, and changes nothing that it represents.
     fn dump(&mut self, alloc: Global, world: &World) -> Result<Text, DumpFault>
-        requires takes { takes self.old Dump }
-        requires world { (s : State) × stands self.old s × IsOf world.now s }
+        requires can { takes self.old Dump }
+        requires agrees { (s : State) × stands self.old s × IsOf world.now s }
         ensures text { IfOk result (λ text. (s : State) → stands self.old s → IsOf world.now s → text ≡ dumped (world_of s)) }
         ensures stands { (s : State) → stands self.old s → stands self.new s }
         ensures takes { (other : OneCommand) → takes self.old other → takes self.new other }
-        ensures loaded { loaded self.new ≡ loaded self.old }
+        ensures unchanged { loaded self.new ≡ loaded self.old }
         ensures cause { HasSwapCause (faults self.old) (faults self.new) result };
 
     /// An idle engine has no world: this call does nothing, and proofs take that from it.

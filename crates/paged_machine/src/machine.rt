@@ -3,7 +3,7 @@ ghost use Rattle.std.specs.Prelude.{◌≡◌, ◌↔◌, ◌≤◌, ◌<◌, tr
 ghost use Rattle.lisp_heap.specs.lisp_meaning.Opening.{opening};
 ghost use Rattle.lisp_heap.specs.heap_load.Faults.{is_fault};
 ghost use Rattle.lisp_heap.specs.area_space.Fresh.{kinds_in};
-ghost use Rattle.lisp_heap.specs.Contents.{SameWorld};
+ghost use Rattle.lisp_heap.specs.HeapView.{SameWorld};
 ghost use Rattle.lisp_heap.specs.Form.{world_with};
 ghost use Rattle.lisp_heap.specs.Stands.{Stands};
 ghost use Rattle.world_text.specs.Limits.{IsAccepted};
@@ -25,7 +25,7 @@ use world_text::DumpFault;
 
 // What a machine holds.
 #[derive(Drop)]
-enum Stage<D: Swap> {
+enum MachineStage<D: Swap> {
     Swap(D),
     Memory(PagedMemory<D>),
     // Of a world that wasn't loaded, with some of its objects.
@@ -37,7 +37,7 @@ enum Stage<D: Swap> {
 /// If a world could not be opened, it holds the swap, the memory, or a heap with some of the world's objects.
 #[derive(Drop)]
 pub struct Machine<D: Swap> {
-    stage: Option<Stage<D>>,
+    stage: Option<MachineStage<D>>,
 }
 
 impl<D: Swap> Model for Machine<D> {
@@ -55,11 +55,11 @@ impl<D: Swap> Machine<D> {
     /// A machine that holds the swap alone.
     pub fn idle(swap: D) -> Machine<D>
         ensures idle { result.idle ≡ true }
-        ensures heap { result.heap ≡ None }
-        ensures faults { result.faults ≡ D.faults swap }
+        ensures empty { result.heap ≡ None }
+        ensures no_fault { result.faults ≡ D.faults swap }
     {
         Machine {
-            stage: Some(Stage::Swap(swap)),
+            stage: Some(MachineStage::Swap(swap)),
         }
     }
 
@@ -67,7 +67,7 @@ impl<D: Swap> Machine<D> {
     pub fn is_idle(&self) -> bool
         ensures { IsTrue result ↔ (self.now.idle ≡ true) }
     {
-        matches!(self.stage, Some(Stage::Swap(_)))
+        matches!(self.stage, Some(MachineStage::Swap(_)))
     }
 
     /// Its heap, once a world was loaded.
@@ -75,14 +75,14 @@ impl<D: Swap> Machine<D> {
         ensures { option_map (λ heap. heap.now) result ≡ self.now.heap }
     {
         match &self.stage {
-            Some(Stage::Heap(heap)) => Some(heap),
+            Some(MachineStage::Heap(heap)) => Some(heap),
             _ => None,
         }
     }
 }
 
 // Puts what is held into its empty place.
-fn put<D: Swap>(place: &mut Option<Stage<D>>, stage: Stage<D>)
+fn put<D: Swap>(place: &mut Option<MachineStage<D>>, stage: MachineStage<D>)
     requires { place.old ≡ None }
     ensures { place.new ≡ Some stage }
 {
@@ -97,21 +97,21 @@ fn open_heap<D: Swap>(
     alloc: Global,
     world: &World,
     swap: D,
-) -> Result<Heap<PagedMemory<D>>, Stage<D>>
+) -> Result<Heap<PagedMemory<D>>, MachineStage<D>>
     requires { IsAccepted world.now }
     ensures stands { IfOk result (λ heap. Stands heap (opening (world_with world.now.space world.now.areas))) }
-    ensures kinds { IfOk result (λ heap. heap.table.kinds ≡ kinds_in world.now.areas) }
-    ensures faults { IfOk result (λ heap. heap.faults ≡ D.faults swap) }
-    ensures back { IfErr result (λ stage. (held_as D.faults stage).faults ≡ D.faults swap) }
-    ensures bare { IfErr result (λ stage. (held_as D.faults stage).heap ≡ None) }
+    ensures value { IfOk result (λ heap. heap.table.kinds ≡ kinds_in world.now.areas) }
+    ensures no_fault { IfOk result (λ heap. heap.faults ≡ D.faults swap) }
+    ensures err { IfErr result (λ stage. (held_as D.faults stage).faults ≡ D.faults swap) }
+    ensures empty { IfErr result (λ stage. (held_as D.faults stage).heap ≡ None) }
 {
     let memory = match PagedMemory::open(alloc, &world.space, swap) {
         Ok(memory) => memory,
-        Err(refused) => return Err(Stage::Swap(refused.back)),
+        Err(refused) => return Err(MachineStage::Swap(refused.back)),
     };
     match Heap::open(alloc, &world.space, &world.areas, memory) {
         Ok(heap) => Ok(heap),
-        Err(refused) => Err(Stage::Memory(refused.back)),
+        Err(refused) => Err(MachineStage::Memory(refused.back)),
     }
 }
 
@@ -124,15 +124,15 @@ fn load_world<M: Memory, L: Ledger>(
 ) -> Result<(), LoadFault>
     requires name { blank.name ≡ L.name }
     requires parts { blank.parts ≡ L.parts }
-    requires one { blank.parts ≡ 1 }
+    requires at_least { blank.parts ≡ 1 }
     requires empty { Stands heap.old (opening (world_with world.now.space world.now.areas)) }
-    requires world { IsAccepted world.now }
+    requires accepted { IsAccepted world.now }
     ensures stands { OnOk result (Stands heap.new (opening world.now)) }
-    ensures world { SameWorld heap.old heap.new }
-    ensures later { heap.old.faults ≤ heap.new.faults }
+    ensures unchanged { SameWorld heap.old heap.new }
+    ensures never_falls { heap.old.faults ≤ heap.new.faults }
     ensures swap { is_fault result ≡ true → heap.old.faults < heap.new.faults }
-    ensures quiet { is_fault result ≡ false → heap.new.faults ≡ heap.old.faults }
-    ensures bare { world.now.objects ≡ [] → is_fault result ≡ false }
+    ensures no_fault { is_fault result ≡ false → heap.new.faults ≡ heap.old.faults }
+    ensures succeeds { world.now.objects ≡ [] → is_fault result ≡ false }
 {
     accepted_worlds_fit();
     let mut steps = Steps::<L>::new(blank);
@@ -152,7 +152,7 @@ impl<D: Swap> Engine for Machine<D> {
 
     fn open(&mut self, alloc: Global, world: &World) -> Result<(), LoadFault> {
         match self.stage.take() {
-            Some(Stage::Swap(swap)) => match open_heap(alloc, world, swap) {
+            Some(MachineStage::Swap(swap)) => match open_heap(alloc, world, swap) {
                 Ok(mut heap) => match load_world::<PagedMemory<D>, Brand>(
                     alloc,
                     &mut heap,
@@ -160,11 +160,11 @@ impl<D: Swap> Engine for Machine<D> {
                     Blank::new(1),
                 ) {
                     Ok(()) => {
-                        put(&mut self.stage, Stage::Heap(heap));
+                        put(&mut self.stage, MachineStage::Heap(heap));
                         Ok(())
                     }
                     Err(fault) => {
-                        put(&mut self.stage, Stage::Part(heap));
+                        put(&mut self.stage, MachineStage::Part(heap));
                         Err(fault)
                     }
                 },
@@ -180,7 +180,7 @@ impl<D: Swap> Engine for Machine<D> {
     #[inline(always)]
     fn answer(&mut self, command: &Request) -> Reply {
         match &mut self.stage {
-            Some(Stage::Heap(heap)) => run_request::<PagedMemory<D>, Brand>(
+            Some(MachineStage::Heap(heap)) => run_request::<PagedMemory<D>, Brand>(
                 heap,
                 command,
                 Blank::new(1),
@@ -191,16 +191,16 @@ impl<D: Swap> Engine for Machine<D> {
 
     fn account(&self, area: u8) -> u32 {
         match &self.stage {
-            Some(Stage::Heap(heap)) => heap.account(area),
+            Some(MachineStage::Heap(heap)) => heap.account(area),
             _ => unreachable!(),
         }
     }
 
     fn dump(&mut self, alloc: Global, world: &World) -> Result<Text, DumpFault> {
         match self.stage.take() {
-            Some(Stage::Heap(heap)) => {
+            Some(MachineStage::Heap(heap)) => {
                 let (heap, dump) = heap.dump(alloc, &world.areas);
-                put(&mut self.stage, Stage::Heap(heap));
+                put(&mut self.stage, MachineStage::Heap(heap));
                 dump
             }
             _ => unreachable!(),

@@ -12,8 +12,8 @@ impl Pager {
 
     /// Makes a page empty: its frame is free, or its row is removed.
     pub(crate) fn empty_page(&mut self, page: u32)
-        requires inside { page < length self.old.places.places }
-        requires rows { length self.old.rows.sets ≡ length self.old.places.places }
+        requires in_range { page < length self.old.places.places }
+        requires size { length self.old.rows.sets ≡ length self.old.places.places }
         requires frame { (f : ℕ) → place_at self.old.places page ≡ PagePlace.InFrame f → Contains self.old.pool.used f }
         ensures { (stored : List Parts) → IsPaged (paging_of self.old) stored
             → Emptied (paging_of self.old) stored (paging_of self.new) page (page + 1) }

@@ -36,8 +36,8 @@ impl<D: Swap> Memory for PagedMemory<D> {
     fn pages(&self) -> u32
         ensures sound { IsSound (store_of self.now.0 (D.stored self.now.1)) result }
         ensures paged { IsPaged self.now.0 (D.stored self.now.1) }
-        ensures few { length (resident_of self.now.0) ≤ frames_of self.now.0.pool }
-        ensures stored { (at : ℕ) → at < 256 * result → place_at self.now.0.places (at / 256) ≡ PagePlace.Swapped
+        ensures at_most { length (resident_of self.now.0) ≤ frames_of self.now.0.pool }
+        ensures absent { (at : ℕ) → at < 256 * result → place_at self.now.0.places (at / 256) ≡ PagePlace.Swapped
             → slice_get (words_of self.now.0 (D.stored self.now.1)) at ≡ slice_get (D.stored self.now.1) at }
     {
         self.pager.levels.len() as u32 * 16
@@ -49,13 +49,13 @@ impl<D: Swap> Memory for PagedMemory<D> {
 
         // What is returned. Nothing is stored.
         ensures value { IfOk result (λ word. slice_get (words_of self.old.0 (D.stored self.old.1)) at ≡ Some word) }
-        ensures stays { StoresNothing (store_of self.old.0 (D.stored self.old.1)) (store_of self.new.0 (D.stored self.new.1)) }
+        ensures unchanged { StoresNothing (store_of self.old.0 (D.stored self.old.1)) (store_of self.new.0 (D.stored self.new.1)) }
 
         // What becomes of the pages in frames.
-        ensures sure { Contains (resident_of self.old.0) (at / 256) → IsOk result }
+        ensures succeeds { Contains (resident_of self.old.0) (at / 256) → IsOk result }
         ensures uses { OnOk result (Uses self.old.0 self.new.0 (at / 256) false) }
         ensures stops { OnErr result (Stops self.old.0 self.new.0) }
-        ensures kept { Contains (resident_of self.old.0) (at / 256)
+        ensures stays_held { Contains (resident_of self.old.0) (at / 256)
             → (page : ℕ) → Contains (resident_of self.old.0) page → Contains (resident_of self.new.0) page }
 
         // Swap errors, the calls of the device, and the cost.
@@ -89,10 +89,10 @@ impl<D: Swap> Memory for PagedMemory<D> {
         ensures err { OnErr result (StoresNothing (store_of self.old.0 (D.stored self.old.1)) (store_of self.new.0 (D.stored self.new.1))) }
 
         // What becomes of the pages in frames.
-        ensures sure { Contains (resident_of self.old.0) (at / 256) → IsOk result }
+        ensures succeeds { Contains (resident_of self.old.0) (at / 256) → IsOk result }
         ensures uses { OnOk result (Uses self.old.0 self.new.0 (at / 256) (nat_lt 0 (level_of_word self.old.0.levels word))) }
         ensures stops { OnErr result (Stops self.old.0 self.new.0) }
-        ensures kept { Contains (resident_of self.old.0) (at / 256)
+        ensures stays_held { Contains (resident_of self.old.0) (at / 256)
             → (page : ℕ) → Contains (resident_of self.old.0) page → Contains (resident_of self.new.0) page }
 
         // Swap errors, the calls of the device, and the cost.
@@ -116,12 +116,12 @@ impl<D: Swap> Memory for PagedMemory<D> {
 
     /// Uses pages one after another. With 32 frames at least, none of them is evicted for another.
     fn hold<L: Ledger>(&mut self, pages: &[u32], steps: &mut Steps<L>) -> Result<(), SwapFault>
-        requires few { length pages.now ≤ HOLD_LIMIT }
-        requires inside { All (λ page. 256 * page < length (words_of self.old.0 (D.stored self.old.1))) pages.now }
+        requires at_most { length pages.now ≤ HOLD_LIMIT }
+        requires in_range { All (λ page. 256 * page < length (words_of self.old.0 (D.stored self.old.1))) pages.now }
         ensures ok { OnOk result (All (λ page. Contains (resident_of self.new.0) page) pages.now) }
         ensures uses { OnOk result (UsesEach self.old.0 (D.calls self.old.1) self.new.0 (D.calls self.new.1) pages.now) }
         ensures stops { OnErr result (StopsAmong self.old.0 (D.calls self.old.1) self.new.0 (D.calls self.new.1) pages.now) }
-        ensures stays { StoresNothing (store_of self.old.0 (D.stored self.old.1)) (store_of self.new.0 (D.stored self.new.1)) }
+        ensures unchanged { StoresNothing (store_of self.old.0 (D.stored self.old.1)) (store_of self.new.0 (D.stored self.new.1)) }
         ensures cause { TellsFaults (D.faults self.old.1) (D.faults self.new.1) result }
         ensures room { LeavesRoom (length (resident_of self.old.0)) (length (resident_of self.new.0)) result }
         ensures taken { self.new.2 ≡ self.old.2 + length pages.now }
@@ -139,9 +139,9 @@ impl<D: Swap> Memory for PagedMemory<D> {
 
     /// Copies words between pages in frames: the page of the first is used, and then the page that they are copied to.
     fn copy_on<L: Ledger>(&mut self, from: u32, to: u32, count: u32, steps: &mut Steps<L>)
-        requires some { 0 < count }
-        requires from_inside { from + count ≤ length (words_of self.old.0 (D.stored self.old.1)) }
-        requires to_inside { to + count ≤ length (words_of self.old.0 (D.stored self.old.1)) }
+        requires at_least { 0 < count }
+        requires from { from + count ≤ length (words_of self.old.0 (D.stored self.old.1)) }
+        requires to { to + count ≤ length (words_of self.old.0 (D.stored self.old.1)) }
         requires apart { (from + count ≤ to) ⊎ (to + count ≤ from) }
         requires from_page { from % 256 + count ≤ 256 }
         requires to_page { to % 256 + count ≤ 256 }
@@ -149,17 +149,17 @@ impl<D: Swap> Memory for PagedMemory<D> {
         requires to_held { Contains (resident_of self.old.0) (to / 256) }
 
         // The words are copied.
-        ensures copied { Covers (store_of self.old.0 (D.stored self.old.1)) (store_of self.new.0 (D.stored self.new.1)) to count
+        ensures written { Covers (store_of self.old.0 (D.stored self.old.1)) (store_of self.new.0 (D.stored self.new.1)) to count
             (λ i. slice_index_or (words_of self.old.0 (D.stored self.old.1)) (from + i) null_word) }
 
         // What becomes of the pages in frames.
         ensures uses { StoresOn self.old.0 self.new.0 (to / 256) (latest (to / 256) (latest (from / 256) (resident_of self.old.0))) }
-        ensures kept { (page : ℕ) → Contains (resident_of self.old.0) page → Contains (resident_of self.new.0) page }
+        ensures stays_held { (page : ℕ) → Contains (resident_of self.old.0) page → Contains (resident_of self.new.0) page }
         ensures resident { length (resident_of self.new.0) ≡ length (resident_of self.old.0) }
 
         // The device, swap errors and the cost.
-        ensures device { self.new.1 ≡ self.old.1 }
-        ensures faults { D.faults self.new.1 ≡ D.faults self.old.1 }
+        ensures unchanged { self.new.1 ≡ self.old.1 }
+        ensures no_fault { D.faults self.new.1 ≡ D.faults self.old.1 }
         ensures taken { self.new.2 ≡ self.old.2 + 2 * count }
         ensures cost { steps.new ≡ steps.old + 2 * count }
     {
@@ -171,20 +171,20 @@ impl<D: Swap> Memory for PagedMemory<D> {
 
     /// Writes one word to many addresses of a page in a frame, which is used.
     fn fill_on<L: Ledger>(&mut self, at: u32, count: u32, word: Word, steps: &mut Steps<L>)
-        requires some { 0 < count }
-        requires inside { at + count ≤ length (words_of self.old.0 (D.stored self.old.1)) }
+        requires at_least { 0 < count }
+        requires in_range { at + count ≤ length (words_of self.old.0 (D.stored self.old.1)) }
         requires page { at % 256 + count ≤ 256 }
         requires held { Contains (resident_of self.old.0) (at / 256) }
         ensures filled { Covers (store_of self.old.0 (D.stored self.old.1)) (store_of self.new.0 (D.stored self.new.1)) at count (λ _. word) }
 
         // What becomes of the pages in frames.
         ensures uses { StoresOn self.old.0 self.new.0 (at / 256) (latest (at / 256) (resident_of self.old.0)) }
-        ensures kept { (page : ℕ) → Contains (resident_of self.old.0) page → Contains (resident_of self.new.0) page }
+        ensures stays_held { (page : ℕ) → Contains (resident_of self.old.0) page → Contains (resident_of self.new.0) page }
         ensures resident { length (resident_of self.new.0) ≡ length (resident_of self.old.0) }
 
         // The device, swap errors and the cost.
-        ensures device { self.new.1 ≡ self.old.1 }
-        ensures faults { D.faults self.new.1 ≡ D.faults self.old.1 }
+        ensures unchanged { self.new.1 ≡ self.old.1 }
+        ensures no_fault { D.faults self.new.1 ≡ D.faults self.old.1 }
         ensures taken { self.new.2 ≡ self.old.2 + count }
         ensures cost { steps.new ≡ steps.old + count }
     {
@@ -199,11 +199,11 @@ impl<D: Swap> Memory for PagedMemory<D> {
         requires { region < length self.old.0.levels }
         ensures cleared { Clears (store_of self.old.0 (D.stored self.old.1)) (store_of self.new.0 (D.stored self.new.1)) region }
         ensures resident { resident_of self.new.0 ≡ outside region (resident_of self.old.0) }
-        ensures kept { (page : ℕ) → page / 16 ≢ region → Contains (resident_of self.old.0) page → Contains (resident_of self.new.0) page }
+        ensures stays_held { (page : ℕ) → page / 16 ≢ region → Contains (resident_of self.old.0) page → Contains (resident_of self.new.0) page }
         ensures frames { frames_of self.new.0.pool ≡ frames_of self.old.0.pool }
-        ensures device { self.new.1 ≡ self.old.1 }
+        ensures unchanged { self.new.1 ≡ self.old.1 }
         ensures taken { self.new.2 ≡ self.old.2 }
-        ensures faults { D.faults self.new.1 ≡ D.faults self.old.1 }
+        ensures no_fault { D.faults self.new.1 ≡ D.faults self.old.1 }
     {
         let _levels = self.pager.levels.len();
         for page in region * 16..region * 16 + 16 {
@@ -213,17 +213,17 @@ impl<D: Swap> Memory for PagedMemory<D> {
 
     /// Writes the level of a region, and nothing else.
     fn set_level(&mut self, region: u32, level: u8)
-        requires inside { region < length self.old.0.levels }
-        requires low { level ≤ self.old.0.top }
-        requires unused { IsUnused (store_of self.old.0 (D.stored self.old.1)) region }
+        requires in_range { region < length self.old.0.levels }
+        requires at_most { level ≤ self.old.0.top }
+        requires free { IsUnused (store_of self.old.0 (D.stored self.old.1)) region }
         ensures level { store_of self.new.0 (D.stored self.new.1)
             ≡ record (store_of self.old.0 (D.stored self.old.1)) { levels = slice_set self.old.0.levels region level } }
-        ensures kept { (page : ℕ) → Contains (resident_of self.old.0) page → Contains (resident_of self.new.0) page }
+        ensures stays_held { (page : ℕ) → Contains (resident_of self.old.0) page → Contains (resident_of self.new.0) page }
         ensures resident { resident_of self.new.0 ≡ resident_of self.old.0 }
         ensures frames { frames_of self.new.0.pool ≡ frames_of self.old.0.pool }
-        ensures device { self.new.1 ≡ self.old.1 }
+        ensures unchanged { self.new.1 ≡ self.old.1 }
         ensures taken { self.new.2 ≡ self.old.2 }
-        ensures faults { D.faults self.new.1 ≡ D.faults self.old.1 }
+        ensures no_fault { D.faults self.new.1 ≡ D.faults self.old.1 }
     {
         self.pager.levels[region as usize] = level;
     }
@@ -256,14 +256,14 @@ impl<D: Swap> Memory for PagedMemory<D> {
     /// The tag of a page in a frame is set if and only if an address of level 1 or more is stored on it.
     fn remark(&mut self, page: u32)
         requires { 256 * page < length (words_of self.old.0 (D.stored self.old.1)) }
-        ensures exact { Remarks (store_of self.old.0 (D.stored self.old.1)) (store_of self.new.0 (D.stored self.new.1)) page }
-        ensures stays { (IsClean (store_of self.old.0 (D.stored self.old.1)) page → ⊥) → marks_of self.new.0 page ≡ marks_of self.old.0 page }
-        ensures kept { (page : ℕ) → Contains (resident_of self.old.0) page → Contains (resident_of self.new.0) page }
+        ensures marks { Remarks (store_of self.old.0 (D.stored self.old.1)) (store_of self.new.0 (D.stored self.new.1)) page }
+        ensures refused { (IsClean (store_of self.old.0 (D.stored self.old.1)) page → ⊥) → marks_of self.new.0 page ≡ marks_of self.old.0 page }
+        ensures stays_held { (page : ℕ) → Contains (resident_of self.old.0) page → Contains (resident_of self.new.0) page }
         ensures resident { resident_of self.new.0 ≡ resident_of self.old.0 }
         ensures frames { frames_of self.new.0.pool ≡ frames_of self.old.0.pool }
-        ensures device { self.new.1 ≡ self.old.1 }
+        ensures unchanged { self.new.1 ≡ self.old.1 }
         ensures taken { self.new.2 ≡ self.old.2 }
-        ensures faults { D.faults self.new.1 ≡ D.faults self.old.1 }
+        ensures no_fault { D.faults self.new.1 ≡ D.faults self.old.1 }
     {
         let place = self.pager.places.place_of(page);
         if let PagePlace::InFrame(frame) = place {
@@ -277,12 +277,12 @@ impl<D: Swap> Memory for PagedMemory<D> {
     }
 
     fn evict_oldest(&mut self, count: u32) -> Result<u32, SwapFault>
-        ensures evicted { OnOk result (resident_of self.new.0 ≡ drop (min count (length (resident_of self.old.0))) (resident_of self.old.0)) }
+        ensures resident { OnOk result (resident_of self.new.0 ≡ drop (min count (length (resident_of self.old.0))) (resident_of self.old.0)) }
         ensures count { IfOk result (λ evicted. evicted ≡ min count (length (resident_of self.old.0))) }
-        ensures out { Evicts self.old.0 self.new.0 }
+        ensures frames { Evicts self.old.0 self.new.0 }
         ensures stops { OnErr result (EvictsFewer (resident_of self.old.0) (resident_of self.new.0) count) }
         ensures stopped { OnErr result ((gone : ℕ) × (gone < count) × (resident_of self.new.0 ≡ drop gone (resident_of self.old.0)) × (D.calls self.new.1 ≡ with_writes (gone + 1) (D.calls self.old.1))) }
-        ensures stays { StoresNothing (store_of self.old.0 (D.stored self.old.1)) (store_of self.new.0 (D.stored self.new.1)) }
+        ensures unchanged { StoresNothing (store_of self.old.0 (D.stored self.old.1)) (store_of self.new.0 (D.stored self.new.1)) }
         ensures cause { TellsFaults (D.faults self.old.1) (D.faults self.new.1) result }
         ensures taken { self.new.2 ≡ self.old.2 }
         ensures calls { IfOk result (λ evicted. D.calls self.new.1 ≡ with_writes evicted (D.calls self.old.1)) }

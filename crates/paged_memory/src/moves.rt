@@ -18,7 +18,7 @@ use store_word::{Flags, Levels, SwapFault, Word};
 /// Exactly the levels, 1 or more, of the addresses in these words. If they have no tag there are none, and no word is read.
 fn levels_of(tag: bool, words: &[Word], levels: &[u8]) -> Levels
     requires levels { (region : ℕ) → slice_index levels.now region ≤ 6 }
-    requires tagged { (l : ℕ) → 1 ≤ l → HasAddress words.now levels.now l → tag ≡ true }
+    requires marks { (l : ℕ) → 1 ≤ l → HasAddress words.now levels.now l → tag ≡ true }
     ensures { (l : ℕ) → 1 ≤ l → HasLevel result.0 l ↔ HasAddress words.now levels.now l }
 {
     if tag {
@@ -36,11 +36,11 @@ impl Pager {
     /// Evicts the least recently used page: writes its words to the device, and exactly its levels to the table. Its frame is free.
     pub(crate) fn evict<D: Swap>(&mut self, swap: &mut D, frame: u32) -> Result<(), SwapFault>
         requires paged { IsPaged (paging_of self.old) (D.stored swap.old) }
-        requires oldest { first_of self.old.pool.used ≡ Some frame }
-        ensures kept { Keeps (paging_of self.old) (D.stored swap.old) (paging_of self.new) (D.stored swap.new) }
-        ensures out { OnOk result (GoesOut (paging_of self.old) (paging_of self.new) (page_at self.old.pool frame)) }
+        requires agrees { first_of self.old.pool.used ≡ Some frame }
+        ensures preserves { Keeps (paging_of self.old) (D.stored swap.old) (paging_of self.new) (D.stored swap.new) }
+        ensures resident { OnOk result (GoesOut (paging_of self.old) (paging_of self.new) (page_at self.old.pool frame)) }
         ensures free { OnOk result (Contains self.new.pool.free frame) }
-        ensures stays { OnErr result (paging_of self.new ≡ paging_of self.old) }
+        ensures unchanged { OnErr result (paging_of self.new ≡ paging_of self.old) }
         ensures cause { TellsFaults (D.faults swap.old) (D.faults swap.new) result }
         ensures calls { D.calls swap.new ≡ with_write (D.calls swap.old) }
     {
@@ -67,10 +67,10 @@ impl Pager {
         requires paged { IsPaged (paging_of self.old) (D.stored swap.old) }
         requires free { Contains self.old.pool.free frame }
         requires page { place_at self.old.places page ≡ PagePlace.Swapped }
-        requires buffer { length buffer.old ≡ 256 }
-        ensures kept { Keeps (paging_of self.old) (D.stored swap.old) (paging_of self.new) (D.stored swap.new) }
-        ensures came { OnOk result (ComesIn (paging_of self.old) (paging_of self.new) page frame) }
-        ensures stays { OnErr result (paging_of self.new ≡ paging_of self.old) }
+        requires size { length buffer.old ≡ 256 }
+        ensures preserves { Keeps (paging_of self.old) (D.stored swap.old) (paging_of self.new) (D.stored swap.new) }
+        ensures placed { OnOk result (ComesIn (paging_of self.old) (paging_of self.new) page frame) }
+        ensures unchanged { OnErr result (paging_of self.new ≡ paging_of self.old) }
         ensures cause { TellsFaults (D.faults swap.old) (D.faults swap.new) result }
         ensures calls { D.calls swap.new ≡ with_read (D.calls swap.old) }
     {
@@ -86,11 +86,11 @@ impl Pager {
     /// Puts an empty page into a free frame, with no call of the device.
     pub(crate) fn bring_new(&mut self, frame: u32, page: u32)
         requires free { Contains self.old.pool.free frame }
-        requires inside { page < length self.old.places.places }
+        requires in_range { page < length self.old.places.places }
         requires page { place_at self.old.places page ≡ PagePlace.Empty }
-        ensures kept { (stored : List Parts) → IsPaged (paging_of self.old) stored
+        ensures stays_held { (stored : List Parts) → IsPaged (paging_of self.old) stored
             → Keeps (paging_of self.old) stored (paging_of self.new) stored }
-        ensures came { (stored : List Parts) → IsPaged (paging_of self.old) stored
+        ensures placed { (stored : List Parts) → IsPaged (paging_of self.old) stored
             → ComesIn (paging_of self.old) (paging_of self.new) page frame }
     {
         self.pool.take(frame, page);
@@ -100,10 +100,10 @@ impl Pager {
     /// A free frame. If there is none, the least recently used page is evicted first.
     pub(crate) fn make_room<D: Swap>(&mut self, swap: &mut D) -> Result<u32, SwapFault>
         requires paged { IsPaged (paging_of self.old) (D.stored swap.old) }
-        ensures kept { Keeps (paging_of self.old) (D.stored swap.old) (paging_of self.new) (D.stored swap.new) }
+        ensures preserves { Keeps (paging_of self.old) (D.stored swap.old) (paging_of self.new) (D.stored swap.new) }
         ensures free { IfOk result (λ frame. Contains self.new.pool.free frame) }
         ensures room { OnOk result (HasRoom (paging_of self.old) (paging_of self.new)) }
-        ensures stays { OnErr result (paging_of self.new ≡ paging_of self.old) }
+        ensures unchanged { OnErr result (paging_of self.new ≡ paging_of self.old) }
         ensures cause { TellsFaults (D.faults swap.old) (D.faults swap.new) result }
         ensures calls { D.calls swap.new ≡ calls_for_room (paging_of self.old) (D.calls swap.old) }
     {
@@ -127,17 +127,17 @@ impl Pager {
         page: u32,
     ) -> Result<u32, SwapFault>
         requires paged { IsPaged (paging_of self.old) (D.stored swap.old) }
-        requires inside { page < length self.old.places.places }
-        requires buffer { length buffer.old ≡ 256 }
+        requires in_range { page < length self.old.places.places }
+        requires size { length buffer.old ≡ 256 }
 
         // The page is in a frame, and the words are unchanged.
-        ensures kept { Keeps (paging_of self.old) (D.stored swap.old) (paging_of self.new) (D.stored swap.new) }
-        ensures there { IfOk result (λ frame. place_at self.new.places page ≡ PagePlace.InFrame frame) }
+        ensures stays_held { Keeps (paging_of self.old) (D.stored swap.old) (paging_of self.new) (D.stored swap.new) }
+        ensures placed { IfOk result (λ frame. place_at self.new.places page ≡ PagePlace.InFrame frame) }
 
         // What becomes of the pages in frames.
         ensures uses { OnOk result (Uses (paging_of self.old) (paging_of self.new) page false) }
         ensures stops { OnErr result (Stops (paging_of self.old) (paging_of self.new)) }
-        ensures sure { Contains (resident_of (paging_of self.old)) page → IsOk result }
+        ensures succeeds { Contains (resident_of (paging_of self.old)) page → IsOk result }
 
         // Swap errors, and the calls of the device.
         ensures cause { TellsFaults (D.faults swap.old) (D.faults swap.new) result }
@@ -165,18 +165,18 @@ impl Pager {
         page: u32,
     ) -> Result<u32, SwapFault>
         requires paged { IsPaged (paging_of self.old) (D.stored swap.old) }
-        requires inside { page < length self.old.places.places }
+        requires in_range { page < length self.old.places.places }
         requires absent { (frame : ℕ) → place_at self.old.places page ≢ PagePlace.InFrame frame }
-        requires buffer { length buffer.old ≡ 256 }
+        requires size { length buffer.old ≡ 256 }
 
         // The page is in a frame, and the words are unchanged.
-        ensures kept { Keeps (paging_of self.old) (D.stored swap.old) (paging_of self.new) (D.stored swap.new) }
-        ensures there { IfOk result (λ frame. place_at self.new.places page ≡ PagePlace.InFrame frame) }
+        ensures stays_held { Keeps (paging_of self.old) (D.stored swap.old) (paging_of self.new) (D.stored swap.new) }
+        ensures placed { IfOk result (λ frame. place_at self.new.places page ≡ PagePlace.InFrame frame) }
 
         // What becomes of the pages in frames.
         ensures uses { OnOk result (Uses (paging_of self.old) (paging_of self.new) page false) }
         ensures stops { OnErr result (Stops (paging_of self.old) (paging_of self.new)) }
-        ensures sure { Contains (resident_of (paging_of self.old)) page → IsOk result }
+        ensures succeeds { Contains (resident_of (paging_of self.old)) page → IsOk result }
 
         // Swap errors, and the calls of the device.
         ensures cause { TellsFaults (D.faults swap.old) (D.faults swap.new) result }

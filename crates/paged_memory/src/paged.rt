@@ -43,8 +43,8 @@ impl<D: Swap> PagedMemory<D> {
     /// of at most 6. If memory runs out the device is returned unchanged. No other call takes memory.
     pub fn open(alloc: Global, space: &Space, mut swap: D) -> Result<PagedMemory<D>, Refused<D>>
         requires regions { space.now.regions ≤ 1024 }
-        requires frames { 32 ≤ space.now.frames }
-        requires most { space.now.frames ≤ 4096 }
+        requires at_least { 32 ≤ space.now.frames }
+        requires at_most { space.now.frames ≤ 4096 }
         requires levels { space.now.levels ≤ 6 }
 
         // A memory of empty pages, none of which is in a frame.
@@ -53,9 +53,9 @@ impl<D: Swap> PagedMemory<D> {
         ensures frames { IfOk result (λ m. frames_of m.0.pool ≡ space.now.frames) }
 
         // The device, prepared or returned.
-        ensures prepared { IfOk result (λ m. D.stored m.1 ≡ replicate (4096 * space.now.regions) null_word) }
-        ensures faults { IfOk result (λ m. D.faults m.1 ≡ D.faults swap) }
-        ensures back { IfErr result (λ refused. refused.back ≡ swap) }
+        ensures ok { IfOk result (λ m. D.stored m.1 ≡ replicate (4096 * space.now.regions) null_word) }
+        ensures no_fault { IfOk result (λ m. D.faults m.1 ≡ D.faults swap) }
+        ensures err { IfErr result (λ refused. refused.back ≡ swap) }
     {
         let Ok(pager) = Pager::new(alloc, space) else {
             return Err(Refused { back: swap });
@@ -93,8 +93,8 @@ impl<D: Swap> PagedMemory<D> {
     /// How many frames there are. No page is in two of them.
     pub fn frames(&self) -> u32
         ensures frames { result ≡ frames_of self.now.0.pool }
-        ensures few { length (resident_of self.now.0) ≤ result }
-        ensures once { IsDistinct eqb (resident_of self.now.0) }
+        ensures at_most { length (resident_of self.now.0) ≤ result }
+        ensures sound { IsDistinct eqb (resident_of self.now.0) }
     {
         self.frames
     }
@@ -128,8 +128,8 @@ impl<D: Swap> PagedMemory<D> {
 
     /// The levels, 1 or more, of the addresses on a page that is on the device, as its row has them.
     pub fn row(&self, page: u32) -> Levels
-        requires inside { page < length self.now.0.places.places }
-        requires swapped { place_at self.now.0.places page ≡ PagePlace.Swapped }
+        requires in_range { page < length self.now.0.places.places }
+        requires absent { place_at self.now.0.places page ≡ PagePlace.Swapped }
         ensures { result.0 ≡ marks_of self.now.0 page }
     {
         self.pager.rows.levels(page)

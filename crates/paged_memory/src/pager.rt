@@ -24,13 +24,13 @@ impl Pager {
     /// All frames are free, all pages are empty, and every region has level 0.
     pub(crate) fn new(alloc: Global, space: &Space) -> Result<Pager, NoMemory>
         requires regions { space.now.regions ≤ 1024 }
-        requires frames { space.now.frames ≤ 4096 }
-        ensures pool { IfOk result (λ p. p.pool ≡ fresh_pool space.now.frames) }
+        requires at_most { space.now.frames ≤ 4096 }
+        ensures frames { IfOk result (λ p. p.pool ≡ fresh_pool space.now.frames) }
         ensures sound { IfOk result (λ p. IsPool p.pool) }
         ensures places { IfOk result (λ p. p.places ≡ fresh_map (space.now.regions * 16)) }
-        ensures rows { IfOk result (λ p. p.rows.sets ≡ replicate (space.now.regions * 16) no_levels) }
+        ensures sets { IfOk result (λ p. p.rows.sets ≡ replicate (space.now.regions * 16) no_levels) }
         ensures levels { IfOk result (λ p. p.levels.items ≡ replicate space.now.regions 0) }
-        ensures top { IfOk result (λ p. p.top ≡ space.now.levels) }
+        ensures level { IfOk result (λ p. p.top ≡ space.now.levels) }
     {
         let pages = space.regions * 16;
         let pool = FramePool::new(alloc, space.frames)?;

@@ -18,9 +18,9 @@ impl Pager {
     // Uses a resident page: it is the most recently used. Returns its frame.
     fn use_resident(&mut self, page: u32) -> u32
         requires paged { (stored : List Parts) × IsPaged (paging_of self.old) stored }
-        requires there { Contains (resident_of (paging_of self.old)) page }
+        requires held { Contains (resident_of (paging_of self.old)) page }
         ensures frame { place_at self.old.places page ≡ PagePlace.InFrame result }
-        ensures touched { paging_of self.new ≡ record (paging_of self.old) { pool = with_latest self.old.pool result } }
+        ensures after { paging_of self.new ≡ record (paging_of self.old) { pool = with_latest self.old.pool result } }
         ensures sound { IsPool self.new.pool }
     {
         let PagePlace::InFrame(frame) = self.places.place_of(page) else {
@@ -34,9 +34,9 @@ impl Pager {
     // if it has none.
     fn tag_span(&mut self, frame: u32, offset: u32, count: u32)
         requires frame { frame < frames_of self.old.pool }
-        requires inside { offset + count ≤ 256 }
-        ensures tagged { (tag : Bool) × TagsSpan self.old.pool self.new.pool self.old.levels.items frame offset count tag }
-        ensures rest { paging_of self.new ≡ record (paging_of self.old) { pool = self.new.pool } }
+        requires in_range { offset + count ≤ 256 }
+        ensures marks { (tag : Bool) × TagsSpan self.old.pool self.new.pool self.old.levels.items frame offset count tag }
+        ensures unchanged { paging_of self.new ≡ record (paging_of self.old) { pool = self.new.pool } }
         ensures sound { IsPool self.new.pool }
     {
         let words = self.pool.words(frame);
@@ -48,11 +48,11 @@ impl Pager {
     /// Copies `count` words of a resident page to a resident page.
     pub(crate) fn copy_span(&mut self, from: u32, to: u32, count: u32)
         requires paged { (stored : List Parts) × IsPaged (paging_of self.old) stored }
-        requires some { 0 < count }
+        requires at_least { 0 < count }
         requires from_page { from % 256 + count ≤ 256 }
         requires to_page { to % 256 + count ≤ 256 }
-        requires from_there { Contains (resident_of (paging_of self.old)) (from / 256) }
-        requires to_there { Contains (resident_of (paging_of self.old)) (to / 256) }
+        requires from_held { Contains (resident_of (paging_of self.old)) (from / 256) }
+        requires to_held { Contains (resident_of (paging_of self.old)) (to / 256) }
         ensures { (stored : List Parts) → IsPaged (paging_of self.old) stored
             → Lays (paging_of self.old) stored (paging_of self.new) to count (λ i. slice_index_or (words_of (paging_of self.old) stored) (from + i) null_word)
             (latest (to / 256) (latest (from / 256) (resident_of (paging_of self.old)))) }
@@ -67,9 +67,9 @@ impl Pager {
     /// Writes one word to `count` addresses of a resident page.
     pub(crate) fn fill_span(&mut self, at: u32, count: u32, word: Word)
         requires paged { (stored : List Parts) × IsPaged (paging_of self.old) stored }
-        requires some { 0 < count }
+        requires at_least { 0 < count }
         requires page { at % 256 + count ≤ 256 }
-        requires there { Contains (resident_of (paging_of self.old)) (at / 256) }
+        requires held { Contains (resident_of (paging_of self.old)) (at / 256) }
         ensures { (stored : List Parts) → IsPaged (paging_of self.old) stored
             → Lays (paging_of self.old) stored (paging_of self.new) at count (λ _. word) (latest (at / 256) (resident_of (paging_of self.old))) }
     {

@@ -66,8 +66,8 @@ pub(crate) fn join(
     page: u32,
     right: Option<u32>,
 ) -> Option<u32>
-    ensures joined { branches.new ≡ slice_set branches.old page (joined sets.now branches.old left page right) }
-    ensures root { result ≡ Some page }
+    ensures after { branches.new ≡ slice_set branches.old page (joined sets.now branches.old left page right) }
+    ensures value { result ≡ Some page }
 {
     let lower = branch_at(branches, left);
     let upper = branch_at(branches, right);

@@ -31,7 +31,7 @@ fn remove_row(
     page: u32,
 ) -> Option<u32>
     requires { page < length sets.old }
-    ensures tree { (t : Tree) → HasTree sets.old branches.old root t → HasTree sets.new branches.new result (without_row sets.old page t) }
+    ensures sound { (t : Tree) → HasTree sets.old branches.old root t → HasTree sets.new branches.new result (without_row sets.old page t) }
     ensures sets { sets.new ≡ slice_set sets.old page no_levels }
 {
     if !has_row(sets, page) {
@@ -52,8 +52,8 @@ fn insert_row(
     levels: Levels,
 ) -> Option<u32>
     requires page { page < length sets.old }
-    requires rowless { set_at sets.old page ≡ 0 }
-    ensures tree { (t : Tree) → HasTree sets.old branches.old root t → HasRows sets.new branches.new result }
+    requires absent { set_at sets.old page ≡ 0 }
+    ensures sound { (t : Tree) → HasTree sets.old branches.old root t → HasRows sets.new branches.new result }
     ensures sets { sets.new ≡ slice_set sets.old page levels }
 {
     sets[page as usize] = levels;
@@ -90,7 +90,7 @@ impl RefTable {
     pub fn new(alloc: Global, pages: u32) -> Result<RefTable, NoMemory>
         requires { pages ≤ 16384 }
         ensures sets { IfOk result (λ t. t.sets ≡ replicate pages no_levels) }
-        ensures indexed { IfOk result (λ t. IsIndexed t) }
+        ensures sound { IfOk result (λ t. IsIndexed t) }
     {
         let sets = vec![in alloc; Levels::empty(); pages as usize]?;
         let branches = vec![in alloc; Branch::none(); pages as usize]?;
@@ -106,7 +106,7 @@ impl RefTable {
     pub fn note(&mut self, page: u32, levels: Levels)
         requires { page < length self.old.sets }
         ensures sets { self.new.sets ≡ slice_set self.old.sets page levels }
-        ensures indexed { IsIndexed self.new }
+        ensures sound { IsIndexed self.new }
     {
         self.forget(page);
         self.root = insert_row(&mut self.sets, &mut self.branches, self.root, page, levels);
@@ -117,7 +117,7 @@ impl RefTable {
     pub fn forget(&mut self, page: u32)
         requires { page < length self.old.sets }
         ensures sets { self.new.sets ≡ slice_set self.old.sets page no_levels }
-        ensures indexed { IsIndexed self.new }
+        ensures sound { IsIndexed self.new }
     {
         self.count -= u32::from(has_row(&self.sets, page));
         self.root = remove_row(&mut self.sets, &mut self.branches, self.root, page);
@@ -150,8 +150,8 @@ impl RefTable {
 
     /// The page of the root of the search tree; None if and only if the table has no row.
     pub fn root(&self) -> Option<u32>
-        ensures root { result ≡ self.now.root }
-        ensures indexed { IsIndexed self.now }
+        ensures value { result ≡ self.now.root }
+        ensures sound { IsIndexed self.now }
     {
         self.root
     }
@@ -159,9 +159,9 @@ impl RefTable {
     /// The node of a page; None if and only if the page has no row.
     pub fn node(&self, page: u32) -> Option<RefNode>
         requires { page < length self.now.sets }
-        ensures node { result ≡ node_at self.now page }
+        ensures value { result ≡ node_at self.now page }
         ensures none { IsNone result ↔ (set_at self.now.sets page ≡ 0) }
-        ensures indexed { IsIndexed self.now }
+        ensures sound { IsIndexed self.now }
     {
         if !has_row(&self.sets, page) {
             return None;

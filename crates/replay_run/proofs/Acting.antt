@@ -15,8 +15,8 @@ use Rattle.paged_machine.specs.lisp_meaning.Sound.{IsOwing, IsSound}
 use Rattle.trace_text.specs.Replies.{reply_text}
 use Rattle.input_verdict.specs.dump_laws.Written.{dumped}
 use Rattle.paged_machine.specs.Asks.{IsOf}
-use Rattle.replay_run.specs.declared.halt.Halt.{Halt}
-use Rattle.replay_run.specs.declared.halt.Halt.TheVariants.{Write}
+use Rattle.replay_run.specs.declared.halt.LoopExit.{LoopExit}
+use Rattle.replay_run.specs.declared.halt.LoopExit.TheVariants.{Write}
 use Rattle.replay_run.specs.Replies.{answer_text, is_fault}
 use Rattle.replay_run.specs.Steps.{IsReached, Served}
 
@@ -58,7 +58,7 @@ dump_faults s h = (
 
 -- Answers
 
-module _ (world : World) {stood stands : State → Type 0} {faults faults' : ℕ} {held held' : List ℕ → Type 0} {had pending : List ℕ} {result : Result (Unit {0}) Halt} (write : IfErr result (λ halt. halt ≡ Write)) where
+module _ (world : World) {stood stands : State → Type 0} {faults faults' : ℕ} {held held' : List ℕ → Type 0} {had pending : List ℕ} {result : Result (Unit {0}) LoopExit} (write : IfErr result (λ halt. halt ≡ Write)) where
   pub served_reply : (command : Command) (reply : Reply) → ((old : State) → stood old → IsReached world old → ((new : State) × Does old command (Replied reply) new × stands new)) → (reply ≡ R.Fault → faults < faults') → (reply ≢ R.Fault → faults' ≡ faults)
       → Gathers held held' had pending (reply_text reply world.areas) result → Served world command stood stands faults faults' held held' had pending result
   served_reply command reply does cause same gathers = λ old is reached.

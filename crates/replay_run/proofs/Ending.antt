@@ -9,11 +9,11 @@ use Rattle.outer_ports.proofs.Gains.{gained_more, gained_nothing}
 use Rattle.lisp_graph.specs.declared.command.Command.{Command}
 use Rattle.lisp_graph.specs.declared.world.World.{World}
 use Rattle.paged_machine.specs.lisp_meaning.State.{State}
-use Rattle.line_input.specs.declared.lines.found.Found.{Found}
+use Rattle.line_input.specs.declared.lines.found.LineSpan.{LineSpan}
 use Rattle.line_input.specs.declared.statuses.status.Status.{Status}
 use Rattle.line_input.specs.declared.statuses.status.Status.TheVariants as status
-use Rattle.line_input.specs.declared.statuses.status.Stop.{Stop}
-use Rattle.line_input.specs.declared.statuses.status.Stop.TheVariants.{Write, Tell}
+use Rattle.line_input.specs.declared.statuses.status.RunStop.{RunStop}
+use Rattle.line_input.specs.declared.statuses.status.RunStop.TheVariants.{Write, Tell}
 use Rattle.line_input.specs.declared.statuses.status.RunError.{RunError}
 use Rattle.line_input.specs.declared.statuses.status.RunError.TheVariants as trouble
 use Rattle.line_input.specs.Limits.{enough_bytes}
@@ -27,8 +27,8 @@ use Rattle.input_verdict.specs.Verdict.{Read, Whole, Broken, enough, judged, jud
 use Rattle.input_verdict.proofs.Judged.{judged_keeps, judged_world}
 use Rattle.replay_run.specs.Replies.{Answered}
 use Rattle.replay_run.specs.Outcome.{BeforeDump, Demands, HasNoWorld, HasNoWorldYet, IsAhead, IsUndecided, IsUntouched, CutReply, Observed}
-use Rattle.replay_run.specs.declared.halt.Halt.{Halt}
-use Rattle.replay_run.specs.declared.halt.Halt.TheVariants as halts
+use Rattle.replay_run.specs.declared.halt.LoopExit.{LoopExit}
+use Rattle.replay_run.specs.declared.halt.LoopExit.TheVariants as halts
 use Rattle.replay_run.specs.Steps.{Fetched, Stopped, Tells, closed, stop_of}
 use Rattle.replay_run.proofs.Observations.{HasStopped, observes}
 use Rattle.replay_run.proofs.Openable.{sound_at}
@@ -79,7 +79,7 @@ module _ {left left' : Option (List ℕ)} {last : ℕ} {held held' : List ℕ �
   ahead_here n above within = ahead input going.b last going.read (lines_of (reader.bytes ++ rest_of left')) going.base going.m verdict_here going.behind reached_here going.near going.feedless n above (omega (arith, going.counts))
 
   -- the run stops here, with what was written and what is pending
-  pub ran_with : {held'' : List ℕ → Type 0} {stands' : State → Type 0} {loaded : Bool} {source_rose : Type 0} {rose : ℕ} (w pending' : List ℕ) (result : Result (Unit {0}) Stop) → Gained held held'' w → Stopped result (observes input going.b last w stands' loaded source_rose rose) pending'
+  pub ran_with : {held'' : List ℕ → Type 0} {stands' : State → Type 0} {loaded : Bool} {source_rose : Type 0} {rose : ℕ} (w pending' : List ℕ) (result : Result (Unit {0}) RunStop) → Gained held held'' w → Stopped result (observes input going.b last w stands' loaded source_rose rose) pending'
       → HasStopped left left' last held held'' stands' loaded source_rose rose pending' result
   unfolding input
   ran_with w pending' result gained stopped = (
@@ -176,7 +176,7 @@ module _ {left left' : Option (List ℕ)} {last : ℕ} {held held' : List ℕ �
   ran_fault many of part on = ran_demanded trouble.Read (whole_here many part on, undecided many of part, refl)
 
   -- if a line has trouble
-  pub ran_refused : {loaded : Bool} {source_rose : Type 0} (many : ℕ) (found : Found) (t : RunError) → many ≡ enough place → IsFound reader many found → IsOfLine t → judged_as place (take found.length reader.bytes) found.size ≡ Err t
+  pub ran_refused : {loaded : Bool} {source_rose : Type 0} (many : ℕ) (found : LineSpan) (t : RunError) → many ≡ enough place → IsFound reader many found → IsOfLine t → judged_as place (take found.length reader.bytes) found.size ≡ Err t
       → (status_of t ≢ status.Refused → world_of place ≡ None) → HasStopped left left' last held held' stands loaded source_rose (now - before) pending (Err (Tell t))
   ran_refused many found t is next of refused alone =
       let j = judges_next place reader many found (rest_of left') form.counts.within is none_left next in
@@ -206,14 +206,14 @@ module _ {left left' : Option (List ℕ)} {last : ℕ} {held held' : List ℕ �
       ran_with going.w pending (Err Write) going.gained (subst (λ w. CutReply (observes input going.b last w stands loaded source_rose (now - before))) (append-nil going.w) (cut_here [] pending refl some))
 
   -- if no line was found
-  pub ran_fetch : {loaded : Bool} {source_rose : Type 0} (many : ℕ) (halt : Halt) → many ≡ enough place → Fetched reader many pending (Err halt) → HasStopped left left' last held held' stands loaded source_rose (now - before) pending (Err (stop_of halt))
+  pub ran_fetch : {loaded : Bool} {source_rose : Type 0} (many : ℕ) (halt : LoopExit) → many ≡ enough place → Fetched reader many pending (Err halt) → HasStopped left left' last held held' stands loaded source_rose (now - before) pending (Err (stop_of halt))
   ran_fetch many halts.Write is f = ran_write f
   ran_fetch many halts.Read is f = ran_fault many is f.0 f.1
   ran_fetch many halts.Memory is f = absurd f
   ran_fetch many halts.Swap is f = absurd f
 
   -- if a line was refused
-  pub ran_judge : {loaded : Bool} {source_rose : Type 0} (many : ℕ) (found : Found) (t : RunError) (new : JudgedInput) → many ≡ enough place → IsFound reader many found
+  pub ran_judge : {loaded : Bool} {source_rose : Type 0} (many : ℕ) (found : LineSpan) (t : RunError) (new : JudgedInput) → many ≡ enough place → IsFound reader many found
       → Judged place new (Err t) (judged_as place (take found.length reader.bytes) found.size) → (status_of t ≢ status.Refused → world_of place ≡ None) → (world_of place ≡ None → loaded ≡ false)
       → HasStopped left left' last held held' stands loaded source_rose (now - before) pending (Err (Tell t))
   ran_judge many found trouble.Memory new is next judged early unloaded =

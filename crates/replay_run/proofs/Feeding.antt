@@ -13,13 +13,13 @@ use Rattle.paged_machine.specs.lisp_meaning.State.{State}
 use Rattle.paged_machine.specs.lisp_meaning.Opening.{opening}
 use Rattle.paged_machine.specs.lisp_meaning.Run.{Run}
 use Rattle.paged_machine.specs.Holding.{Holding, StandsFor, Takes}
-use Rattle.line_input.specs.declared.lines.found.Found.{Found}
+use Rattle.line_input.specs.declared.lines.found.LineSpan.{LineSpan}
 use Rattle.line_input.specs.declared.statuses.status.Status.{Status}
 use Rattle.line_input.specs.declared.statuses.status.Status.TheVariants.{Done}
 use Rattle.line_input.specs.declared.statuses.status.RunError.{RunError}
 use Rattle.line_input.specs.declared.statuses.status.RunError.TheVariants as trouble
-use Rattle.line_input.specs.declared.statuses.status.Stop.{Stop}
-use Rattle.line_input.specs.declared.statuses.status.Stop.TheVariants.{Write, Tell}
+use Rattle.line_input.specs.declared.statuses.status.RunStop.{RunStop}
+use Rattle.line_input.specs.declared.statuses.status.RunStop.TheVariants.{Write, Tell}
 use Rattle.line_input.specs.Limits.{enough_bytes}
 use Rattle.line_input.specs.Lines.{Line, lines_of, size_of, whole_lines}
 use Rattle.line_input.specs.Reader.{Buffered, IsFound, no_feed, without_latest}
@@ -33,8 +33,8 @@ use Rattle.input_verdict.specs.Events.{Event, Nothing, Opens, Does}
 use Rattle.input_verdict.specs.Places.{IsPlace, Judged}
 use Rattle.input_verdict.specs.Verdict.{Next, Read, Said, Stopped, Whole, Broken, decided, ending_at, enough, ended, judged, judged_as, noted, start, world_of}
 use Rattle.input_verdict.proofs.Judged.{AreInLimits, judged_keeps}
-use Rattle.replay_run.specs.declared.halt.Halt.{Halt}
-use Rattle.replay_run.specs.declared.halt.Halt.TheVariants as halts
+use Rattle.replay_run.specs.declared.halt.LoopExit.{LoopExit}
+use Rattle.replay_run.specs.declared.halt.LoopExit.TheVariants as halts
 use Rattle.replay_run.specs.Replies.{Answered, is_fault}
 use Rattle.replay_run.specs.Outcome.{Wrote}
 use Rattle.replay_run.specs.Session.{GoesOn, Seen, fed_of, observed, trouble_of}
@@ -181,13 +181,13 @@ acted_after old new written had pending world stood stands faults faults' (Does 
 )
 
 -- if the sink had no room for a dump, the dump found no memory
-abbrev told : Halt → Halt
+abbrev told : LoopExit → LoopExit
 told halts.Write = halts.Memory
 told halts.Read = halts.Read
 told halts.Memory = halts.Memory
 told halts.Swap = halts.Swap
 
-told_trouble : (halt : Halt) → stop_of (told halt) ≡ Tell (trouble_of (stop_of halt))
+told_trouble : (halt : LoopExit) → stop_of (told halt) ≡ Tell (trouble_of (stop_of halt))
 told_trouble halts.Write = refl
 told_trouble halts.Read = refl
 told_trouble halts.Memory = refl
@@ -196,7 +196,7 @@ told_trouble halts.Swap = refl
 gathered_nothing : {held : List ℕ → Type 0} → Gathered held held [] []
 gathered_nothing = record { given = []; all = refl; gained = gained_nothing }
 
-acted_told : (held held' still : List ℕ → Type 0) (had pending : List ℕ) (world : World) (stood stands : State → Type 0) (faults faults' : ℕ) (halt : Halt) (event : Event)
+acted_told : (held held' still : List ℕ → Type 0) (had pending : List ℕ) (world : World) (stood stands : State → Type 0) (faults faults' : ℕ) (halt : LoopExit) (event : Event)
     → (halt ≡ halts.Write → (command : Command) × (event ≡ Does command) × FailsInDump command stood stands faults faults')
     → Acted event world stood stands faults faults' held held' had pending (Err halt) → Acted event world stood stands faults faults' still still [] [] (Err (told halt))
 acted_told held held' still had pending world stood stands faults faults' halt Nothing fails acted = absurd acted
@@ -298,16 +298,16 @@ goes_on_of fed written new pending place machine s place_is machine_is going for
     }
 
 -- a run that stopped, with the line that it reports
-wrote_of : {fed written : List ℕ} {stands : State → Type 0} {loaded : Bool} {faults : ℕ} (outcome : Result (Unit {0}) Stop) (status : Status) (line : List ℕ) → (outcome ≢ Err (Tell trouble.Read)) → (outcome ≡ Err (Tell trouble.Swap) → 0 < faults)
+wrote_of : {fed written : List ℕ} {stands : State → Type 0} {loaded : Bool} {faults : ℕ} (outcome : Result (Unit {0}) RunStop) (status : Status) (line : List ℕ) → (outcome ≢ Err (Tell trouble.Read)) → (outcome ≡ Err (Tell trouble.Swap) → 0 < faults)
     → HasStopped (Some fed) (Some []) (length fed) (λ had. [] ≡ had) (λ had. written ≡ had) stands loaded ⊥ (faults - 0) [] outcome → Finished (λ had. written ≡ had) (λ had. written ++ line ≡ had) [] outcome status
     → Wrote status (observes fed fed (length fed) (written ++ line) stands loaded ⊥ faults)
 wrote_of {fed} {written} {stands} {loaded} {faults} outcome status line read swap r finished = at_is
   where
-    no_read : (o : Result (Unit {0}) Stop) → o ≢ Err (Tell trouble.Read) → IfErr o (λ stop. stop ≡ Tell trouble.Read → ⊥)
+    no_read : (o : Result (Unit {0}) RunStop) → o ≢ Err (Tell trouble.Read) → IfErr o (λ stop. stop ≡ Tell trouble.Read → ⊥)
     no_read (Ok x) other = tt
     no_read (Err stop) other = λ is. other (ap Err is)
 
-    rose : (o : Result (Unit {0}) Stop) → (o ≡ Err (Tell trouble.Swap) → 0 < faults) → IfErr o (λ stop. stop ≡ Tell trouble.Swap → 0 < faults)
+    rose : (o : Result (Unit {0}) RunStop) → (o ≡ Err (Tell trouble.Swap) → 0 < faults) → IfErr o (λ stop. stop ≡ Tell trouble.Swap → 0 < faults)
     rose (Ok x) other = tt
     rose (Err stop) other = λ is. other (ap Err is)
 
@@ -328,11 +328,11 @@ wrote_of {fed} {written} {stands} {loaded} {faults} outcome status line read swa
         (subst (λ i. Wrote status (observes i fed (length fed) (written ++ line) stands loaded ⊥ (faults - 0))) (sym i_is) (subst (λ b. Wrote status (observes ran.0 b (length fed) (written ++ line) stands loaded ⊥ (faults - 0))) (sym b_is)
         (subst (λ w. Wrote status (observes ran.0 ran.1 (length fed) w stands loaded ⊥ (faults - 0))) (sym w_is) ran.3.wrote)))
 
-trouble_swap : (stop : Stop) → trouble_of stop ≡ trouble.Swap → stop ≡ Tell trouble.Swap
+trouble_swap : (stop : RunStop) → trouble_of stop ≡ trouble.Swap → stop ≡ Tell trouble.Swap
 trouble_swap (Tell t) is = ap Tell is
 trouble_swap Write is = absurd (cc (is))
 
-trouble_read : (stop : Stop) → trouble_of stop ≡ trouble.Read → stop ≡ Tell trouble.Read
+trouble_read : (stop : RunStop) → trouble_of stop ≡ trouble.Read → stop ≡ Tell trouble.Read
 trouble_read (Tell t) is = ap Tell is
 trouble_read Write is = absurd (cc (is))
 
@@ -346,7 +346,7 @@ module _ {fed written : List ℕ} {s : Seen} (g : GoesOn fed written s) (text : 
   abbrev held : Buffered
   held = record { bytes = fed_of text; ended = false }
 
-  abbrev found : Found
+  abbrev found : LineSpan
   found = record { length = length (take 32769 text); size = length (fed_of text) }
 
   here : Going (Some (fed ++ fed_of text)) (Some []) (length (fed ++ fed_of text)) (λ had. [] ≡ had) (λ had. written ≡ had) (StandsFor s.machine.heap) (Takes s.machine.heap) (s.machine.idle ≡ true) 0 s.machine.faults s.place held []
@@ -375,7 +375,7 @@ module _ {fed written : List ℕ} {s : Seen} (g : GoesOn fed written s) (text : 
       (going_act here g.form (λ is. absurd (never is)) found p next (judged_here ∙ d.accepted) (record { bytes = []; ended = false }) (sym (drop_all (length (fed_of text)) (fed_of text) (omega arith))) refl acted' d.takes_after) form
 
   -- a line was refused, and its trouble reported
-  pub line_refused : {same : Type 0} (stop : Stop) → stop ≢ Tell trouble.Read → (stop ≡ Tell trouble.Swap → 0 < s.machine.faults) → LineRefused s.place front size stop same → (s.machine.idle ≡ true → is_some s.machine.heap ≡ false)
+  pub line_refused : {same : Type 0} (stop : RunStop) → stop ≢ Tell trouble.Read → (stop ≡ Tell trouble.Swap → 0 < s.machine.faults) → LineRefused s.place front size stop same → (s.machine.idle ≡ true → is_some s.machine.heap ≡ false)
       → Wrote (status_of (trouble_of stop)) (observed (fed ++ fed_of text) (written ++ trouble_line (trouble_of stop)) s.machine)
   line_refused stop read swap r bare =
       let t = trouble_of stop in
@@ -386,7 +386,7 @@ module _ {fed written : List ℕ} {s : Seen} (g : GoesOn fed written s) (text : 
       (trouble_finished t)
 
   -- a line was accepted, and the run stops in what it requests
-  pub line_halted : (place : JudgedInput) (machine : Holding) (room : Type 0) (old new : List ℕ → Type 0) (had pending : List ℕ) (stop : Stop) → stop ≢ Tell trouble.Read → (stop ≡ Tell trouble.Swap → 0 < machine.faults) → room
+  pub line_halted : (place : JudgedInput) (machine : Holding) (room : Type 0) (old new : List ℕ → Type 0) (had pending : List ℕ) (stop : RunStop) → stop ≢ Tell trouble.Read → (stop ≡ Tell trouble.Swap → 0 < machine.faults) → room
       → LineHalted s.place place front size stop room (StandsFor s.machine.heap) (StandsFor machine.heap) (is_some machine.heap) s.machine.faults machine.faults old new had pending
       → Wrote (status_of (trouble_of stop)) (observed (fed ++ fed_of text) (written ++ trouble_line (trouble_of stop)) machine)
   line_halted place machine room old new had pending stop read swap has h =
@@ -401,7 +401,7 @@ module _ {fed written : List ℕ} {s : Seen} (g : GoesOn fed written s) (text : 
 
 -- The end of the input
 
-closed_tells : (place : JudgedInput) (stop : Stop) → closed (ending_at place) ≡ Err stop → (n : ℕ) × (reason : Reason) × (stop ≡ Tell (trouble.Line n reason))
+closed_tells : (place : JudgedInput) (stop : RunStop) → closed (ending_at place) ≡ Err stop → (n : ℕ) × (reason : Reason) × (stop ≡ Tell (trouble.Line n reason))
 closed_tells place stop is = go place.judge.ended is
   where
     go : (over : Bool) → closed (if over then Whole else Broken (trouble.Line (place.lines + 1) (early_reason place.lines NotAWorld))) ≡ Err stop → (n : ℕ) × (reason : Reason) × (stop ≡ Tell (trouble.Line n reason))
@@ -417,7 +417,7 @@ module _ {fed written : List ℕ} {s : Seen} (g : GoesOn fed written s) where
   end_whole is = wrote_of (Ok tt) Done [] (λ e. cc (e)) (λ e. absurd (cc (e))) (subst (λ o. HasStopped (Some fed) (Some []) (length fed) (λ had. [] ≡ had) (λ had. written ≡ had) (StandsFor s.machine.heap) (is_some s.machine.heap) ⊥ (s.machine.faults - 0) [] o) is ends_here)
       (inl (refl, record { each = λ had e. ap (λ h. h ++ []) e }))
 
-  pub end_early : (stop : Stop) → closed (ending_at s.place) ≡ Err stop → Wrote (status_of (trouble_of stop)) (observed fed (written ++ trouble_line (trouble_of stop)) s.machine)
+  pub end_early : (stop : RunStop) → closed (ending_at s.place) ≡ Err stop → Wrote (status_of (trouble_of stop)) (observed fed (written ++ trouble_line (trouble_of stop)) s.machine)
   end_early stop is =
       let told = closed_tells s.place stop is in
       let t = trouble.Line told.0 told.1 in

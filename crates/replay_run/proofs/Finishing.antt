@@ -8,8 +8,8 @@ use Rattle.outer_ports.proofs.Gains.{gained_more, gained_none, gained_nothing, g
 use Rattle.paged_machine.specs.lisp_meaning.State.{State}
 use Rattle.line_input.specs.declared.statuses.status.Status.{Status}
 use Rattle.line_input.specs.declared.statuses.status.Status.TheVariants.{Done, WriteFailed, Refused, ReadFailed, NoSpace, NoMemory, SwapFailed, Usage, NoObject}
-use Rattle.line_input.specs.declared.statuses.status.Stop.{Stop}
-use Rattle.line_input.specs.declared.statuses.status.Stop.TheVariants.{Write, Tell}
+use Rattle.line_input.specs.declared.statuses.status.RunStop.{RunStop}
+use Rattle.line_input.specs.declared.statuses.status.RunStop.TheVariants.{Write, Tell}
 use Rattle.line_input.specs.declared.statuses.status.RunError.{RunError}
 use Rattle.line_input.specs.declared.statuses.status.RunError.TheVariants as trouble
 use Rattle.line_input.specs.Reader.{no_feed, without_latest}
@@ -78,7 +78,7 @@ caused source_rose rose (trouble.TooSmall n) read swap = tt
 caused source_rose rose (trouble.Exhausted n area charged wanted quota) read swap = tt
 
 module _ {left left' : Option (List ℕ)} {last : ℕ} {held held' held'' : List ℕ → Type 0} {stands : State → Type 0} {loaded : Bool} {source_rose : Type 0} {rose : ℕ} {pending : List ℕ} where
-  ran_stop : (outcome : Result (Unit {0}) Stop) (status status' : Status) (line : List ℕ) (r : HasStopped left left' last held held' stands loaded source_rose rose pending outcome) → StopsAt status' line (observes r.0 r.1 last r.2 stands loaded source_rose rose) pending → IsCaused source_rose rose status'
+  ran_stop : (outcome : Result (Unit {0}) RunStop) (status status' : Status) (line : List ℕ) (r : HasStopped left left' last held held' stands loaded source_rose rose pending outcome) → StopsAt status' line (observes r.0 r.1 last r.2 stands loaded source_rose rose) pending → IsCaused source_rose rose status'
       → ((status ≡ status') × Gained held' held'' (pending ++ line)) ⊎ ((status ≡ WriteFailed) × ((front : List ℕ) × IsCut (pending ++ line) front × Gained held' held'' front)) → HasRun left left' last held held'' stands loaded source_rose rose status
   ran_stop outcome status status' line r s cause (inl f) = (
     r.0,
@@ -120,7 +120,7 @@ module _ {left left' : Option (List ℕ)} {last : ℕ} {held held' held'' : List
   )
 
 -- the last line was written, or the sink failed in it or before
-pub ran_finish : {left left' : Option (List ℕ)} {last : ℕ} {held held' held'' : List ℕ → Type 0} {stands : State → Type 0} {loaded : Bool} {source_rose : Type 0} {pending : List ℕ} (before now : ℕ) (outcome : Result (Unit {0}) Stop) (status : Status)
+pub ran_finish : {left left' : Option (List ℕ)} {last : ℕ} {held held' held'' : List ℕ → Type 0} {stands : State → Type 0} {loaded : Bool} {source_rose : Type 0} {pending : List ℕ} (before now : ℕ) (outcome : Result (Unit {0}) RunStop) (status : Status)
     → IfErr outcome (λ stop. stop ≡ Tell trouble.Read → source_rose) → IfErr outcome (λ stop. stop ≡ Tell trouble.Swap → before < now) → HasStopped left left' last held held' stands loaded source_rose (now - before) pending outcome → Finished held' held'' pending outcome status
     → HasRun left left' last held held'' stands loaded source_rose (now - before) status
 ran_finish before now (Ok x) status read swap r f = ran_stop (Ok x) status Done [] r r.3.stopped tt f
@@ -167,7 +167,7 @@ read_at (trouble.TooSmall n) is = absurd (cc (is))
 read_at (trouble.Exhausted n area charged wanted quota) is = absurd (cc (is))
 
 -- a run with the status of the source's failure stopped at that failure
-pub read_failed : (held held' : List ℕ → Type 0) (pending : List ℕ) (outcome : Result (Unit {0}) Stop) (result : Status) → Finished held held' pending outcome result → result ≡ ReadFailed → outcome ≡ Err (Tell trouble.Read)
+pub read_failed : (held held' : List ℕ → Type 0) (pending : List ℕ) (outcome : Result (Unit {0}) RunStop) (result : Status) → Finished held held' pending outcome result → result ≡ ReadFailed → outcome ≡ Err (Tell trouble.Read)
 read_failed held held' pending (Err Write) result finished is = let write = finished.0 in absurd (cc (write, is))
 read_failed held held' pending (Ok done) result finished is = elim finished [ inl x ↦ (let other = x.0 in absurd (cc (other, is))) | inr x ↦ (let other = x.0 in absurd (cc (other, is))) ]
 read_failed held held' pending (Err (Tell t)) result finished is = elim finished [ inl x ↦ ap (λ (t : RunError). Err (Tell t)) (read_at t (sym is ∙ x.0)) | inr x ↦ (let other = x.0 in absurd (cc (other, is))) ]

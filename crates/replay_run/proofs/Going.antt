@@ -9,7 +9,7 @@ use Rattle.outer_ports.proofs.Gains.{gained_more, gained_nothing}
 use Rattle.lisp_graph.specs.declared.command.Command.{Command}
 use Rattle.lisp_graph.specs.declared.world.World.{World}
 use Rattle.paged_machine.specs.lisp_meaning.State.{State}
-use Rattle.line_input.specs.declared.lines.found.Found.{Found}
+use Rattle.line_input.specs.declared.lines.found.LineSpan.{LineSpan}
 use Rattle.line_input.specs.declared.statuses.status.RunError.TheVariants.{Line as OfLine}
 use Rattle.line_input.specs.Lines.{Line, lines_of, size_of}
 use Rattle.line_input.specs.Reader.{Buffered, IsAllBuffered, IsFound, no_feed, without_latest}
@@ -185,13 +185,13 @@ ahead i b last read lines base m is behind reached near feedless n above within 
     (λ below. record { buffer = omega (arith, f below, near); lockstep = feedless_from base (get_or (read.starts ++ k.starts) n 0) (without_latest last b) (f below) feedless })
 
 -- the next line, as it is judged
-pub record Judges (place : JudgedInput) (reader : Buffered) (found : Found) (rest : List ℕ) : Type 0 where
+pub record Judges (place : JudgedInput) (reader : Buffered) (found : LineSpan) (rest : List ℕ) : Type 0 where
   pub line : Line
   pub lines : List Line
   pub is : lines_of (reader.bytes ++ rest) ≡ line ∷ lines
   pub same : judged_as place line.text (size_of line) ≡ judged_as place (take found.length reader.bytes) found.size
 
-judges_passes : (place : JudgedInput) (reader : Buffered) (found : Found) (rest : List ℕ) → (reader.ended ≡ true → rest ≡ []) → Passes reader found → Judges place reader found rest
+judges_passes : (place : JudgedInput) (reader : Buffered) (found : LineSpan) (rest : List ℕ) → (reader.ended ≡ true → rest ≡ []) → Passes reader found → Judges place reader found rest
 judges_passes place reader found rest none p = record {
   line = p.line;
   lines = lines_of (drop found.size reader.bytes ++ rest);
@@ -200,12 +200,12 @@ judges_passes place reader found rest none p = record {
 }
 
 -- the prefix of a line is refused as the whole line would be
-front_refused : (place : JudgedInput) (reader : Buffered) (found : Found) → place.bytes ≤ 2 ^ 40 → IsAllBuffered reader found → enough place ≤ length reader.bytes → judged_as place (take found.length reader.bytes) found.size ≡ Err (OfLine (place.lines + 1) (front_reason place))
+front_refused : (place : JudgedInput) (reader : Buffered) (found : LineSpan) → place.bytes ≤ 2 ^ 40 → IsAllBuffered reader found → enough place ≤ length reader.bytes → judged_as place (take found.length reader.bytes) found.size ≡ Err (OfLine (place.lines + 1) (front_reason place))
 front_refused place reader found within h many =
     let l : length (take found.length reader.bytes) ≡ length reader.bytes = ap length (take_all found.length reader.bytes (omega (arith, h.all))) in
     judged_front place (take found.length reader.bytes) found.size within (subst (λ k. enough place ≤ k) (sym l) many) (subst (λ k. enough place ≤ k) (sym h.size) many)
 
-pub judges_next : (place : JudgedInput) (reader : Buffered) (many : ℕ) (found : Found) (rest : List ℕ) → place.bytes ≤ 2 ^ 40 → many ≡ enough place → (reader.ended ≡ true → rest ≡ []) → IsFound reader many found → Judges place reader found rest
+pub judges_next : (place : JudgedInput) (reader : Buffered) (many : ℕ) (found : LineSpan) (rest : List ℕ) → place.bytes ≤ 2 ^ 40 → many ≡ enough place → (reader.ended ≡ true → rest ≡ []) → IsFound reader many found → Judges place reader found rest
 judges_next place reader many found rest within of none (inl h) = judges_passes place reader found rest none (passes_whole reader found h)
 judges_next place reader many found rest within of none (inr (inl h)) = judges_passes place reader found rest none (passes_last reader found h)
 judges_next place reader many found rest within of none (inr (inr (h, front))) =
@@ -219,7 +219,7 @@ judges_next place reader many found rest within of none (inr (inr (h, front))) =
     }
 
 -- an accepted line is passed as a whole
-pub passes_accepted : (reader : Buffered) (many : ℕ) (found : Found) (place : JudgedInput) (next : Next) → place.bytes ≤ 2 ^ 40 → many ≡ enough place → judged_as place (take found.length reader.bytes) found.size ≡ Ok next → IsFound reader many found → Passes reader found
+pub passes_accepted : (reader : Buffered) (many : ℕ) (found : LineSpan) (place : JudgedInput) (next : Next) → place.bytes ≤ 2 ^ 40 → many ≡ enough place → judged_as place (take found.length reader.bytes) found.size ≡ Ok next → IsFound reader many found → Passes reader found
 passes_accepted reader many found place next within of accepted (inl h) = passes_whole reader found h
 passes_accepted reader many found place next within of accepted (inr (inl h)) = passes_last reader found h
 passes_accepted reader many found place next within of accepted (inr (inr (h, front))) =

@@ -3,7 +3,7 @@ use Rattle.std.proofs.Common.{◌≡◌, ℕ, ◌+◌, List, [], ◌∷◌, true
 use Rattle.std.specs.Prelude.{replicate}
 use Rattle.lisp_graph.specs.declared.object.Value.TheVariants.{Nil}
 use Rattle.lisp_graph.specs.declared.world.World.{World}
-use Rattle.world_text.specs.declared.reading.reader.Part.TheVariants.{Closed}
+use Rattle.world_text.specs.declared.reading.reader.Section.TheVariants.{Closed}
 use Rattle.world_text.specs.Words.{is_well_formed, words_of}
 use Rattle.world_text.specs.Next.{next}
 use Rattle.world_text.specs.Header.{area_line, rule_in, space_in, space_line}

@@ -3,7 +3,7 @@ use Rattle.std.proofs.Common.{ℕ, List, Bool, Option, Result}
 use Rattle.paged_machine.specs.lisp_meaning.State.{State}
 use Rattle.line_input.specs.declared.statuses.status.Status.{Status}
 use Rattle.line_input.specs.declared.statuses.status.Status.TheVariants.{Done, WriteFailed, Refused, ReadFailed, NoSpace, NoMemory, SwapFailed, Usage, NoObject}
-use Rattle.line_input.specs.declared.statuses.status.Stop.{Stop}
+use Rattle.line_input.specs.declared.statuses.status.RunStop.{RunStop}
 use Rattle.input_verdict.specs.Verdict.{Read}
 use Rattle.replay_run.specs.Outcome.{Demands, EndsWith, Observed, Ran, Wrote}
 use Rattle.replay_run.specs.Steps.{RanTo}
@@ -12,7 +12,7 @@ abbrev pub observes : List ℕ → List ℕ → ℕ → List ℕ → (State → 
 observes i b last w stands loaded source_rose rose = record { input = i; taken = b; last = last; written = w; stands = stands; loaded = loaded; source_rose = source_rose; swap_rose = rose }
 
 -- some input was run up to a stop, or to its end
-abbrev pub HasStopped : Option (List ℕ) → Option (List ℕ) → ℕ → (List ℕ → Type 0) → (List ℕ → Type 0) → (State → Type 0) → Bool → Type 0 → ℕ → List ℕ → Result (Unit {0}) Stop → Type 0
+abbrev pub HasStopped : Option (List ℕ) → Option (List ℕ) → ℕ → (List ℕ → Type 0) → (List ℕ → Type 0) → (State → Type 0) → Bool → Type 0 → ℕ → List ℕ → Result (Unit {0}) RunStop → Type 0
 HasStopped left left' last held held' stands loaded source_rose rose pending result = (i b w : List ℕ) × RanTo left left' held held' (observes i b last w stands loaded source_rose rose) pending result
 
 abbrev pub HasRun : Option (List ℕ) → Option (List ℕ) → ℕ → (List ℕ → Type 0) → (List ℕ → Type 0) → (State → Type 0) → Bool → Type 0 → ℕ → Status → Type 0

@@ -6,8 +6,8 @@ use Rattle.outer_ports.proofs.Gains.{gained_more}
 use Rattle.lisp_graph.specs.declared.command.Command.{Command}
 use Rattle.lisp_graph.specs.declared.world.World.{World}
 use Rattle.paged_machine.specs.lisp_meaning.State.{State}
-use Rattle.line_input.specs.declared.lines.found.Found.{Found}
-use Rattle.line_input.specs.declared.statuses.status.Stop.TheVariants.{Write, Tell}
+use Rattle.line_input.specs.declared.lines.found.LineSpan.{LineSpan}
+use Rattle.line_input.specs.declared.statuses.status.RunStop.TheVariants.{Write, Tell}
 use Rattle.line_input.specs.declared.statuses.status.RunError.TheVariants.{Memory, Swap}
 use Rattle.line_input.specs.Lines.{Line, lines_of, size_of}
 use Rattle.line_input.specs.Reader.{Buffered}
@@ -18,8 +18,8 @@ use Rattle.input_verdict.specs.Places.{IsPlace}
 use Rattle.input_verdict.specs.Verdict.{Next, Read, judged, judged_as, verdict, start, noted, decided, ended, world_of}
 use Rattle.input_verdict.proofs.Accepted.{Goes, goes_on, next_bytes, passed}
 use Rattle.input_verdict.proofs.Judged.{judged_keeps, judged_world, noted_place}
-use Rattle.replay_run.specs.declared.halt.Halt.{Halt}
-use Rattle.replay_run.specs.declared.halt.Halt.TheVariants as halts
+use Rattle.replay_run.specs.declared.halt.LoopExit.{LoopExit}
+use Rattle.replay_run.specs.declared.halt.LoopExit.TheVariants as halts
 use Rattle.replay_run.specs.Replies.{answer_text}
 use Rattle.replay_run.specs.Outcome.{BeforeDump, HasNoWorld, HasObject}
 use Rattle.replay_run.specs.Steps.{Acted, Answers, HasNoRoom, TakesAfter, Tells, Told, stop_of}
@@ -33,7 +33,7 @@ use Rattle.replay_run.proofs.Events.{steps}
 use Rattle.replay_run.proofs.Ending.{ahead_here, input, input_is, none_left, ran_early, ran_none, ran_with, reached_here, unrisen, verdict_here}
 
 -- the place remains within the limit
-pub fits_accepted : (reader : Buffered) (found : Found) (place : JudgedInput) (next : Next) → judged_as place (take found.length reader.bytes) found.size ≡ Ok next → Passes reader found → place.bytes + found.size ≤ 2 ^ 40
+pub fits_accepted : (reader : Buffered) (found : LineSpan) (place : JudgedInput) (next : Next) → judged_as place (take found.length reader.bytes) found.size ≡ Ok next → Passes reader found → place.bytes + found.size ≤ 2 ^ 40
 fits_accepted reader found place next accepted p =
     let q = passed place (take found.length reader.bytes) found.size next accepted in
     omega (arith, q.within, q.short, p.close, ap length p.text)
@@ -44,7 +44,7 @@ some_of (item ∷ items) some = omega arith
 
 module _ {left left' : Option (List ℕ)} {last : ℕ} {held held' : List ℕ → Type 0} {stands : State → Type 0} {takes : Command → Type 0} {idle : Type 0} {before now : ℕ} {place : JudgedInput} {reader : Buffered} {pending : List ℕ}
     (going : Going left left' last held held' stands takes idle before now place reader pending) (form : IsPlace place) (end : reader.ended ≡ true → IsAtEnd left')
-    (found : Found) (p : Passes reader found) (next : Next) (accepted : judged_as place (take found.length reader.bytes) found.size ≡ Ok next) where
+    (found : LineSpan) (p : Passes reader found) (next : Next) (accepted : judged_as place (take found.length reader.bytes) found.size ≡ Ok next) where
   accepted_here : judged_as going.read.place p.line.text (size_of p.line) ≡ Ok next
   accepted_here = ap (judged_as going.read.place p.line.text) p.size ∙ ap (λ t. judged_as going.read.place t found.size) p.text ∙ ap (λ q. judged_as q (take found.length reader.bytes) found.size) going.at ∙ accepted
 
@@ -154,7 +154,7 @@ module _ {left left' : Option (List ℕ)} {last : ℕ} {held held' : List ℕ �
       } in
       ran_none going form end g tells rose before_dump
 
-  pub ran_stopped : {held'' : List ℕ → Type 0} {stands' : State → Type 0} {loaded : Bool} {source_rose : Type 0} (now' : ℕ) {pending' : List ℕ} (event : Event) (halt : Halt) → next.event ≡ event → (event ≡ Opens → loaded ≡ false) → Acted event next.place.judge.builder.world stands stands' now now' held' held'' pending pending' (Err halt)
+  pub ran_stopped : {held'' : List ℕ → Type 0} {stands' : State → Type 0} {loaded : Bool} {source_rose : Type 0} (now' : ℕ) {pending' : List ℕ} (event : Event) (halt : LoopExit) → next.event ≡ event → (event ≡ Opens → loaded ≡ false) → Acted event next.place.judge.builder.world stands stands' now now' held' held'' pending pending' (Err halt)
       → HasStopped left left' last held held'' stands' loaded source_rose (now' - before) pending' (Err (stop_of halt))
   ran_stopped now' Nothing halt is unloaded acted = absurd acted
   ran_stopped {held''} {stands'} {loaded} {source_rose} now' {pending'} Opens halt is unloaded acted =
@@ -186,7 +186,7 @@ module _ {left left' : Option (List ℕ)} {last : ℕ} {held held' : List ℕ �
   nothing_open i tells none = subst HasNoWorld (input_is going form end i tells) none
 
   -- if a run stops in what a line requests, its input has a world
-  pub stopped_opened : (held'' : List ℕ → Type 0) (stands' : State → Type 0) (now' : ℕ) (pending' : List ℕ) (event : Event) (halt : Halt) → next.event ≡ event
+  pub stopped_opened : (held'' : List ℕ → Type 0) (stands' : State → Type 0) (now' : ℕ) (pending' : List ℕ) (event : Event) (halt : LoopExit) → next.event ≡ event
       → Acted event next.place.judge.builder.world stands stands' now now' held' held'' pending pending' (Err halt) → (i : List ℕ) → left ≡ Some i → HasNoWorld i → ⊥
   stopped_opened held'' stands' now' pending' Nothing halt is acted i tells none = acted
   stopped_opened held'' stands' now' pending' Opens halt is acted i tells none =

@@ -3,18 +3,18 @@ use Rattle.std.proofs.Common.{inl, inr, ℕ, List, Option, Some, None, Bool}
 use Rattle.lisp_graph.specs.declared.command.Command.{Command}
 use Rattle.lisp_graph.specs.declared.world.World.{World}
 use Rattle.paged_machine.specs.lisp_meaning.State.{State}
-use Rattle.paged_machine.specs.lisp_heap.Contents.{Contents}
+use Rattle.paged_machine.specs.lisp_heap.HeapView.{HeapView}
 use Rattle.paged_machine.proofs.lisp_heap.Meaning.{means as means_of}
 use Rattle.line_input.specs.declared.statuses.status.Status.{Status}
 use Rattle.line_input.specs.declared.statuses.status.Status.TheVariants.{Done, WriteFailed, Refused, ReadFailed, NoSpace, NoMemory, SwapFailed, Usage, NoObject}
-use Rattle.paged_machine.specs.Holding.{MeansFor, StandsFor}
+use Rattle.paged_machine.specs.Holding.{HasReading, StandsFor}
 use Rattle.replay_run.specs.Replies.{Answered, Replies}
 use Rattle.replay_run.specs.Outcome.{CutLine, CutReply, EndsWith, Wrote}
 use Rattle.replay_run.specs.Exercise.{Exercised}
 use Rattle.replay_run.proofs.Observations.{HasRun, demands_as, observes}
 
 -- a heap that represents a state has its meaning
-pub means_for : (heap : Option Contents) (s : State) → StandsFor heap s → MeansFor heap s
+pub means_for : (heap : Option HeapView) (s : State) → StandsFor heap s → HasReading heap s
 means_for None s stands = stands
 means_for (Some heap) s stands = means_of heap s stands
 

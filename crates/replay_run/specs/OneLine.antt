@@ -4,15 +4,15 @@ use Rattle.lisp_graph.specs.declared.command.Command.{Command}
 use Rattle.paged_machine.specs.lisp_meaning.State.{State}
 use Rattle.line_input.specs.declared.statuses.status.Status.TheVariants.{Refused}
 use Rattle.line_input.specs.declared.statuses.status.RunError.{RunError}
-use Rattle.line_input.specs.declared.statuses.status.Stop.{Stop}
-use Rattle.line_input.specs.declared.statuses.status.Stop.TheVariants.{Tell}
+use Rattle.line_input.specs.declared.statuses.status.RunStop.{RunStop}
+use Rattle.line_input.specs.declared.statuses.status.RunStop.TheVariants.{Tell}
 use Rattle.line_input.specs.Statuses.{status_of}
 use Rattle.input_verdict.specs.Input.{JudgedInput}
 use Rattle.input_verdict.specs.Events.{Event, Nothing, Opens, Does}
 use Rattle.input_verdict.specs.Places.{Judged}
 use Rattle.input_verdict.specs.Verdict.{judged_as, world_of}
-use Rattle.replay_run.specs.declared.halt.Halt.{Halt}
-use Rattle.replay_run.specs.declared.halt.Halt.TheVariants as halts
+use Rattle.replay_run.specs.declared.halt.LoopExit.{LoopExit}
+use Rattle.replay_run.specs.declared.halt.LoopExit.TheVariants as halts
 use Rattle.replay_run.specs.Steps.{Acted, FailsInDump, TakesAfter, stop_of}
 
 -- A line was accepted, and what it requests was done.
@@ -25,7 +25,7 @@ pub record LineDone (place place' : JudgedInput) (text : List ℕ) (size : ℕ) 
   pub still : event ≡ Nothing → same
 
 -- A line was refused, or memory ran out while it was judged, and nothing else changed. A trouble whose status isn't `Refused` occurs only before the trace.
-pub record LineRefused (place : JudgedInput) (text : List ℕ) (size : ℕ) (stop : Stop) (same : Type 0) : Type 0 where
+pub record LineRefused (place : JudgedInput) (text : List ℕ) (size : ℕ) (stop : RunStop) (same : Type 0) : Type 0 where
   pub trouble : RunError
   pub stops : stop ≡ Tell trouble
   pub place' : JudgedInput
@@ -34,8 +34,8 @@ pub record LineRefused (place : JudgedInput) (text : List ℕ) (size : ℕ) (sto
   pub still : same
 
 -- A line was accepted, and the run halted in what it requests. If there was room, the sink can have failed only in a dump.
-pub record LineHalted (place place' : JudgedInput) (text : List ℕ) (size : ℕ) (stop : Stop) (room : Type 0) (stood stands : State → Type 0) (loaded : Bool) (faults faults' : ℕ) (held held' : List ℕ → Type 0) (had pending : List ℕ) : Type 0 where
-  pub halt : Halt
+pub record LineHalted (place place' : JudgedInput) (text : List ℕ) (size : ℕ) (stop : RunStop) (room : Type 0) (stood stands : State → Type 0) (loaded : Bool) (faults faults' : ℕ) (held held' : List ℕ → Type 0) (had pending : List ℕ) : Type 0 where
+  pub halt : LoopExit
   pub stops : stop ≡ stop_of halt
   pub event : Event
   pub accepted : judged_as place text size ≡ Ok (record { event = event; place = place' })

@@ -6,8 +6,8 @@ use Rattle.lisp_graph.specs.Commands.{IsRunnable}
 use Rattle.paged_machine.specs.Holding.{Holding, StandsFor, Takes}
 use Rattle.line_input.specs.declared.statuses.status.RunError.{RunError}
 use Rattle.line_input.specs.declared.statuses.status.RunError.TheVariants.{Memory}
-use Rattle.line_input.specs.declared.statuses.status.Stop.{Stop}
-use Rattle.line_input.specs.declared.statuses.status.Stop.TheVariants.{Tell, Write}
+use Rattle.line_input.specs.declared.statuses.status.RunStop.{RunStop}
+use Rattle.line_input.specs.declared.statuses.status.RunStop.TheVariants.{Tell, Write}
 use Rattle.line_input.specs.Lines.{lines_of, whole_lines}
 use Rattle.input_verdict.specs.Input.{JudgedInput}
 use Rattle.input_verdict.specs.Places.{IsPlace}
@@ -29,7 +29,7 @@ abbrev pub fed_of : List ℕ → List ℕ
 fed_of text = if nat_le (length text) 32768 then text ++ 10 ∷ [] else take 32769 text
 
 -- the trouble that a session reports when a run stops; if the sink fails, a dump had no room
-abbrev pub trouble_of : Stop → RunError
+abbrev pub trouble_of : RunStop → RunError
 trouble_of (Tell trouble) = trouble
 trouble_of Write = Memory
 

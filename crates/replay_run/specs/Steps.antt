@@ -10,19 +10,19 @@ use Rattle.paged_machine.specs.lisp_meaning.Step.{Answer}
 use Rattle.paged_machine.specs.lisp_meaning.Opening.{opening}
 use Rattle.paged_machine.specs.lisp_meaning.Sound.{IsSound}
 use Rattle.paged_machine.specs.lisp_meaning.Run.{Does as DoesIn, Run}
-use Rattle.line_input.specs.declared.lines.found.Found.{Found}
+use Rattle.line_input.specs.declared.lines.found.LineSpan.{LineSpan}
 use Rattle.line_input.specs.declared.statuses.status.Status.{Status}
 use Rattle.line_input.specs.declared.statuses.status.RunError.TheVariants as T
-use Rattle.line_input.specs.declared.statuses.status.Stop.{Stop}
-use Rattle.line_input.specs.declared.statuses.status.Stop.TheVariants.{Write, Tell}
+use Rattle.line_input.specs.declared.statuses.status.RunStop.{RunStop}
+use Rattle.line_input.specs.declared.statuses.status.RunStop.TheVariants.{Write, Tell}
 use Rattle.line_input.specs.Reader.{FitsIn, Buffered, IsNext, IsPart}
 use Rattle.line_input.specs.Statuses.{outcome_line, outcome_status}
 use Rattle.paged_machine.specs.Asks.{IsOf}
 use Rattle.input_verdict.specs.Events.{Event, Nothing, Opens, Does}
 use Rattle.lisp_graph.specs.Commands.{IsRunnable}
 use Rattle.input_verdict.specs.Verdict.{Ending, Whole, Broken, Read, world_of}
-use Rattle.replay_run.specs.declared.halt.Halt.{Halt}
-use Rattle.replay_run.specs.declared.halt.Halt.TheVariants as halts
+use Rattle.replay_run.specs.declared.halt.LoopExit.{LoopExit}
+use Rattle.replay_run.specs.declared.halt.LoopExit.TheVariants as halts
 use Rattle.replay_run.specs.Replies.{Answered, answer_text, is_fault, text_of}
 use Rattle.replay_run.specs.Outcome.{CutReply, Demands, IsAhead, IsUntouched, Observed}
 
@@ -58,12 +58,12 @@ pub record StopsAt (status : Status) (line : List ℕ) (o : Observed) (pending :
   pub cut : (front rest : List ℕ) → pending ≡ front ++ rest → 0 < length rest → CutReply (record o { written = o.written ++ front })
 
 -- how a run stopped: in a reply, or with a status that requires a line
-abbrev pub Stopped : Result (Unit {0}) Stop → Observed → List ℕ → Type 0
+abbrev pub Stopped : Result (Unit {0}) RunStop → Observed → List ℕ → Type 0
 Stopped (Err Write) o pending = CutReply o
 Stopped result o pending = StopsAt (outcome_status result) (outcome_line result) o pending
 
 -- a run that stopped, as its source and its sink report it
-pub record RanTo (left left' : Option (List ℕ)) (held held' : List ℕ → Type 0) (o : Observed) (pending : List ℕ) (result : Result (Unit {0}) Stop) : Type 0 where
+pub record RanTo (left left' : Option (List ℕ)) (held held' : List ℕ → Type 0) (o : Observed) (pending : List ℕ) (result : Result (Unit {0}) RunStop) : Type 0 where
   pub input : IfSome left (λ bytes. bytes ≡ o.input)
   pub gave : Gave left left' o.taken
   pub rest : o.input ≡ o.taken ++ unwrap_or left' []
@@ -71,7 +71,7 @@ pub record RanTo (left left' : Option (List ℕ)) (held held' : List ℕ → Typ
   pub stopped : Stopped result o pending
 
 -- how a run with this halt stops
-abbrev pub stop_of : Halt → Stop
+abbrev pub stop_of : LoopExit → RunStop
 stop_of halts.Write = Write
 stop_of halts.Read = Tell T.Read
 stop_of halts.Memory = Tell T.Memory
@@ -90,7 +90,7 @@ pub record IsIn (world : World) (stands : State → Type 0) : Type 0 where
   pub few : length world.areas ≤ 16
 
 -- The command was answered from this state: the machine represents the next state, the count of failed page calls rose if and only if the answer is `fault`, and the text was gathered after what was pending, or a prefix of it if the sink failed.
-pub record Answers (world : World) (command : Command) (old : State) (stands : State → Type 0) (faults faults' : ℕ) (held held' : List ℕ → Type 0) (had pending : List ℕ) (result : Result (Unit {0}) Halt) : Type 0 where
+pub record Answers (world : World) (command : Command) (old : State) (stands : State → Type 0) (faults faults' : ℕ) (held held' : List ℕ → Type 0) (had pending : List ℕ) (result : Result (Unit {0}) LoopExit) : Type 0 where
   pub answer : Answer
   pub new : State
   pub does : DoesIn old command answer new
@@ -101,7 +101,7 @@ pub record Answers (world : World) (command : Command) (old : State) (stands : S
   pub write : IfErr result (λ halt. halt ≡ halts.Write)
 
 -- Memory ran out at a dump, which changed nothing.
-pub record HasNoRoom (command : Command) (old : State) (stands : State → Type 0) (faults faults' : ℕ) (held held' : List ℕ → Type 0) (had pending : List ℕ) (result : Result (Unit {0}) Halt) : Type 0 where
+pub record HasNoRoom (command : Command) (old : State) (stands : State → Type 0) (faults faults' : ℕ) (held held' : List ℕ → Type 0) (had pending : List ℕ) (result : Result (Unit {0}) LoopExit) : Type 0 where
   pub dump : command ≡ Dump
   pub halt : result ≡ Err halts.Memory
   pub state : stands old
@@ -120,13 +120,13 @@ pub record FailsInDump (command : Command) (stood stands : State → Type 0) (fa
   pub quiet : faults' ≡ faults
 
 -- what a command did, from each state that the machine represented
-abbrev pub Served : World → Command → (State → Type 0) → (State → Type 0) → ℕ → ℕ → (List ℕ → Type 0) → (List ℕ → Type 0) → List ℕ → List ℕ → Result (Unit {0}) Halt → Type 0
+abbrev pub Served : World → Command → (State → Type 0) → (State → Type 0) → ℕ → ℕ → (List ℕ → Type 0) → (List ℕ → Type 0) → List ℕ → List ℕ → Result (Unit {0}) LoopExit → Type 0
 Served world command stood stands faults faults' held held' had pending result =
     (old : State) → stood old → IsReached world old
     → Answers world command old stands faults faults' held held' had pending result ⊎ HasNoRoom command old stands faults faults' held held' had pending result
 
 -- what an event did to the machine, to what is pending, and to the sink
-abbrev pub Acted : Event → World → (State → Type 0) → (State → Type 0) → ℕ → ℕ → (List ℕ → Type 0) → (List ℕ → Type 0) → List ℕ → List ℕ → Result (Unit {0}) Halt → Type 0
+abbrev pub Acted : Event → World → (State → Type 0) → (State → Type 0) → ℕ → ℕ → (List ℕ → Type 0) → (List ℕ → Type 0) → List ℕ → List ℕ → Result (Unit {0}) LoopExit → Type 0
 Acted Nothing world stood stands faults faults' held held' had pending result =
     MatchResult result (λ _. Gathered held held' pending had × ((state : State) → stood state → stands state) × (faults' ≡ faults)) (λ _. ⊥)
 Acted Opens world stood stands faults faults' held held' had pending result =
@@ -141,13 +141,13 @@ TakesAfter Opens world took takes was_idle is_idle = (command : Command) → IsR
 TakesAfter (Does _) world took takes was_idle is_idle = (command : Command) → took command → takes command
 
 -- a reader that looked for the next line: it found one, or the end of the input, or the source failed before there was a line, or the sink failed with something pending
-abbrev pub Fetched : Buffered → ℕ → List ℕ → Result (Option Found) Halt → Type 0
+abbrev pub Fetched : Buffered → ℕ → List ℕ → Result (Option LineSpan) LoopExit → Type 0
 Fetched held enough pending (Ok next) = IsNext held enough next × IfSome next (FitsIn held)
 Fetched held enough pending (Err halts.Write) = 0 < length pending
 Fetched held enough pending (Err halts.Read) = IsPart held enough × (held.ended ≡ false)
 Fetched held enough pending (Err _) = ⊥
 
 -- how a run stops when the input ends
-abbrev pub closed : Ending → Result (Unit {0}) Stop
+abbrev pub closed : Ending → Result (Unit {0}) RunStop
 closed Whole = Ok tt
 closed (Broken trouble) = Err (Tell trouble)

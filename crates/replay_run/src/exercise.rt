@@ -14,10 +14,10 @@ use trace_text::{Maker, summary_text};
 
 /// Runs the generated input, and counts the lines that it writes.
 fn run_made<E: Engine>(alloc: Global, number: u32, count: u32, engine: &mut E) -> (Status, Tally)
-    requires few { count ≤ 1000000 }
+    requires at_most { count ≤ 1000000 }
     requires idle { E.is_idle engine.old }
     ensures made { RanMade number count (E.stands engine.new) (E.loaded engine.new) (E.faults engine.new - E.faults engine.old) result.0 result.1 }
-    ensures later { E.faults engine.old ≤ E.faults engine.new }
+    ensures never_falls { E.faults engine.old ≤ E.faults engine.new }
 {
     let mut maker = Maker::new(number, count);
     let mut sink = SinkTally::new();
@@ -27,10 +27,10 @@ fn run_made<E: Engine>(alloc: Global, number: u32, count: u32, engine: &mut E) -
 
 /// Writes the summary of an exercise.
 fn write_summary<K: Sink>(sink: &mut K, count: u32, tally: &Tally) -> Status
-    ensures wrote { Closed (K.stands sink.old) (K.stands sink.new) (summary count tally.now) Status.Done result }
+    ensures written { Closed (K.stands sink.old) (K.stands sink.new) (summary count tally.now) Status.Done result }
     ensures write { result ≡ Status.WriteFailed → Rose (K.faults sink.old) (K.faults sink.new) }
     ensures last { result ≡ Status.WriteFailed → FailedLast (K.faults sink.old) (K.faults sink.new) (K.failed sink.new) }
-    ensures quiet { result ≢ Status.WriteFailed → K.faults sink.new ≡ K.faults sink.old }
+    ensures no_fault { result ≢ Status.WriteFailed → K.faults sink.new ≡ K.faults sink.old }
 {
     let text = summary_text(count, tally);
     match give_all(sink, text.as_bytes()) {
@@ -49,14 +49,14 @@ pub(crate) fn exercise<K: Sink, E: Engine>(
     sink: &mut K,
     engine: &mut E,
 ) -> Status
-    requires few { count ≤ 1000000 }
+    requires at_most { count ≤ 1000000 }
     requires idle { E.is_idle engine.old }
     ensures exercised { Exercised number count (K.stands sink.old) (K.stands sink.new) (E.stands engine.new) (E.loaded engine.new) (E.faults engine.new - E.faults engine.old) result }
     ensures write { result ≡ Status.WriteFailed → Rose (K.faults sink.old) (K.faults sink.new) }
     ensures last { result ≡ Status.WriteFailed → FailedLast (K.faults sink.old) (K.faults sink.new) (K.failed sink.new) }
-    ensures quiet { result ≢ Status.WriteFailed → K.faults sink.new ≡ K.faults sink.old }
+    ensures no_fault { result ≢ Status.WriteFailed → K.faults sink.new ≡ K.faults sink.old }
     ensures swap { result ≢ Status.SwapFailed }
-    ensures later { E.faults engine.old ≤ E.faults engine.new }
+    ensures never_falls { E.faults engine.old ≤ E.faults engine.new }
 {
     let (ended, tally) = run_made(alloc, number, count, engine);
     match ended {

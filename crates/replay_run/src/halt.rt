@@ -2,11 +2,11 @@
 ghost use Rattle.std.specs.Prelude.{◌≡◌};
 ghost use Rattle.replay_run.specs.Steps.{stop_of};
 
-use line_input::{RunError, Stop};
+use line_input::{RunError, RunStop};
 
 /// Why a run halts for another cause than a line with trouble. It has one byte, since each call on the way to the loop returns it.
 #[derive(Clone, Copy, Debug, PartialEq, Eq)]
-pub(crate) enum Halt {
+pub(crate) enum LoopExit {
     /// The sink failed.
     Write,
     /// The source failed.
@@ -17,19 +17,19 @@ pub(crate) enum Halt {
     Swap,
 }
 
-impl Halt {
-    /// The `Stop` for this halt.
-    pub(crate) fn stop(self) -> Stop
-        ensures is { result ≡ stop_of self }
-        ensures write { result ≡ Stop.Write → self ≡ Halt.Write }
-        ensures read { result ≡ Stop.Tell RunError.Read → self ≡ Halt.Read }
-        ensures swap { result ≡ Stop.Tell RunError.Swap → self ≡ Halt.Swap }
+impl LoopExit {
+    /// The `RunStop` for this halt.
+    pub(crate) fn stop(self) -> RunStop
+        ensures value { result ≡ stop_of self }
+        ensures write { result ≡ RunStop.Write → self ≡ LoopExit.Write }
+        ensures read { result ≡ RunStop.Tell RunError.Read → self ≡ LoopExit.Read }
+        ensures swap { result ≡ RunStop.Tell RunError.Swap → self ≡ LoopExit.Swap }
     {
         match self {
-            Halt::Write => Stop::Write,
-            Halt::Read => Stop::Tell(RunError::Read),
-            Halt::Memory => Stop::Tell(RunError::Memory),
-            Halt::Swap => Stop::Tell(RunError::Swap),
+            LoopExit::Write => RunStop::Write,
+            LoopExit::Read => RunStop::Tell(RunError::Read),
+            LoopExit::Memory => RunStop::Tell(RunError::Memory),
+            LoopExit::Swap => RunStop::Tell(RunError::Swap),
         }
     }
 }

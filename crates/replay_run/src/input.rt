@@ -32,9 +32,9 @@ pub fn answer_input<S: Source, K: Sink, E: Engine>(
     ensures write { result ≡ Status.WriteFailed → Rose (K.faults sink.old) (K.faults sink.new) }
     ensures last { result ≡ Status.WriteFailed → FailedLast (K.faults sink.old) (K.faults sink.new) (K.failed sink.new) }
     ensures swap { result ≡ Status.SwapFailed → E.faults engine.old < E.faults engine.new }
-    ensures quiet_source { result ≢ Status.ReadFailed → result ≢ Status.WriteFailed → S.faults source.new ≡ S.faults source.old }
-    ensures quiet_sink { result ≢ Status.WriteFailed → K.faults sink.new ≡ K.faults sink.old }
-    ensures later { E.faults engine.old ≤ E.faults engine.new }
+    ensures source_no_fault { result ≢ Status.ReadFailed → result ≢ Status.WriteFailed → S.faults source.new ≡ S.faults source.old }
+    ensures sink_no_fault { result ≢ Status.WriteFailed → K.faults sink.new ≡ K.faults sink.old }
+    ensures never_falls { E.faults engine.old ≤ E.faults engine.new }
     ensures unopened { (i : List ℕ) → S.left source.old ≡ Some i → HasNoWorld i → engine.new ≡ engine.old }
     ensures unread { (i b : List ℕ) → S.left source.old ≡ Some i → Gave (Some i) (S.left source.new) b → HasNoWorldYet b
         → result ≡ Status.ReadFailed → engine.new ≡ engine.old }
@@ -72,9 +72,9 @@ pub fn replay<S: Source, K: Sink, D: Swap>(
     ensures write { result ≡ 1 → Rose (K.faults sink.old) (K.faults sink.new) }
     ensures last { result ≡ 1 → FailedLast (K.faults sink.old) (K.faults sink.new) (K.failed sink.new) }
     ensures swap { result ≡ 6 → machine.old.faults < machine.new.faults }
-    ensures quiet_source { result ≢ 3 → result ≢ 1 → S.faults source.new ≡ S.faults source.old }
-    ensures quiet_sink { result ≢ 1 → K.faults sink.new ≡ K.faults sink.old }
-    ensures later { machine.old.faults ≤ machine.new.faults }
+    ensures source_no_fault { result ≢ 3 → result ≢ 1 → S.faults source.new ≡ S.faults source.old }
+    ensures sink_no_fault { result ≢ 1 → K.faults sink.new ≡ K.faults sink.old }
+    ensures never_falls { machine.old.faults ≤ machine.new.faults }
     ensures unopened { (i : List ℕ) → S.left source.old ≡ Some i → HasNoWorld i → machine.new ≡ machine.old }
     ensures unread { (i b : List ℕ) → S.left source.old ≡ Some i → Gave (Some i) (S.left source.new) b → HasNoWorldYet b
         → result ≡ 3 → machine.new ≡ machine.old }

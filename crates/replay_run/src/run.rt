@@ -9,10 +9,10 @@ ghost use Rattle.input_verdict.specs.Verdict.{ending_at};
 ghost use Rattle.replay_run.specs.Outcome.{HasNoWorld, HasNoWorldYet};
 ghost use Rattle.replay_run.specs.Steps.{Acted, Fetched, IsIn, RanTo, TakesAfter, closed};
 
-use crate::halt::Halt;
+use crate::halt::LoopExit;
 use crate::line::answer_line;
 use input_verdict::{InputJudge, JudgedInput};
-use line_input::{Found, InputReader, LineReader, RunError, Stop, early_end};
+use line_input::{InputReader, LineReader, LineSpan, RunError, RunStop, early_end};
 use lisp_graph::Request;
 use outer_ports::{Sink, SinkBuffer, Source};
 use paged_machine::Engine;
@@ -28,50 +28,50 @@ fn next_line<S: Source, K: Sink>(
     source: &mut S,
     sink: &mut K,
     enough: usize,
-) -> Result<Option<Found>, Halt>
-    requires end { reader.old.ended ≡ true → IsAtEnd (S.left source.old) }
-    requires some { 1 ≤ enough }
-    requires most { enough ≤ 32769 }
+) -> Result<Option<LineSpan>, LoopExit>
+    requires sound { reader.old.ended ≡ true → IsAtEnd (S.left source.old) }
+    requires at_least { 1 ≤ enough }
+    requires in_range { enough ≤ 32769 }
     ensures given { (piece : List ℕ) × Gave (S.left source.old) (S.left source.new) piece
         × (reader.new.bytes ≡ reader.old.bytes ++ piece) × (reader.old.ended ≡ true → piece ≡ [])
         × (((piece ≡ []) × (S.last source.new ≡ S.last source.old))
         ⊎ ((buffer.new.pending ≡ []) × (no_feed (without_latest (S.last source.new) reader.new.bytes) ≡ true))) }
-    ensures gathered { Gathered (K.stands sink.old) (K.stands sink.new) buffer.new.pending buffer.old.pending }
+    ensures gathers { Gathered (K.stands sink.old) (K.stands sink.new) buffer.new.pending buffer.old.pending }
     ensures end { reader.new.ended ≡ true → IsAtEnd (S.left source.new) }
-    ensures once { reader.old.ended ≡ true → reader.new.ended ≡ true }
-    ensures short { length reader.new.bytes ≤ 32769 }
-    ensures fetched { Fetched reader.new enough buffer.new.pending result }
-    ensures read { IfErr result (λ halt. halt ≡ Halt.Read → Rose (S.faults source.old) (S.faults source.new)) }
-    ensures write { IfErr result (λ halt. halt ≡ Halt.Write → Rose (K.faults sink.old) (K.faults sink.new)) }
-    ensures last { IfErr result (λ halt. halt ≡ Halt.Write → FailedLast (K.faults sink.old) (K.faults sink.new) (K.failed sink.new)) }
-    ensures swap { IfErr result (λ halt. halt ≢ Halt.Swap) }
-    ensures later_source { S.faults source.old ≤ S.faults source.new }
-    ensures later_sink { K.faults sink.old ≤ K.faults sink.new }
-    ensures quiet_source { result ≢ Err Halt.Read → S.faults source.new ≡ S.faults source.old }
-    ensures quiet_sink { result ≢ Err Halt.Write → K.faults sink.new ≡ K.faults sink.old }
+    ensures ended { reader.old.ended ≡ true → reader.new.ended ≡ true }
+    ensures at_most { length reader.new.bytes ≤ 32769 }
+    ensures value { Fetched reader.new enough buffer.new.pending result }
+    ensures read { IfErr result (λ halt. halt ≡ LoopExit.Read → Rose (S.faults source.old) (S.faults source.new)) }
+    ensures write { IfErr result (λ halt. halt ≡ LoopExit.Write → Rose (K.faults sink.old) (K.faults sink.new)) }
+    ensures last { IfErr result (λ halt. halt ≡ LoopExit.Write → FailedLast (K.faults sink.old) (K.faults sink.new) (K.failed sink.new)) }
+    ensures swap { IfErr result (λ halt. halt ≢ LoopExit.Swap) }
+    ensures source_never_falls { S.faults source.old ≤ S.faults source.new }
+    ensures sink_never_falls { K.faults sink.old ≤ K.faults sink.new }
+    ensures source_no_fault { result ≢ Err LoopExit.Read → S.faults source.new ≡ S.faults source.old }
+    ensures sink_no_fault { result ≢ Err LoopExit.Write → K.faults sink.new ≡ K.faults sink.old }
 {
-    if let Some(found) = reader.buffered(0, enough) {
+    if let Some(found) = reader.find_line(0, enough) {
         return Ok(Some(found));
     }
     match buffer.flush(sink) {
         Ok(()) => {}
-        Err(_) => return Err(Halt::Write),
+        Err(_) => return Err(LoopExit::Write),
     }
     match reader.next(source, enough) {
         Ok(next) => Ok(next),
-        Err(_) => Err(Halt::Read),
+        Err(_) => Err(LoopExit::Read),
     }
 }
 
 /// How a run stops when the input ends here.
-pub(crate) fn close(place: &JudgedInput) -> Result<(), Stop>
+pub(crate) fn close(place: &JudgedInput) -> Result<(), RunStop>
     requires { place.now.lines < 2 ^ 50 }
     ensures { result ≡ closed (ending_at place.now) }
 {
     if place.judge.is_ended() {
         return Ok(());
     }
-    Err(Stop::Tell(early_end(place.lines, Reason::NotAWorld)))
+    Err(RunStop::Tell(early_end(place.lines, Reason::NotAWorld)))
 }
 
 /// Answers one line after another, until the run has to stop.
@@ -82,32 +82,32 @@ pub fn run_trace<S: Source, K: Sink, E: Engine>(
     source: &mut S,
     sink: &mut K,
     engine: &mut E,
-) -> Result<(), Stop>
+) -> Result<(), RunStop>
     requires bytes { reader.old.bytes ≡ [] }
     requires ended { reader.old.ended ≡ false }
-    requires pending { buffer.old.pending ≡ [] }
+    requires empty { buffer.old.pending ≡ [] }
     requires idle { E.is_idle engine.old }
     ensures ran { (i b w : List ℕ) × RanTo (S.left source.old) (S.left source.new) (K.stands sink.old) (K.stands sink.new)
         (record { input = i; taken = b; last = S.last source.new; written = w; stands = E.stands engine.new; loaded = E.loaded engine.new; source_rose = Rose (S.faults source.old) (S.faults source.new); swap_rose = E.faults engine.new - E.faults engine.old })
         buffer.new.pending result }
-    ensures read { IfErr result (λ stop. stop ≡ Stop.Tell RunError.Read → Rose (S.faults source.old) (S.faults source.new)) }
-    ensures write { IfErr result (λ stop. stop ≡ Stop.Write → Rose (K.faults sink.old) (K.faults sink.new)) }
-    ensures last { IfErr result (λ stop. stop ≡ Stop.Write → FailedLast (K.faults sink.old) (K.faults sink.new) (K.failed sink.new)) }
-    ensures swap { IfErr result (λ stop. stop ≡ Stop.Tell RunError.Swap → E.faults engine.old < E.faults engine.new) }
-    ensures later { K.faults sink.old ≤ K.faults sink.new }
-    ensures later_engine { E.faults engine.old ≤ E.faults engine.new }
+    ensures read { IfErr result (λ stop. stop ≡ RunStop.Tell RunError.Read → Rose (S.faults source.old) (S.faults source.new)) }
+    ensures write { IfErr result (λ stop. stop ≡ RunStop.Write → Rose (K.faults sink.old) (K.faults sink.new)) }
+    ensures last { IfErr result (λ stop. stop ≡ RunStop.Write → FailedLast (K.faults sink.old) (K.faults sink.new) (K.failed sink.new)) }
+    ensures swap { IfErr result (λ stop. stop ≡ RunStop.Tell RunError.Swap → E.faults engine.old < E.faults engine.new) }
+    ensures never_falls { K.faults sink.old ≤ K.faults sink.new }
+    ensures device_never_falls { E.faults engine.old ≤ E.faults engine.new }
     ensures unopened { (i : List ℕ) → S.left source.old ≡ Some i → HasNoWorld i → engine.new ≡ engine.old }
     ensures unread { (i b : List ℕ) → S.left source.old ≡ Some i → Gave (Some i) (S.left source.new) b → HasNoWorldYet b
-        → result ≡ Err (Stop.Tell RunError.Read) → engine.new ≡ engine.old }
-    ensures quiet_source { result ≢ Err (Stop.Tell RunError.Read) → result ≢ Err Stop.Write → S.faults source.new ≡ S.faults source.old }
-    ensures quiet_sink { result ≢ Err Stop.Write → K.faults sink.new ≡ K.faults sink.old }
+        → result ≡ Err (RunStop.Tell RunError.Read) → engine.new ≡ engine.old }
+    ensures source_no_fault { result ≢ Err (RunStop.Tell RunError.Read) → result ≢ Err RunStop.Write → S.faults source.new ≡ S.faults source.old }
+    ensures sink_no_fault { result ≢ Err RunStop.Write → K.faults sink.new ≡ K.faults sink.old }
 {
     engine.idle_has_no_world();
     let mut place = InputReader::start(InputJudge::new(alloc));
     // Each command is written here.
     let mut command = Request::new();
     loop {
-        let enough = place.enough_if(place.judge.ended);
+        let enough = place.bytes_to_decide(place.judge.ended);
         let found = match next_line(reader, buffer, source, sink, enough) {
             Ok(Some(found)) => found,
             Ok(None) => return close(&place),

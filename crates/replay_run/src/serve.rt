@@ -9,8 +9,8 @@ ghost use Rattle.replay_run.specs.Replies.{answer_text};
 ghost use Rattle.replay_run.specs.Steps.{FailsInDump, HasRoom, IsIn, IsReached, Served};
 ghost use Rattle.trace_text.specs.Replies.{reply_text};
 
-use crate::halt::Halt;
-use lisp_graph::{Areas, Reply, Request, Short, World};
+use crate::halt::LoopExit;
+use lisp_graph::{Areas, CommandHead, Reply, Request, World};
 use outer_ports::{Sink, SinkBuffer};
 use paged_machine::{DumpFault, Engine};
 use std::alloc::Global;
@@ -18,17 +18,17 @@ use trace_text::{account_text, fixed_text, reply_text};
 
 /// Gathers a text after what is pending. It can't fail if the buffer has room for the text.
 #[inline(always)]
-fn give<K: Sink>(buffer: &mut SinkBuffer, sink: &mut K, text: &[u8]) -> Result<(), Halt>
+fn gather<K: Sink>(buffer: &mut SinkBuffer, sink: &mut K, text: &[u8]) -> Result<(), LoopExit>
     ensures gathers { Gathers (K.stands sink.old) (K.stands sink.new) buffer.old.pending buffer.new.pending text.now result }
     ensures fits { length buffer.old.pending + length text.now ≤ buffer.old.room → K.faults sink.old < 2 ^ 64 - 1 → result ≡ Ok tt }
     ensures room { buffer.new.room ≡ buffer.old.room }
-    ensures write { IfErr result (λ halt. halt ≡ Halt.Write) }
+    ensures write { IfErr result (λ halt. halt ≡ LoopExit.Write) }
     ensures cause { HasCause (K.faults sink.old) (K.faults sink.new) result }
     ensures last { OnErr result (FailedLast (K.faults sink.old) (K.faults sink.new) (K.failed sink.new)) }
 {
     match buffer.gather(sink, text) {
         Ok(()) => Ok(()),
-        Err(_) => Err(Halt::Write),
+        Err(_) => Err(LoopExit::Write),
     }
 }
 
@@ -39,19 +39,19 @@ fn give_reply<K: Sink>(
     sink: &mut K,
     reply: &Reply,
     areas: &Areas,
-) -> Result<(), Halt>
+) -> Result<(), LoopExit>
     ensures gathers { Gathers (K.stands sink.old) (K.stands sink.new) buffer.old.pending buffer.new.pending (reply_text reply.now areas.now) result }
     ensures fits { length buffer.old.pending + 64 ≤ buffer.old.room → K.faults sink.old < 2 ^ 64 - 1 → result ≡ Ok tt }
     ensures room { buffer.new.room ≡ buffer.old.room }
-    ensures write { IfErr result (λ halt. halt ≡ Halt.Write) }
+    ensures write { IfErr result (λ halt. halt ≡ LoopExit.Write) }
     ensures cause { HasCause (K.faults sink.old) (K.faults sink.new) result }
     ensures last { OnErr result (FailedLast (K.faults sink.old) (K.faults sink.new) (K.failed sink.new)) }
 {
     match fixed_text(reply) {
-        Some(text) => give(buffer, sink, text),
+        Some(text) => gather(buffer, sink, text),
         None => {
             let text = reply_text(reply, areas);
-            give(buffer, sink, text.as_bytes())
+            gather(buffer, sink, text.as_bytes())
         }
     }
 }
@@ -62,20 +62,20 @@ fn give_accounts<K: Sink, E: Engine>(
     sink: &mut K,
     engine: &E,
     world: &World,
-) -> Result<(), Halt>
+) -> Result<(), LoopExit>
     requires { IsIn world.now (E.stands engine.now) }
     ensures gathers { (s : State) → E.stands engine.now s → IsReached world.now s
         → Gathers (K.stands sink.old) (K.stands sink.new) buffer.old.pending buffer.new.pending (answer_text world.now.areas (Accounts (area_lines s 0 s.areas))) result }
     ensures fits { HasRoom buffer.old (K.faults sink.old) → result ≡ Ok tt }
     ensures room { buffer.new.room ≡ buffer.old.room }
-    ensures write { IfErr result (λ halt. halt ≡ Halt.Write) }
+    ensures write { IfErr result (λ halt. halt ≡ LoopExit.Write) }
     ensures cause { HasCause (K.faults sink.old) (K.faults sink.new) result }
     ensures last { OnErr result (FailedLast (K.faults sink.old) (K.faults sink.new) (K.failed sink.new)) }
 {
     let areas = world.areas.as_slice();
     for area in 0..areas.len() {
         let line = account_text(&areas[area], engine.account(area as u8));
-        give(buffer, sink, line.as_bytes())?;
+        gather(buffer, sink, line.as_bytes())?;
     }
     Ok(())
 }
@@ -90,28 +90,28 @@ pub(crate) fn serve<K: Sink, E: Engine>(
     engine: &mut E,
     world: &World,
     command: &Request,
-) -> Result<(), Halt>
-    requires takes { E.takes engine.old command.now }
+) -> Result<(), LoopExit>
+    requires can { E.takes engine.old command.now }
     requires stands { IsIn world.now (E.stands engine.old) }
-    ensures served { Served world.now command.now (E.stands engine.old) (E.stands engine.new) (E.faults engine.old) (E.faults engine.new)
+    ensures did { Served world.now command.now (E.stands engine.old) (E.stands engine.new) (E.faults engine.old) (E.faults engine.new)
         (K.stands sink.old) (K.stands sink.new) buffer.old.pending buffer.new.pending result }
-    ensures fits { result ≡ Err Halt.Write → HasRoom buffer.old (K.faults sink.old)
+    ensures fits { result ≡ Err LoopExit.Write → HasRoom buffer.old (K.faults sink.old)
         → FailsInDump command.now (E.stands engine.old) (E.stands engine.new) (E.faults engine.old) (E.faults engine.new) }
     ensures room { buffer.new.room ≡ buffer.old.room }
     ensures takes { (other : OneCommand) → E.takes engine.old other → E.takes engine.new other }
-    ensures read { IfErr result (λ halt. halt ≢ Halt.Read) }
-    ensures swap { IfErr result (λ halt. halt ≢ Halt.Swap) }
-    ensures write { IfErr result (λ halt. halt ≡ Halt.Write → Rose (K.faults sink.old) (K.faults sink.new)) }
-    ensures last { IfErr result (λ halt. halt ≡ Halt.Write → FailedLast (K.faults sink.old) (K.faults sink.new) (K.failed sink.new)) }
-    ensures later { K.faults sink.old ≤ K.faults sink.new }
-    ensures later_engine { E.faults engine.old ≤ E.faults engine.new }
-    ensures quiet { result ≢ Err Halt.Write → K.faults sink.new ≡ K.faults sink.old }
+    ensures read { IfErr result (λ halt. halt ≢ LoopExit.Read) }
+    ensures swap { IfErr result (λ halt. halt ≢ LoopExit.Swap) }
+    ensures write { IfErr result (λ halt. halt ≡ LoopExit.Write → Rose (K.faults sink.old) (K.faults sink.new)) }
+    ensures last { IfErr result (λ halt. halt ≡ LoopExit.Write → FailedLast (K.faults sink.old) (K.faults sink.new) (K.failed sink.new)) }
+    ensures never_falls { K.faults sink.old ≤ K.faults sink.new }
+    ensures device_never_falls { E.faults engine.old ≤ E.faults engine.new }
+    ensures no_fault { result ≢ Err LoopExit.Write → K.faults sink.new ≡ K.faults sink.old }
 {
     match command.parts().0 {
-        Short::Stats => give_accounts(buffer, sink, engine, world),
-        Short::Dump => match engine.dump(alloc, world) {
-            Ok(text) => give(buffer, sink, text.as_slice()),
-            Err(DumpFault::NoMemory) => Err(Halt::Memory),
+        CommandHead::Stats => give_accounts(buffer, sink, engine, world),
+        CommandHead::Dump => match engine.dump(alloc, world) {
+            Ok(text) => gather(buffer, sink, text.as_slice()),
+            Err(DumpFault::NoMemory) => Err(LoopExit::Memory),
             Err(DumpFault::Swap(_)) => give_reply(buffer, sink, &Reply::Fault, &world.areas),
         },
         _ => {

@@ -10,7 +10,7 @@ use crate::line::answer_line;
 use crate::run::close;
 use crate::session::room::AnswerRoom;
 use input_verdict::{InputJudge, JudgedInput};
-use line_input::{InputReader, RunError, Status, Stop};
+use line_input::{InputReader, RunError, RunStop, Status};
 use lisp_graph::Request;
 use outer_ports::{NoMemory, SinkBuffer, Swap};
 use paged_machine::{Engine, Machine};
@@ -58,10 +58,10 @@ impl<D: Swap> Model for Session<D> {
 /// What a run looks at in a line with this text, and how many bytes it takes for the line: the text, and one byte more for its line feed; if the
 /// text has more than 32,768 bytes, its first 32,769, which decide that it is too long.
 fn front_of(text: &[u8]) -> (&[u8], usize)
-    ensures front { result.0.now ≡ take 32769 text.now }
+    ensures first { result.0.now ≡ take 32769 text.now }
     ensures size { result.1 ≡ length (fed_of text.now) }
     ensures some { 1 ≤ result.1 }
-    ensures close { result.1 ≤ length result.0.now + 1 }
+    ensures at_most { result.1 ≤ length result.0.now + 1 }
 {
     if text.len() > LONGEST_LINE {
         return (&text[..LONGEST_LINE + 1], LONGEST_LINE + 1);
@@ -71,28 +71,28 @@ fn front_of(text: &[u8]) -> (&[u8], usize)
 
 /// Drops the latest answer.
 fn forget(buffer: &mut SinkBuffer, room: &mut AnswerRoom)
-    ensures pending { buffer.new ≡ record buffer.old { pending = [] } }
+    ensures after { buffer.new ≡ record buffer.old { pending = [] } }
     ensures bytes { room.new.bytes.items ≡ [] }
-    ensures faults { room.new.faults ≡ 0 }
+    ensures no_fault { room.new.faults ≡ 0 }
 {
     buffer.clear();
     room.clear();
 }
 
 /// The trouble that a session reports when a run would stop. If a dump had no room, memory ran out.
-fn trouble_of(stop: Stop) -> RunError
+fn trouble_of(stop: RunStop) -> RunError
     ensures { result ≡ trouble_of stop }
 {
     match stop {
-        Stop::Tell(trouble) => trouble,
-        Stop::Write => RunError::Memory,
+        RunStop::Tell(trouble) => trouble,
+        RunStop::Write => RunError::Memory,
     }
 }
 
 /// Makes the error line of what stops a session its answer, and returns its status.
-fn tell(buffer: &mut SinkBuffer, room: &mut AnswerRoom, stop: Stop) -> Status
-    ensures pending { buffer.new ≡ record buffer.old { pending = [] } }
-    ensures status { result ≡ status_of (trouble_of stop) }
+fn tell(buffer: &mut SinkBuffer, room: &mut AnswerRoom, stop: RunStop) -> Status
+    ensures after { buffer.new ≡ record buffer.old { pending = [] } }
+    ensures value { result ≡ status_of (trouble_of stop) }
     ensures bytes { room.new.bytes.items ≡ trouble_line (trouble_of stop) }
 {
     forget(buffer, room);
@@ -103,10 +103,10 @@ impl<D: Swap + Drop> Session<D> {
     /// A session that was fed nothing, on an idle machine whose swap device hasn't failed. It allocates the memory for its answers.
     pub fn new(alloc: Global, machine: Machine<D>) -> Result<Session<D>, NoMemory>
         requires idle { machine.idle ≡ true }
-        requires quiet { machine.faults ≡ 0 }
-        ensures fed { IfOk result (λ s. Does [] [] s) }
+        requires no_fault { machine.faults ≡ 0 }
+        ensures does { IfOk result (λ s. Does [] [] s) }
         ensures open { IfOk result (λ s. s.state ≡ SessionState.Open) }
-        ensures answer { IfOk result (λ s. s.answer ≡ []) }
+        ensures empty { IfOk result (λ s. s.answer ≡ []) }
     {
         let buffer = SinkBuffer::new(alloc, PENDING)?;
         let room = AnswerRoom::new(alloc)?;
@@ -141,7 +141,7 @@ impl<D: Swap> Session<D> {
     /// answer. After the world's last line was fed, only a dump allocates memory.
     pub fn line(&mut self, alloc: Global, text: &[u8])
         requires open { self.old.state ≡ SessionState.Open }
-        requires one { no_feed text.now ≡ true }
+        requires at_least { no_feed text.now ≡ true }
         ensures does { (fed : List ℕ) → (written : List ℕ) → Does fed written self.old → Does (fed ++ fed_of text.now) (written ++ self.new.answer) self.new }
         ensures ended { self.new.state ≢ SessionState.Ended Status.Done }
         ensures write { self.new.state ≢ SessionState.Ended Status.WriteFailed }

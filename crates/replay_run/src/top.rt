@@ -2,7 +2,7 @@
 ghost use Rattle.std.specs.Prelude.{◌≡◌, ◌≢◌, ◌⊎◌, ◌-◌, ◌<◌, ◌≤◌, true, false, ℕ, List, is_some, Some, None};
 ghost use Rattle.std.specs.List.{All};
 ghost use Rattle.outer_ports.specs.Ports.{FailedLast, Gave, Rose};
-ghost use Rattle.paged_machine.specs.Holding.{MeansFor};
+ghost use Rattle.paged_machine.specs.Holding.{HasReading};
 ghost use Rattle.lisp_graph.specs.declared.command.Command.TheVariants.{Dump};
 ghost use Rattle.replay_run.specs.Outcome.{HasNoWorld, HasNoWorldYet, IsEarly, Ran};
 ghost use Rattle.line_input.specs.Statuses.{code, status_of};
@@ -42,13 +42,13 @@ pub fn run_lispm<S: Source, K: Sink, D: Swap>(
     // The run on an input is as its status says, and the heap has the meaning of the state after its commands.
     ensures ran { mode_of words.now ≡ Some Mode.Replay → ((status : Status) × (result ≡ code status)
         × (i b w : List ℕ) × Ran (S.left source.old) (S.left source.new) (K.stands sink.old) (K.stands sink.new)
-        (record { input = i; taken = b; last = S.last source.new; written = w; stands = MeansFor machine.new.heap; loaded = is_some machine.new.heap; source_rose = Rose (S.faults source.old) (S.faults source.new); swap_rose = machine.new.faults - machine.old.faults })
+        (record { input = i; taken = b; last = S.last source.new; written = w; stands = HasReading machine.new.heap; loaded = is_some machine.new.heap; source_rose = Rose (S.faults source.old) (S.faults source.new); swap_rose = machine.new.faults - machine.old.faults })
         status) }
 
     // For the generated input the replies are those of a run, too. Their summary is written.
     ensures exercised { (number count : ℕ) → mode_of words.now ≡ Some (Mode.Exercise number count) → ((status : Status) × (result ≡ code status)
         × Exercised number count (K.stands sink.old) (K.stands sink.new)
-        (MeansFor machine.new.heap) (is_some machine.new.heap) (machine.new.faults - machine.old.faults) status) }
+        (HasReading machine.new.heap) (is_some machine.new.heap) (machine.new.faults - machine.old.faults) status) }
 
     // For a file, what the mode requests of its world is written, or an error line.
     ensures asked { (mode : FileMode) → mode_of words.now ≡ Some (Mode.OfFile mode) → ((status : Status) × (result ≡ code status)
@@ -97,9 +97,9 @@ pub fn run_lispm<S: Source, K: Sink, D: Swap>(
 
     // Otherwise the count is unchanged; that of the swap device, if no reply is `fault`, by `ran` and `exercised`. If the sink fails, the source or
     // the swap device may have failed before it.
-    ensures quiet_source { result ≢ 3 → result ≢ 1 → S.faults source.new ≡ S.faults source.old }
-    ensures quiet_sink { result ≢ 1 → K.faults sink.new ≡ K.faults sink.old }
-    ensures later { machine.old.faults ≤ machine.new.faults }
+    ensures source_no_fault { result ≢ 3 → result ≢ 1 → S.faults source.new ≡ S.faults source.old }
+    ensures sink_no_fault { result ≢ 1 → K.faults sink.new ≡ K.faults sink.old }
+    ensures never_falls { machine.old.faults ≤ machine.new.faults }
 {
     machine.idle_has_no_world();
     match read_words(alloc, words) {

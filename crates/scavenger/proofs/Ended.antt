@@ -6,7 +6,7 @@ use Rattle.area_space.specs.Table.{Table}
 use Rattle.transporter.specs.obj_layout.Forwards.{word_at}
 use Rattle.transporter.specs.Marking.{IsForward, MarksFollow}
 use Rattle.transporter.specs.Moving.{WritesLive}
-use Rattle.transporter.specs.Settling.{HasOld}
+use Rattle.transporter.specs.Settling.{RefersToOld}
 use Rattle.scavenger.specs.Scan.{Scan}
 use Rattle.scavenger.specs.Scanning.{EndsPage, ends, stays}
 use Rattle.scavenger.proofs.Ending.{ended-memory, ended-table}
@@ -32,7 +32,7 @@ ended-marked {m} {m'} {t} {t'} {scan} {page} e = subst (λ (u : Table). MarksFol
   turns = record {
     used = λ region. omega arith;
     forwards = λ a is. inl (subst (λ (ws : List Parts). IsForward (word_at ws a)) (sym (ended-memory e).words) is);
-    olds = λ a old. inl (subst (λ (ws : List Parts). HasOld t (word_at ws a)) (ended-memory e).words old);
+    olds = λ a old. inl (subst (λ (ws : List Parts). RefersToOld t (word_at ws a)) (ended-memory e).words old);
   };
   unmarked = λ other clean. inl ((ended-memory e).unmarked other clean);
 })

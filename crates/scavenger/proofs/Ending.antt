@@ -16,8 +16,8 @@ use Rattle.transporter.specs.lisp_meaning.Roles.{RoleMap}
 use Rattle.transporter.specs.lisp_ground.GroundInvariant.{GroundInvariant}
 use Rattle.transporter.specs.lisp_ground.After.{old_on}
 use Rattle.transporter.proofs.lisp_ground.Storing.{kept_on_same}
-use Rattle.transporter.specs.LiveSame.{OnlyGrows, LiveSameBut}
-use Rattle.transporter.specs.Settling.{HasOld, Settles}
+use Rattle.transporter.specs.LiveWordsUnchanged.{OnlyGrows, LiveWordsUnchangedExcept}
+use Rattle.transporter.specs.Settling.{RefersToOld, Settles}
 use Rattle.scavenger.specs.Scan.{Scan}
 use Rattle.scavenger.specs.Left.{IsPaged}
 use Rattle.scavenger.specs.Scanning.{word_done, page_done, EndsPage, ends, stays}
@@ -103,14 +103,14 @@ ended-old m m' t t' scan page s aim at e = ap (λ (u : Table). old_on m' u s aim
 pub ended-grows : (m m' : Store) (t0 t t' : Table) (scan : Scan) (page : ℕ) → EndsPage m t scan m' t' page → OnlyGrows t0 t → OnlyGrows t0 t'
 ended-grows m m' t0 t t' scan page e x = subst (λ (u : Table). OnlyGrows t0 u) (sym (ended-table e)) (repaged-grows t0 t t'.pages x)
 
-pub ended-live : (m0 m m' : Store) (t0 t t' : Table) (scan : Scan) (page at : ℕ) → EndsPage m t scan m' t' page → LiveSameBut m0 t0 m t at → LiveSameBut m0 t0 m' t' at
+pub ended-live : (m0 m m' : Store) (t0 t t' : Table) (scan : Scan) (page at : ℕ) → EndsPage m t scan m' t' page → LiveWordsUnchangedExcept m0 t0 m t at → LiveWordsUnchangedExcept m0 t0 m' t' at
 ended-live m0 m m' t0 t t' scan page at e x = record {
   table = ended-grows m m' t0 t t' scan page e x.table;
   words = λ a ne live. ap (λ (ws : List Parts). word_at ws a) (ended-memory e).words ∙ x.words a ne live;
 }
 
 pub ended-settles : (m m' : Store) (t0 t t' : Table) (scan : Scan) (page : ℕ) (old new : Parts) → EndsPage m t scan m' t' page → Settles t0 t old new → Settles t0 t' old new
-ended-settles m m' t0 t t' scan page old new e x = record { is = x.is; fresh = subst (λ (u : Table). HasOld u new → ⊥) (sym (ended-table e)) x.fresh }
+ended-settles m m' t0 t t' scan page old new e x = record { is = x.is; fresh = subst (λ (u : Table). RefersToOld u new → ⊥) (sym (ended-table e)) x.fresh }
 
 pub repaged-tidy : (m : Store) (t : Table) (ps : List ℕ) (scan : Scan) (registers : List Parts) → Tidy m t scan registers → Tidy m (repaged t ps) scan registers
 repaged-tidy m t ps scan registers x = record {

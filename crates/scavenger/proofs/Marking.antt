@@ -8,7 +8,7 @@ use Rattle.area_space.specs.Table.{Table, used_of, IsLive, IsOld, IsUnclassed}
 use Rattle.area_space.specs.Sound.{IsTable}
 use Rattle.transporter.specs.obj_layout.Forwards.{word_at}
 use Rattle.transporter.proofs.lisp_ground.Owners.{region_cases}
-use Rattle.transporter.specs.LiveSame.{IsLiveWord}
+use Rattle.transporter.specs.LiveWordsUnchanged.{IsLiveWord}
 use Rattle.transporter.specs.Preserving.{FreshOn}
 use Rattle.scavenger.specs.Scan.{Scan}
 use Rattle.scavenger.specs.Left.{is_open}

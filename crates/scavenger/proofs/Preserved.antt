@@ -14,15 +14,15 @@ use Rattle.transporter.specs.lisp_meaning.Units.{NothingLeft}
 use Rattle.transporter.specs.lisp_ground.Image.{image_of}
 use Rattle.transporter.proofs.lisp_ground.Owners.{region_cases}
 use Rattle.transporter.proofs.lisp_ground.Standings.{live_standing, live_region}
-use Rattle.transporter.specs.LiveSame.{IsLiveWord}
-use Rattle.transporter.specs.Preserving.{FreshOn, AllFresh, PreservesScanned, RegistersPreserved}
+use Rattle.transporter.specs.LiveWordsUnchanged.{IsLiveWord}
+use Rattle.transporter.specs.Preserving.{FreshOn, NoOldAddresses, PreservesScanned, RegistersPreserved}
 use Rattle.transporter.proofs.Alive.{old-stays, old-before}
 use Rattle.transporter.proofs.Settled.{live-not_old}
 use Rattle.transporter.proofs.Fetched.{live-inside}
 use Rattle.transporter.proofs.Preserved.{fresh-grown}
 use Rattle.scavenger.specs.Scan.{Scan}
 use Rattle.scavenger.specs.Left.{is_open, register_left, word_left, IsPaged, is_none, next_of, closed, rest_of, units_of}
-use Rattle.scavenger.specs.Collecting.{Clean}
+use Rattle.scavenger.specs.Collecting.{ScanInvariant}
 use Rattle.scavenger.proofs.Fresh.{fresh-image, image-fresh, unused-fresh}
 use Rattle.scavenger.proofs.Lowest.{is-open, not-behind}
 use Rattle.scavenger.proofs.Amounts.{few-ahead, few-grown, units-grown}
@@ -37,7 +37,7 @@ pub record Swept (m : Store) (t : Table) (s : Scan) (registers : List Parts) : T
   pub registers_fresh : (r : ℕ) → r < length registers → register_left s r ≡ false → FreshOn t (get_or registers r null_word).content
   pub words_fresh : (a : ℕ) → IsLiveWord t a → word_left s t a ≡ false → FreshOn t (word_at m.words a).content
 
-swept-of : (m : Store) (t : Table) (s : Scan) (registers : List Parts) → IsTable t → IsGround m t → Clean m t s registers → Swept m t s registers
+swept-of : (m : Store) (t : Table) (s : Scan) (registers : List Parts) → IsTable t → IsGround m t → ScanInvariant m t s registers → Swept m t s registers
 swept-of m t s registers v g x = record {
   registers_fresh = λ r low left. image-fresh m t (rest_of s t registers) (get_or registers r null_word).content v (x.scanned.registers r low left);
   words_fresh = λ a live left. image-fresh m t (rest_of s t registers) (word_at m.words a).content v
@@ -76,7 +76,7 @@ units-closed m t s registers size count = elim (cases_Bool (is_none (next_of (op
 ]
 
 -- what is placed remains to be scanned, and no other unit is added
-pub units-added : (m m' : Store) (t t' : Table) (s : Scan) (registers registers' : List Parts) → IsTable t → IsGround m t → IsTable t' → IsGround m' t' → Clean m t s registers → PreservesScanned m t m' t' → length registers' ≡ length registers → s.over ≡ false
+pub units-added : (m m' : Store) (t t' : Table) (s : Scan) (registers registers' : List Parts) → IsTable t → IsGround m t → IsTable t' → IsGround m' t' → ScanInvariant m t s registers → PreservesScanned m t m' t' → length registers' ≡ length registers → s.over ≡ false
     → units_of m' s t' registers' + t.placed ≡ units_of m s t registers + t'.placed
 units-added m m' t t' s registers registers' v g v' g' x y count going =
     let before = units-open m t registers g.size s x.count going in
@@ -84,7 +84,7 @@ units-added m m' t t' s registers registers' v g v' g' x y count going =
     let grown = units-grown s t t' v.full v'.full y.grows.used y.grows.form.regions y.placed x.few in
     omega arith
 
-pub units-most : (m m' : Store) (t t' : Table) (s : Scan) (registers registers' : List Parts) → IsTable t → IsGround m t → IsTable t' → IsGround m' t' → Clean m t s registers → PreservesScanned m t m' t' → length registers' ≡ length registers
+pub units-most : (m m' : Store) (t t' : Table) (s : Scan) (registers registers' : List Parts) → IsTable t → IsGround m t → IsTable t' → IsGround m' t' → ScanInvariant m t s registers → PreservesScanned m t m' t' → length registers' ≡ length registers
     → units_of m' s t' registers' + t.placed ≤ units_of m s t registers + t'.placed
 units-most m m' t t' s registers registers' v g v' g' x y count = elim (cases_Bool s.over) [
   | inl over ↦ let none = units-none m' t' s registers' over in let more = y.grows.placed in omega arith
@@ -92,7 +92,7 @@ units-most m m' t t' s registers registers' v g v' g' x y count = elim (cases_Bo
 ]
 
 module _ (m m' : Store) (t t' : Table) (s : Scan) (registers registers' : List Parts) (v : IsTable t) (g : IsGround m t) (v' : IsTable t') (g' : IsGround m' t')
-    (x : Clean m t s registers) (y : PreservesScanned m t m' t') (z : RegistersPreserved t' registers registers') (stays_fresh : s.over ≡ true → AllFresh m' t') where
+    (x : ScanInvariant m t s registers) (y : PreservesScanned m t m' t') (z : RegistersPreserved t' registers registers') (stays_fresh : s.over ≡ true → NoOldAddresses m' t') where
   swept : Swept m t s registers
   swept = swept-of m t s registers v g x
 
@@ -154,7 +154,7 @@ module _ (m m' : Store) (t t' : Table) (s : Scan) (registers registers' : List P
   units-stay : s.over ≡ false → units_of m' s t' registers' + t.placed ≡ units_of m s t registers + t'.placed
   units-stay going = units-added m m' t t' s registers registers' v g v' g' x y z.count going
 
-  pub clean-tended : Clean m' t' s registers'
+  pub clean-tended : ScanInvariant m' t' s registers'
   clean-tended = record {
     count = z.count ∙ x.count;
     pages = x.pages ∙ ap (λ (n : ℕ). 16 * n) (sym y.grows.form.regions);
@@ -200,11 +200,11 @@ pub registers-same : (t : Table) (registers : List Parts) → RegistersPreserved
 registers-same t registers = record { count = refl; each = λ r low. inl refl }
 
 -- the pages of the set, when words are placed
-pub preserved-paged : {m m' : Store} {t t' : Table} {registers : List Parts} (s : Scan) → Clean m t s registers → PreservesScanned m t m' t' → IsPaged s t'
+pub preserved-paged : {m m' : Store} {t t' : Table} {registers : List Parts} (s : Scan) → ScanInvariant m t s registers → PreservesScanned m t m' t' → IsPaged s t'
 preserved-paged {m} {m'} {t} {t'} s x y = paged-grown s t t' (few-ahead s t x.few) y.grows.used y.paged x.paged
 
 -- fewer than 2^33 units are scanned
-pub few-done : {m : Store} {t : Table} {registers : List Parts} (s : Scan) → IsTable t → Clean m t s registers → s.over ≡ false → s.begun < 2 ^ 32 → s.done < 2 ^ 40
+pub few-done : {m : Store} {t : Table} {registers : List Parts} (s : Scan) → IsTable t → ScanInvariant m t s registers → s.over ≡ false → s.begun < 2 ^ 32 → s.done < 2 ^ 40
 few-done {m} {t} {registers} s v x going few =
     let sum = x.counted going in
     let placed = v.counted in

@@ -6,7 +6,7 @@ use Rattle.store_word.specs.Words.{Parts, null_word}
 use Rattle.mem_port.specs.Store.{Store}
 use Rattle.area_space.specs.Table.{Table}
 use Rattle.transporter.specs.obj_layout.Forwards.{word_at}
-use Rattle.transporter.specs.LiveSame.{OnlyGrows}
+use Rattle.transporter.specs.LiveWordsUnchanged.{OnlyGrows}
 use Rattle.transporter.specs.Moving.{MovesAtMost, none as nothing_moves}
 use Rattle.transporter.specs.Preserving.{FreshOn, PreservesScanned, RegistersPreserved}
 use Rattle.transporter.proofs.Alive.{grows-same, grows-then, still-live, old-before}

@@ -7,32 +7,32 @@ use Rattle.area_space.specs.Sound.{IsTable}
 use Rattle.area_space.specs.Ground.{IsGround}
 use Rattle.transporter.specs.lisp_meaning.Units.{ScanUnit, InRegister, InWord, next_unit}
 use Rattle.transporter.specs.lisp_ground.Image.{image_of}
-use Rattle.transporter.specs.Preserving.{AllFresh, PreservesScanned, RegistersPreserved}
+use Rattle.transporter.specs.Preserving.{NoOldAddresses, PreservesScanned, RegistersPreserved}
 use Rattle.scavenger.specs.declared.scan_set.Unit.{Unit as Left}
 use Rattle.scavenger.specs.declared.scan_set.Unit.TheVariants.{Register, Word}
 use Rattle.scavenger.specs.declared.scan_set.Progress.TheVariants.{Scanned}
 use Rattle.scavenger.specs.Scan.{Scan}
 use Rattle.scavenger.specs.Left.{next_of, rest_of, units_of}
-use Rattle.scavenger.specs.Collecting.{Clean}
+use Rattle.scavenger.specs.Collecting.{ScanInvariant}
 use Rattle.scavenger.specs.Scanning.{Scans}
 use Rattle.scavenger.specs.Sweeping.{ScansMany}
 
 -- a scan stays clean over a call that preserves the ground, if no register and no scanned word gets an old address
 abbrev pub CleanStays : Type 0
 CleanStays = (m m' : Store) (t t' : Table) (scan : Scan) (registers registers' : List Parts)
-    → IsTable t → IsGround m t → IsTable t' → IsGround m' t' → Clean m t scan registers → PreservesScanned m t m' t' → RegistersPreserved t' registers registers'
-    → (scan.over ≡ true → AllFresh m' t') → Clean m' t' scan registers'
+    → IsTable t → IsGround m t → IsTable t' → IsGround m' t' → ScanInvariant m t scan registers → PreservesScanned m t m' t' → RegistersPreserved t' registers registers'
+    → (scan.over ≡ true → NoOldAddresses m' t') → ScanInvariant m' t' scan registers'
 
 -- the number of units that remain grows by at most the number of words placed
 abbrev pub UnitsStay : Type 0
 UnitsStay = (m m' : Store) (t t' : Table) (scan : Scan) (registers registers' : List Parts)
-    → IsTable t → IsGround m t → IsTable t' → IsGround m' t' → Clean m t scan registers → PreservesScanned m t m' t' → length registers' ≡ length registers
+    → IsTable t → IsGround m t → IsTable t' → IsGround m' t' → ScanInvariant m t scan registers → PreservesScanned m t m' t' → length registers' ≡ length registers
     → units_of m' scan t' registers' + t.placed ≤ units_of m scan t registers + t'.placed
 
 -- and while the scan hasn't finished, by that number
 abbrev pub UnitsCome : Type 0
 UnitsCome = (m m' : Store) (t t' : Table) (scan : Scan) (registers registers' : List Parts)
-    → IsTable t → IsGround m t → IsTable t' → IsGround m' t' → Clean m t scan registers → PreservesScanned m t m' t' → length registers' ≡ length registers
+    → IsTable t → IsGround m t → IsTable t' → IsGround m' t' → ScanInvariant m t scan registers → PreservesScanned m t m' t' → length registers' ≡ length registers
     → scan.over ≡ false → units_of m' scan t' registers' + t.placed ≡ units_of m scan t registers + t'.placed
 
 -- The next unit
@@ -45,7 +45,7 @@ meant (Some (Word a)) = Some (InWord a)
 
 -- the next unit is that of the definition of collections
 abbrev pub NextIsDefined : Type 0
-NextIsDefined = (m : Store) (t : Table) (scan : Scan) (registers : List Parts) → IsGround m t → Clean m t scan registers
+NextIsDefined = (m : Store) (t : Table) (scan : Scan) (registers : List Parts) → IsGround m t → ScanInvariant m t scan registers
     → meant (next_of scan t) ≡ next_unit (image_of m t (rest_of scan t registers))
 
 -- Each unit once

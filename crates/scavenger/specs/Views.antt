@@ -16,8 +16,8 @@ use Rattle.scavenger.specs.Sweeping as sweeping
 abbrev pub Begins : GroundView → Condemn → Scan → Scan → Type 0
 Begins v = starting.Begins v.mem.store v.table
 
-abbrev pub Clean : GroundView → Scan → List Parts → Type 0
-Clean v = collecting.Clean v.mem.store v.table
+abbrev pub ScanInvariant : GroundView → Scan → List Parts → Type 0
+ScanInvariant v = collecting.ScanInvariant v.mem.store v.table
 
 abbrev pub EndsPage : GroundView → Scan → GroundView → ℕ → Type 0
 EndsPage v scan v' = scanning.EndsPage v.mem.store v.table scan v'.mem.store v'.table

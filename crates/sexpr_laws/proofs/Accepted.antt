@@ -4,7 +4,7 @@ use Rattle.std.specs.Prelude.{if◌then◌else◌}
 use Rattle.file_modes.specs.lisp_graph.declared.world.World.{World}
 use Rattle.file_modes.specs.world_text.declared.fault.WorldStep.{WorldStep}
 use Rattle.file_modes.specs.world_text.declared.fault.WorldStep.TheVariants.{WorldEnds, TraceBegins}
-use Rattle.file_modes.specs.world_text.declared.reading.reader.Part.TheVariants.{Closed}
+use Rattle.file_modes.specs.world_text.declared.reading.reader.Section.TheVariants.{Closed}
 use Rattle.file_modes.specs.world_text.declared.reading.reader.WorldReader.{WorldReader}
 use Rattle.file_modes.specs.world_text.Accepts.{IsAllowed, outcome}
 use Rattle.file_modes.specs.world_text.Closing.{closing_word}

@@ -11,7 +11,7 @@ use Rattle.file_modes.specs.lisp_graph.declared.world.World.{World}
 use Rattle.file_modes.specs.lisp_graph.KeyedGraph.{keyed}
 use Rattle.file_modes.specs.lisp_graph.World.{opening}
 use Rattle.file_modes.specs.world_text.declared.fault.WorldStep.{WorldStep}
-use Rattle.file_modes.specs.world_text.declared.reading.reader.Part.TheVariants.{Closed}
+use Rattle.file_modes.specs.world_text.declared.reading.reader.Section.TheVariants.{Closed}
 use Rattle.file_modes.specs.world_text.declared.reading.reader.WorldReader.{WorldReader}
 use Rattle.file_modes.specs.world_text.Accepts.{IsAllowed, outcome}
 use Rattle.file_modes.specs.world_text.Closing.{closing_word}

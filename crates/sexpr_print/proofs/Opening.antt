@@ -13,7 +13,7 @@ use Rattle.lisp_graph.specs.Groups.{is_nil}
 use Rattle.sexpr_text.specs.declared.bracket.Bracket.{Bracket}
 use Rattle.sexpr_text.specs.declared.bracket.Bracket.TheVariants.{Curly}
 use Rattle.sexpr_text.specs.declared.token.Token.TheVariants.{Again, Atom, Dot, Open}
-use Rattle.sexpr_print.specs.declared.task.Task.TheVariants as K
+use Rattle.sexpr_print.specs.declared.task.PrintTask.TheVariants as K
 use Rattle.sexpr_print.specs.declared.printer.Printer.{Printer}
 use Rattle.sexpr_print.specs.declared.printer.Next.{Next}
 use Rattle.sexpr_print.specs.Places.{is_among, is_cons_like}

@@ -18,8 +18,8 @@ use Rattle.sexpr_text.specs.declared.token.Token.{Token}
 use Rattle.sexpr_text.specs.declared.token.Token.TheVariants as T
 use Rattle.sexpr_print.specs.declared.sharing.References.{References}
 use Rattle.sexpr_print.specs.declared.token_text.TokenText.{TokenText}
-use Rattle.sexpr_print.specs.declared.task.Task.{Task}
-use Rattle.sexpr_print.specs.declared.task.Task.TheVariants as K
+use Rattle.sexpr_print.specs.declared.task.PrintTask.{PrintTask}
+use Rattle.sexpr_print.specs.declared.task.PrintTask.TheVariants as K
 use Rattle.sexpr_print.specs.declared.printer.Printer.{Printer}
 use Rattle.sexpr_print.specs.Printing.{Prints, PrintsForm, first, mark}
 use Rattle.sexpr_print.specs.Marks.{Marks, label_in, new_label, shared_in}
@@ -30,15 +30,15 @@ use Rattle.sexpr_print.proofs.Writes.{adds_none, adds_then}
 use Rattle.sexpr_print.proofs.TaskLaws.{no_task, one_task, tasks_join, tasks_split}
 
 -- the work of one task, and of two
-pub work_one : (objects : List Object) (task : Task) → sum_by (work_of objects) (task ∷ []) ≡ work_of objects task
+pub work_one : (objects : List Object) (task : PrintTask) → sum_by (work_of objects) (task ∷ []) ≡ work_of objects task
 work_one objects task = omega arith
 
-pub work_two : (objects : List Object) (one other : Task) → sum_by (work_of objects) (one ∷ other ∷ []) ≡ work_of objects one + work_of objects other
+pub work_two : (objects : List Object) (one other : PrintTask) → sum_by (work_of objects) (one ∷ other ∷ []) ≡ work_of objects one + work_of objects other
 work_two objects one other = omega arith
 
 -- A step that enters no object
 
-pub steps_level : (world : World) (task : Task) (before pushed : List Task) (old new : Printer) (tokens : List Token) → new.tasks.items ≡ before ++ pushed → Adds world.areas tokens old.text new.text → new.printed ≡ old.printed
+pub steps_level : (world : World) (task : PrintTask) (before pushed : List PrintTask) (old new : Printer) (tokens : List Token) → new.tasks.items ≡ before ++ pushed → Adds world.areas tokens old.text new.text → new.printed ≡ old.printed
     → ((others : List Token) (after : List ℕ) → AllPrint world.objects (shared_in old.printed.counts) pushed old.printed.names others after → DoesPrint world.objects (shared_in old.printed.counts) task old.printed.names (tokens ++ others) after)
     → All (IsTask (length world.objects)) pushed → sum_by (work_of world.objects) pushed < work_of world.objects task → Steps world task before old new
 steps_level world task before pushed old new tokens stack adds same prints sound less =
@@ -59,7 +59,7 @@ steps_level world task before pushed old new tokens stack adds same prints sound
 
 -- A step that ends a task
 
-pub steps_end : (world : World) (task : Task) (before : List Task) (old new : Printer) (tokens : List Token) → new.tasks.items ≡ before → Adds world.areas tokens old.text new.text → new.printed ≡ old.printed
+pub steps_end : (world : World) (task : PrintTask) (before : List PrintTask) (old new : Printer) (tokens : List Token) → new.tasks.items ≡ before → Adds world.areas tokens old.text new.text → new.printed ≡ old.printed
     → DoesPrint world.objects (shared_in old.printed.counts) task old.printed.names tokens old.printed.names → 0 < work_of world.objects task → Steps world task before old new
 steps_end world task before old new tokens stack adds same does some =
     steps_level world task before [] old new tokens (stack ∙ sym (append-nil before)) adds same
@@ -68,7 +68,7 @@ steps_end world task before old new tokens stack adds same does some =
 
 -- A step that enters an object
 
-pub steps_enter : (world : World) (task : Task) (before pushed : List Task) (old new : Printer) (tokens : List Token) (name : ℕ) → new.tasks.items ≡ before ++ pushed → Adds world.areas tokens old.text new.text
+pub steps_enter : (world : World) (task : PrintTask) (before pushed : List PrintTask) (old new : Printer) (tokens : List Token) (name : ℕ) → new.tasks.items ≡ before ++ pushed → Adds world.areas tokens old.text new.text
     → new.printed.counts ≡ old.printed.counts → new.printed.names ≡ old.printed.names ++ name ∷ [] → length new.printed.names ≤ length new.printed.counts
     → ((others : List Token) (after : List ℕ) → AllPrint world.objects (shared_in old.printed.counts) pushed (old.printed.names ++ name ∷ []) others after
     → DoesPrint world.objects (shared_in old.printed.counts) task old.printed.names (tokens ++ others) after)
@@ -109,7 +109,7 @@ first_steps world name label old middle new fresh is stack adds counts names roo
     let R : List References → List ℕ → List Token → List ℕ → Type 0 = λ cs ns others after. PrintsForm objects (shared_in cs) object.area object.charge ns object.body (opens.tokens ++ others) after in
     let S : List Token → List ℕ → Type 0 = λ tokens after. Prints objects (shared_in old.printed.counts) old.printed.names (Ref name) tokens after in
     steps_enter world (K.Value (Ref name)) old.tasks.items opens.pushed old new (label_tokens label ++ opens.tokens) name
-    (opens.tasks ∙ ap (λ (ts : List Task). ts ++ opens.pushed) stack)
+    (opens.tasks ∙ ap (λ (ts : List PrintTask). ts ++ opens.pushed) stack)
     (adds_then world.areas (label_tokens label) opens.tokens old.text middle.text new.text adds opens.adds)
     (ap (λ (m : Marks). m.counts) opens.printed ∙ counts)
     (ap (λ (m : Marks). m.names) opens.printed ∙ names)
@@ -128,10 +128,10 @@ first_steps world name label old middle new fresh is stack adds counts names roo
 pub object_sound : (world : World) (name : ℕ) → IsGraph (opening world) → name < length world.objects → IsObject (length world.objects) (object_at world.objects name)
 object_sound world name graph within = All-get_or (IsObject (length world.objects)) world.objects name no_object within graph.objects
 
-pub two_sound : (count : ℕ) (one other : Task) → IsTask count one → IsTask count other → All (IsTask count) (one ∷ other ∷ [])
+pub two_sound : (count : ℕ) (one other : PrintTask) → IsTask count one → IsTask count other → All (IsTask count) (one ∷ other ∷ [])
 two_sound count one other here there = All-cons (IsTask count) one (other ∷ []) here (All-cons (IsTask count) other [] there (All-nil _))
 
-pub one_sound : (count : ℕ) (one : Task) → IsTask count one → All (IsTask count) (one ∷ [])
+pub one_sound : (count : ℕ) (one : PrintTask) → IsTask count one → All (IsTask count) (one ∷ [])
 one_sound count one here = All-cons (IsTask count) one [] here (All-nil _)
 
 pub cons_sound : (count area charge : ℕ) (object : Object) (car cdr : Value) → object.body ≡ B.Cons car cdr → IsObject count object → All (IsTask count) (K.Rest area charge cdr ∷ K.Value car ∷ [])
@@ -178,10 +178,10 @@ goes_none world now sound = record {
   sound = sound;
 }
 
-single : (objects : List Object) (shared : ℕ → Bool) (task : Task) (printed after : List ℕ) (tokens : List Token) → DoesPrint objects shared task printed tokens after → AllPrint objects shared (task ∷ []) printed tokens after
+single : (objects : List Object) (shared : ℕ → Bool) (task : PrintTask) (printed after : List ℕ) (tokens : List Token) → DoesPrint objects shared task printed tokens after → AllPrint objects shared (task ∷ []) printed tokens after
 single objects shared task printed after tokens does = record { front = []; middle = printed; back = tokens; first = (refl, refl); others = does; is = refl }
 
-pub goes_step : (world : World) (task : Task) (before : List Task) (start old middle new : Printer) → old.tasks.items ≡ before ++ task ∷ [] → middle.text ≡ old.text → middle.printed ≡ old.printed
+pub goes_step : (world : World) (task : PrintTask) (before : List PrintTask) (start old middle new : Printer) → old.tasks.items ≡ before ++ task ∷ [] → middle.text ≡ old.text → middle.printed ≡ old.printed
     → Goes world start old → Steps world task before middle new → Goes world start new
 goes_step world task before start old middle new items text printed goes steps =
     let objects = world.objects in
@@ -189,11 +189,11 @@ goes_step world task before start old middle new items text printed goes steps =
     let counts : middle.printed.counts ≡ start.printed.counts = ap (λ (m : Marks). m.counts) printed ∙ goes.counts in
     let names : middle.printed.names ≡ old.printed.names = ap (λ (m : Marks). m.names) printed in
     let A : TokenText → Type 0 = λ t. Adds world.areas steps.tokens t new.text in
-    let B : List Task → List ℕ → List Token → List ℕ → Type 0 = λ ts ns tokens after. AllPrint objects shared ts ns tokens after in
+    let B : List PrintTask → List ℕ → List Token → List ℕ → Type 0 = λ ts ns tokens after. AllPrint objects shared ts ns tokens after in
     let D : List References → List ℕ → List Token → List ℕ → Type 0 = λ cs ns tokens after. DoesPrint objects (shared_in cs) task ns tokens after in
     let F : List References → List Token → List ℕ → Type 0 = λ cs tokens after. AllPrint objects (shared_in cs) steps.pushed new.printed.names tokens after in
     let stayed = (All-pop (IsTask (length objects)) old.tasks.items before (Some task) items goes.sound).0 in
-    let S : List Task → Type 0 = All (IsTask (length objects)) in
+    let S : List PrintTask → Type 0 = All (IsTask (length objects)) in
     record {
       tokens = goes.tokens ++ steps.tokens;
       adds = adds_then world.areas goes.tokens steps.tokens start.text old.text new.text goes.adds (subst A text steps.adds);
@@ -212,7 +212,7 @@ goes_step world task before start old middle new items text printed goes steps =
       sound = subst S (sym steps.tasks) (All-append (IsTask (length objects)) before steps.pushed stayed steps.sound);
     }
 
-pub goes_less : (world : World) (task : Task) (before : List Task) (old middle new : Printer) → old.tasks.items ≡ before ++ task ∷ [] → middle.printed ≡ old.printed → Steps world task before middle new
+pub goes_less : (world : World) (task : PrintTask) (before : List PrintTask) (old middle new : Printer) → old.tasks.items ≡ before ++ task ∷ [] → middle.printed ≡ old.printed → Steps world task before middle new
     → work_left world.objects new.tasks.items new.printed < work_left world.objects old.tasks.items old.printed
 goes_less world task before old middle new items printed steps =
     let work = sum_by (work_of world.objects) in
@@ -225,7 +225,7 @@ pub ran : (world : World) (start old now : Printer) → old.tasks.items ≡ [] �
 ran world start old now ended idle text printed goes =
     let names : now.printed.names ≡ old.printed.names = ap (λ (m : Marks). m.names) printed in
     let P : List Token → List ℕ → Type 0 = λ ts after. AllPrint world.objects (shared_in start.printed.counts) start.tasks.items start.printed.names ts after in
-    let Q : List Task → Type 0 = λ ts. AllPrint world.objects (shared_in start.printed.counts) ts old.printed.names [] old.printed.names in
+    let Q : List PrintTask → Type 0 = λ ts. AllPrint world.objects (shared_in start.printed.counts) ts old.printed.names [] old.printed.names in
     let A : TokenText → Type 0 = λ t. Adds world.areas goes.tokens start.text t in
     record {
       tokens = goes.tokens;
@@ -238,7 +238,7 @@ ran world start old now ended idle text printed goes =
 pub wrote : (world : World) (value : Value) (old middle new : Printer) → middle.tasks.items ≡ K.Value value ∷ [] → middle.text ≡ old.text → middle.printed ≡ old.printed → Ran world middle new → Wrote world value old new
 wrote world value old middle new items text printed run =
     let A : TokenText → Type 0 = λ t. Adds world.areas run.tokens t new.text in
-    let P : List Task → Type 0 = λ ts. AllPrint world.objects (shared_in middle.printed.counts) ts middle.printed.names run.tokens new.printed.names in
+    let P : List PrintTask → Type 0 = λ ts. AllPrint world.objects (shared_in middle.printed.counts) ts middle.printed.names run.tokens new.printed.names in
     let Q : Marks → Type 0 = λ m. Prints world.objects (shared_in m.counts) m.names value run.tokens new.printed.names in
     record {
       tokens = run.tokens;

@@ -12,8 +12,8 @@ use Rattle.lisp_graph.specs.Groups.{is_nil}
 use Rattle.sexpr_text.specs.declared.bracket.Bracket.TheVariants.{Curly}
 use Rattle.sexpr_text.specs.declared.token.Token.{Token}
 use Rattle.sexpr_text.specs.declared.token.Token.TheVariants as T
-use Rattle.sexpr_print.specs.declared.task.Task.{Task}
-use Rattle.sexpr_print.specs.declared.task.Task.TheVariants as K
+use Rattle.sexpr_print.specs.declared.task.PrintTask.{PrintTask}
+use Rattle.sexpr_print.specs.declared.task.PrintTask.TheVariants as K
 use Rattle.sexpr_print.specs.Printing.{Prints, PrintsConses, PrintsFields, PrintsForm, bracket_of, next_of}
 use Rattle.sexpr_print.specs.Printing.{number, none, list, block, ends, goes, dotted, done, more}
 use Rattle.sexpr_print.specs.Tasks.{AllPrint, DoesPrint, PrintsBlock, PrintsBoth, fields_in}
@@ -21,7 +21,7 @@ use Rattle.sexpr_print.specs.Tasks.{AllPrint, DoesPrint, PrintsBlock, PrintsBoth
 module _ (objects : List Object) (shared : ℕ → Bool) where
   -- One task, and two
 
-  pub no_task : (task : Task) (printed names after : List ℕ) (tokens others : List Token) → DoesPrint objects shared task printed tokens names → AllPrint objects shared [] names others after
+  pub no_task : (task : PrintTask) (printed names after : List ℕ) (tokens others : List Token) → DoesPrint objects shared task printed tokens names → AllPrint objects shared [] names others after
       → DoesPrint objects shared task printed (tokens ++ others) after
   no_task task printed names after tokens others does all =
       let P : List Token → Type 0 = λ ts. DoesPrint objects shared task printed (tokens ++ ts) after in
@@ -29,14 +29,14 @@ module _ (objects : List Object) (shared : ℕ → Bool) where
       let R : List ℕ → Type 0 = λ ns. DoesPrint objects shared task printed tokens ns in
       subst P (sym all.0) (subst Q (sym (append-nil tokens)) (subst R (sym all.1) does))
 
-  pub one_task : (task : Task) (printed after : List ℕ) (tokens : List Token) → AllPrint objects shared (task ∷ []) printed tokens after → DoesPrint objects shared task printed tokens after
+  pub one_task : (task : PrintTask) (printed after : List ℕ) (tokens : List Token) → AllPrint objects shared (task ∷ []) printed tokens after → DoesPrint objects shared task printed tokens after
   one_task task printed after tokens all =
       let e : tokens ≡ all.back = all.is ∙ ap (λ (ts : List Token). ts ++ all.back) all.first.0 in
       let P : List Token → Type 0 = λ ts. DoesPrint objects shared task printed ts after in
       let Q : List ℕ → Type 0 = λ ns. DoesPrint objects shared task ns all.back after in
       subst P (sym e) (subst Q all.first.1 all.others)
 
-  pub two_tasks : (last next : Task) (printed after : List ℕ) (tokens : List Token) → AllPrint objects shared (last ∷ next ∷ []) printed tokens after
+  pub two_tasks : (last next : PrintTask) (printed after : List ℕ) (tokens : List Token) → AllPrint objects shared (last ∷ next ∷ []) printed tokens after
       → PrintsBoth (λ front middle. DoesPrint objects shared next printed front middle) (λ middle back. DoesPrint objects shared last middle back after) tokens
   two_tasks last next printed after tokens all = record {
     front = all.front;
@@ -136,7 +136,7 @@ module _ (objects : List Object) (shared : ℕ → Bool) where
 
 -- Tasks before others
 
-pub tasks_split : (objects : List Object) (shared : ℕ → Bool) (tasks pushed : List Task) (printed after : List ℕ) (tokens : List Token) → AllPrint objects shared (tasks ++ pushed) printed tokens after
+pub tasks_split : (objects : List Object) (shared : ℕ → Bool) (tasks pushed : List PrintTask) (printed after : List ℕ) (tokens : List Token) → AllPrint objects shared (tasks ++ pushed) printed tokens after
     → PrintsBoth (λ front middle. AllPrint objects shared pushed printed front middle) (λ middle back. AllPrint objects shared tasks middle back after) tokens
 tasks_split objects shared [] pushed printed after tokens all = record {
   front = tokens;
@@ -157,7 +157,7 @@ tasks_split objects shared (task ∷ tasks) pushed printed after tokens all =
       is = all.is ∙ ap (λ (ts : List Token). ts ++ all.back) both.is ∙ append_assoc both.front both.back all.back;
     }
 
-pub tasks_join : (objects : List Object) (shared : ℕ → Bool) (tasks pushed : List Task) (printed middle after : List ℕ) (front back : List Token) → AllPrint objects shared pushed printed front middle
+pub tasks_join : (objects : List Object) (shared : ℕ → Bool) (tasks pushed : List PrintTask) (printed middle after : List ℕ) (front back : List Token) → AllPrint objects shared pushed printed front middle
     → AllPrint objects shared tasks middle back after → AllPrint objects shared (tasks ++ pushed) printed (front ++ back) after
 tasks_join objects shared [] pushed printed middle after front back one other =
     let P : List Token → Type 0 = λ ts. AllPrint objects shared pushed printed (front ++ ts) after in

@@ -10,8 +10,8 @@ use Rattle.lisp_graph.specs.declared.world.World.{World}
 use Rattle.sexpr_text.specs.declared.bracket.Bracket.TheVariants.{Curly}
 use Rattle.sexpr_text.specs.declared.token.Token.{Token}
 use Rattle.sexpr_text.specs.declared.token.Token.TheVariants as T
-use Rattle.sexpr_print.specs.declared.task.Task.{Task}
-use Rattle.sexpr_print.specs.declared.task.Task.TheVariants as K
+use Rattle.sexpr_print.specs.declared.task.PrintTask.{PrintTask}
+use Rattle.sexpr_print.specs.declared.task.PrintTask.TheVariants as K
 use Rattle.sexpr_print.specs.declared.printer.Printer.{Printer}
 use Rattle.sexpr_print.specs.Printing.{Prints, PrintsConses, PrintsFields, PrintsForm}
 use Rattle.sexpr_print.specs.Marks.{Marks, shared_in}
@@ -29,7 +29,7 @@ pub record PrintsBlock (objects : List Object) (shared : ℕ → Bool) (printed 
   pub is : tokens ≡ fields ++ T.Close Curly ∷ []
 
 -- a task prints these tokens; after a car these are the rest of its list form, whatever the car is
-abbrev pub DoesPrint : List Object → (ℕ → Bool) → Task → List ℕ → List Token → List ℕ → Type 0
+abbrev pub DoesPrint : List Object → (ℕ → Bool) → PrintTask → List ℕ → List Token → List ℕ → Type 0
 DoesPrint objects shared (K.Value value) printed tokens after = Prints objects shared printed value tokens after
 DoesPrint objects shared (K.Rest area charge cdr) printed tokens after =
     (before : List ℕ) (car : Value) (element : List Token) → Prints objects shared before car element printed → PrintsConses objects shared area charge before (B.Cons car cdr) (element ++ tokens) after
@@ -46,32 +46,32 @@ pub record PrintsBoth (First : List Token → List ℕ → Type 0) (Then : List 
   pub is : tokens ≡ front ++ back
 
 -- tasks print these tokens, the last one first
-abbrev pub AllPrint : List Object → (ℕ → Bool) → List Task → List ℕ → List Token → List ℕ → Type 0
+abbrev pub AllPrint : List Object → (ℕ → Bool) → List PrintTask → List ℕ → List Token → List ℕ → Type 0
 AllPrint objects shared [] printed tokens after = (tokens ≡ []) × (after ≡ printed)
 AllPrint objects shared (task ∷ tasks) printed tokens after =
     PrintsBoth (λ front middle. AllPrint objects shared tasks printed front middle) (λ middle back. DoesPrint objects shared task middle back after) tokens
 
 -- the objects of a task exist
-abbrev pub IsTask : ℕ → Task → Type 0
+abbrev pub IsTask : ℕ → PrintTask → Type 0
 IsTask count (K.Value value) = RefersBelow count value
 IsTask count (K.Rest area charge cdr) = RefersBelow count cdr
 IsTask count (K.Fields name index) = name < count
 IsTask count (K.Close bracket) = ⊤
 
 -- how much work a task needs if it enters no object
-abbrev pub work_of : List Object → Task → ℕ
+abbrev pub work_of : List Object → PrintTask → ℕ
 work_of objects (K.Value value) = 1
 work_of objects (K.Rest area charge cdr) = 3
 work_of objects (K.Fields name index) = 2 * (length (fields_in (object_at objects name).body) - index) + 2
 work_of objects (K.Close bracket) = 1
 
 -- How much work remains. To enter an object is counted as 5,000, which is more than its form needs: a block has at most 2,047 fields.
-abbrev pub work_left : List Object → List Task → Marks → ℕ
+abbrev pub work_left : List Object → List PrintTask → Marks → ℕ
 work_left objects tasks marks = sum_by (work_of objects) tasks + 5000 * (length marks.counts - length marks.names)
 
 -- A step: some tokens are added, and the tasks that replace one print the rest of its tokens.
-pub record Steps (world : World) (task : Task) (before : List Task) (old new : Printer) : Type 0 where
-  pub pushed : List Task
+pub record Steps (world : World) (task : PrintTask) (before : List PrintTask) (old new : Printer) : Type 0 where
+  pub pushed : List PrintTask
   pub tokens : List Token
   pub tasks : new.tasks.items ≡ before ++ pushed
   pub adds : Adds world.areas tokens old.text new.text
@@ -83,7 +83,7 @@ pub record Steps (world : World) (task : Task) (before : List Task) (old new : P
 
 -- The form of an object begins: some tokens are added, and some tasks print the rest.
 pub record Opens (world : World) (name : ℕ) (old new : Printer) : Type 0 where
-  pub pushed : List Task
+  pub pushed : List PrintTask
   pub tokens : List Token
   pub tasks : new.tasks.items ≡ old.tasks.items ++ pushed
   pub adds : Adds world.areas tokens old.text new.text

@@ -22,7 +22,7 @@ use world_text::{push_areas, push_capacity, push_space};
 fn header(alloc: Global, world: &World) -> Result<TokenText, NoMemory>
     requires { world.now.space.levels ≤ 6 }
     ensures text { IfOk result (λ line. line.text ≡ header_text world.now.space world.now.areas) }
-    ensures joined { IfOk result (λ line. line.joined ≡ true) }
+    ensures after { IfOk result (λ line. line.joined ≡ true) }
 {
     let mut text = Text::new(alloc);
     text.push_all(b"sexpr-world 1\n")?;
@@ -43,7 +43,7 @@ fn print_register(
     requires size { length printer.old.printed.counts ≡ length world.now.objects }
     requires refers { RefersBelow (length world.now.objects) value }
     requires idle { printer.old.tasks.items ≡ [] }
-    requires joined { printer.old.text.joined ≡ true }
+    requires open { printer.old.text.joined ≡ true }
     ensures { OnOk result (PrintsRegister world.now register value printer.old printer.new) }
 {
     if is_nil(value) {
@@ -59,10 +59,10 @@ fn print_register(
 /// Prints a line for each register that isn't nil.
 fn print_roots(printer: &mut Printer, world: &World) -> Result<(), NoMemory>
     requires graph { IsGraph (opening world.now) }
-    requires few { length world.now.roots ≤ 256 }
+    requires at_most { length world.now.roots ≤ 256 }
     requires size { length printer.old.printed.counts ≡ length world.now.objects }
     requires idle { printer.old.tasks.items ≡ [] }
-    requires joined { printer.old.text.joined ≡ true }
+    requires open { printer.old.text.joined ≡ true }
     ensures { OnOk result (PrintsLines world.now 0 world.now.roots printer.old printer.new) }
 {
     let roots = world.roots.as_slice();
@@ -88,7 +88,7 @@ fn print_end(line: &mut TokenText, world: &World) -> Result<(), NoMemory>
 /// if memory runs out, or if the registers reach more than 2^32 - 1 objects.
 pub fn print_sexpr(alloc: Global, world: &World) -> Result<Text, NoMemory>
     requires { IsWorld world.now }
-    ensures is { IfOk result (λ text. IsPrint world.now text) }
+    ensures value { IfOk result (λ text. IsPrint world.now text) }
 {
     let numbering = reached(alloc, world)?;
     let counts = references_of(alloc, world, &numbering.keys)?;

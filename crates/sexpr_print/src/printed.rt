@@ -30,8 +30,8 @@ impl Printed {
 
     /// Before any object is printed. Contracts see the references to each object, and the names that were printed.
     pub fn new(alloc: Global, counts: Sequence<References>) -> Result<Printed, NoMemory>
-        ensures counts { IfOk result (λ printed. printed.counts ≡ counts) }
-        ensures names { IfOk result (λ printed. printed.names ≡ []) }
+        ensures value { IfOk result (λ printed. printed.counts ≡ counts) }
+        ensures empty { IfOk result (λ printed. printed.names ≡ []) }
     {
         let mut labels = Sequence::new(alloc);
         labels.pad(counts.len() as usize, None)?;
@@ -61,11 +61,11 @@ impl Printed {
 
     /// Adds an object that is printed for the first time. The result is its label; None if it isn't shared.
     pub fn add(&mut self, name: u64) -> Result<Option<u32>, NoMemory>
-        requires within { name < length self.old.counts }
+        requires in_range { name < length self.old.counts }
         requires first { label_in self.old name ≡ None }
-        ensures is { IfOk result (λ label. label ≡ new_label self.old name) }
-        ensures names { OnOk result (self.new.names ≡ self.old.names ++ name ∷ []) }
-        ensures counts { OnOk result (self.new.counts ≡ self.old.counts) }
+        ensures value { IfOk result (λ label. label ≡ new_label self.old name) }
+        ensures after { OnOk result (self.new.names ≡ self.old.names ++ name ∷ []) }
+        ensures unchanged { OnOk result (self.new.counts ≡ self.old.counts) }
         ensures room { OnOk result (length self.new.names ≤ length self.new.counts) }
     {
         let label = self.next;

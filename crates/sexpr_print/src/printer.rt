@@ -9,7 +9,7 @@ ghost use Rattle.sexpr_print.specs.Printing.{bracket_of, next_of};
 ghost use Rattle.sexpr_print.specs.Tasks.{fields_in};
 
 use crate::printed::Printed;
-use crate::task::Task;
+use crate::task::PrintTask;
 use crate::token_text::{TokenText, number_token};
 use lisp_graph::{AreaRule, Body, NoMemory, Object, Value, World, object_at};
 use sexpr_text::{Bracket, Token};
@@ -44,9 +44,9 @@ struct Next {
 fn next_of(objects: &[Object], printed: &Printed, area: u8, charge: u32, cdr: Value) -> Option<Next>
     requires size { length printed.now.counts ≡ length objects.now }
     requires refers { RefersBelow (length objects.now) cdr }
-    ensures is { option_map (λ next. next.name) result ≡ next_of objects.now (shared_in printed.now.counts) printed.now.names area charge cdr }
-    ensures body { IfSome result (λ next. (object_at objects.now next.name).body ≡ a_cons next.car next.cdr) }
-    ensures within { IfSome result (λ next. next.name < length objects.now) }
+    ensures value { option_map (λ next. next.name) result ≡ next_of objects.now (shared_in printed.now.counts) printed.now.names area charge cdr }
+    ensures some { IfSome result (λ next. (object_at objects.now next.name).body ≡ a_cons next.car next.cdr) }
+    ensures in_range { IfSome result (λ next. next.name < length objects.now) }
 {
     let Value::Ref(name) = cdr else {
         return None;
@@ -68,8 +68,8 @@ fn next_of(objects: &[Object], printed: &Printed, area: u8, charge: u32, cdr: Va
 
 /// The field of a block at this index.
 fn field_at(body: &Body, index: u64) -> Option<Value>
-    ensures is { result ≡ slice_get (fields_in body.now) index }
-    ensures within { IfSome result (λ _. index < length (fields_in body.now)) }
+    ensures value { result ≡ slice_get (fields_in body.now) index }
+    ensures in_range { IfSome result (λ _. index < length (fields_in body.now)) }
 {
     match body {
         Body::Cons { .. } => None,
@@ -83,7 +83,7 @@ pub struct Printer {
     pub printed: Printed,
     pub text: TokenText,
     /// The last task is done first.
-    pub tasks: Vec<Task>,
+    pub tasks: Vec<PrintTask>,
 }
 
 impl Printer {
@@ -92,7 +92,7 @@ impl Printer {
     ghost use Rattle.lisp_graph.specs.Graph.{IsGraph, RefersBelow};
     ghost use Rattle.lisp_graph.specs.World.{opening};
     ghost use Rattle.lisp_graph.specs.declared.object.Value.TheVariants.{Fix as a_fix, Ref as a_ref};
-    ghost use Rattle.sexpr_print.specs.declared.task.Task.TheVariants.{Value as a_value, Rest as a_rest, Fields as some_fields, Close as a_close};
+    ghost use Rattle.sexpr_print.specs.declared.task.PrintTask.TheVariants.{Value as a_value, Rest as a_rest, Fields as some_fields, Close as a_close};
     ghost use Rattle.sexpr_print.specs.Marks.{label_in};
     ghost use Rattle.sexpr_print.specs.Tasks.{IsTask, Opens, Ran, Steps, Wrote};
     ghost use Rattle.sexpr_print.specs.Writing.{Adds};
@@ -101,19 +101,19 @@ impl Printer {
 
     /// Begins a cons, after its opening bracket or the element before it.
     fn cons(&mut self, area: u8, charge: u32, car: Value, cdr: Value) -> Result<(), NoMemory>
-        ensures tasks { OnOk result (self.new.tasks.items ≡ self.old.tasks.items ++ (a_rest area charge cdr ∷ a_value car ∷ [])) }
-        ensures printed { self.new.printed ≡ self.old.printed }
+        ensures after { OnOk result (self.new.tasks.items ≡ self.old.tasks.items ++ (a_rest area charge cdr ∷ a_value car ∷ [])) }
+        ensures unchanged { self.new.printed ≡ self.old.printed }
         ensures text { self.new.text ≡ self.old.text }
     {
-        self.tasks.push(Task::Rest { area, charge, cdr })?;
-        self.tasks.push(Task::Value(car))?;
+        self.tasks.push(PrintTask::Rest { area, charge, cdr })?;
+        self.tasks.push(PrintTask::Value(car))?;
         Ok(())
     }
 
     /// Begins a block.
     fn block(&mut self, areas: &[AreaRule], name: u64, area: u8, code: u16) -> Result<(), NoMemory>
-        ensures tasks { OnOk result (self.new.tasks.items ≡ self.old.tasks.items ++ some_fields name 0 ∷ []) }
-        ensures printed { self.new.printed ≡ self.old.printed }
+        ensures after { OnOk result (self.new.tasks.items ≡ self.old.tasks.items ++ some_fields name 0 ∷ []) }
+        ensures unchanged { self.new.printed ≡ self.old.printed }
         ensures text { OnOk result (Adds areas.now (an_open (Some area) a_curly ∷ an_atom (a_fix (pos code)) ∷ []) self.old.text self.new.text) }
     {
         let open = Token::Open {
@@ -122,14 +122,14 @@ impl Printer {
         };
         self.text.add(areas, open)?;
         self.text.add(areas, number_token(code))?;
-        self.tasks.push(Task::Fields { name, index: 0 })?;
+        self.tasks.push(PrintTask::Fields { name, index: 0 })?;
         Ok(())
     }
 
     /// Prints the form of an object, up to its first value.
     fn form(&mut self, world: &World, name: u64) -> Result<(), NoMemory>
         requires graph { IsGraph (opening world.now) }
-        requires within { name < length world.now.objects }
+        requires in_range { name < length world.now.objects }
         ensures { OnOk result (Opens world.now name self.old self.new) }
     {
         let areas = world.areas.as_slice();
@@ -151,7 +151,7 @@ impl Printer {
     fn first(&mut self, world: &World, name: u64) -> Result<(), NoMemory>
         requires graph { IsGraph (opening world.now) }
         requires size { length self.old.printed.counts ≡ length world.now.objects }
-        requires within { name < length world.now.objects }
+        requires in_range { name < length world.now.objects }
         requires first { label_in self.old.printed name ≡ None }
         ensures { OnOk result (Steps world.now (a_value (a_ref name)) self.old.tasks.items self.old self.new) }
     {
@@ -179,13 +179,13 @@ impl Printer {
 
     /// Prints the dot, and leaves the last cdr of a list form to be printed.
     fn dotted(&mut self, areas: &[AreaRule], bracket: Bracket, cdr: Value) -> Result<(), NoMemory>
-        ensures tasks { OnOk result (self.new.tasks.items ≡ self.old.tasks.items ++ (a_close bracket ∷ a_value cdr ∷ [])) }
-        ensures printed { self.new.printed ≡ self.old.printed }
+        ensures after { OnOk result (self.new.tasks.items ≡ self.old.tasks.items ++ (a_close bracket ∷ a_value cdr ∷ [])) }
+        ensures unchanged { self.new.printed ≡ self.old.printed }
         ensures text { OnOk result (Adds areas.now (a_dot ∷ []) self.old.text self.new.text) }
     {
         self.text.add(areas, Token::Dot)?;
-        self.tasks.push(Task::Close(bracket))?;
-        self.tasks.push(Task::Value(cdr))?;
+        self.tasks.push(PrintTask::Close(bracket))?;
+        self.tasks.push(PrintTask::Value(cdr))?;
         Ok(())
     }
 
@@ -212,7 +212,7 @@ impl Printer {
     /// Prints the fields of a block from an index on, up to the next value.
     fn fields(&mut self, world: &World, name: u64, index: u64) -> Result<(), NoMemory>
         requires graph { IsGraph (opening world.now) }
-        requires within { name < length world.now.objects }
+        requires in_range { name < length world.now.objects }
         ensures { OnOk result (Steps world.now (some_fields name index) self.old.tasks.items self.old self.new) }
     {
         let object = object_at(world.objects.as_slice(), name);
@@ -221,23 +221,23 @@ impl Printer {
             return self.text.add(world.areas.as_slice(), close);
         };
         let index = index + 1;
-        self.tasks.push(Task::Fields { name, index })?;
-        self.tasks.push(Task::Value(value))?;
+        self.tasks.push(PrintTask::Fields { name, index })?;
+        self.tasks.push(PrintTask::Value(value))?;
         Ok(())
     }
 
     /// Does the next part of a task.
-    fn step(&mut self, world: &World, task: Task) -> Result<(), NoMemory>
+    fn step(&mut self, world: &World, task: PrintTask) -> Result<(), NoMemory>
         requires graph { IsGraph (opening world.now) }
         requires size { length self.old.printed.counts ≡ length world.now.objects }
         requires sound { IsTask (length world.now.objects) task }
         ensures { OnOk result (Steps world.now task self.old.tasks.items self.old self.new) }
     {
         match task {
-            Task::Value(value) => self.value(world, value),
-            Task::Rest { area, charge, cdr } => self.rest(world, area, charge, cdr),
-            Task::Fields { name, index } => self.fields(world, name, index),
-            Task::Close(bracket) => {
+            PrintTask::Value(value) => self.value(world, value),
+            PrintTask::Rest { area, charge, cdr } => self.rest(world, area, charge, cdr),
+            PrintTask::Fields { name, index } => self.fields(world, name, index),
+            PrintTask::Close(bracket) => {
                 let close = Token::Close(bracket);
                 self.text.add(world.areas.as_slice(), close)
             }
@@ -263,10 +263,10 @@ impl Printer {
         requires size { length self.old.printed.counts ≡ length world.now.objects }
         requires refers { RefersBelow (length world.now.objects) value }
         requires idle { self.old.tasks.items ≡ [] }
-        ensures is { OnOk result (Wrote world.now value self.old self.new) }
-        ensures idle { OnOk result (self.new.tasks.items ≡ []) }
+        ensures value { OnOk result (Wrote world.now value self.old self.new) }
+        ensures done { OnOk result (self.new.tasks.items ≡ []) }
     {
-        self.tasks.push(Task::Value(value))?;
+        self.tasks.push(PrintTask::Value(value))?;
         self.run(world)
     }
 }

@@ -13,9 +13,9 @@ use world_text::{DumpFault, Numbering, numbering_of};
 /// The names of the objects that the registers of a world reach.
 pub fn reached(alloc: Global, world: &World) -> Result<Numbering, NoMemory>
     requires graph { IsGraph (opening world.now) }
-    requires roots { length world.now.roots ≡ world.now.space.registers }
-    ensures is { IfOk result (λ numbering. IsNumbering (keyed (opening world.now)) numbering.keys) }
-    ensures below { IfOk result (λ numbering. All (λ name. name < length world.now.objects) numbering.keys) }
+    requires size { length world.now.roots ≡ world.now.space.registers }
+    ensures value { IfOk result (λ numbering. IsNumbering (keyed (opening world.now)) numbering.keys) }
+    ensures in_range { IfOk result (λ numbering. All (λ name. name < length world.now.objects) numbering.keys) }
 {
     match numbering_of(alloc, &mut WorldWalk::new(world)) {
         Ok(numbering) => Ok(numbering),

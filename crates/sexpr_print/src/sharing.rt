@@ -8,7 +8,7 @@ ghost use Rattle.sexpr_print.specs.Sharing.{AreCounted, Counts, is_many, one_mor
 
 use lisp_graph::{Body, NoMemory, Object, Sequence, Value, World, object_at};
 use std::alloc::Global;
-use world_text::Keys;
+use world_text::KeyNumbers;
 
 /// How many places refer to an object, counted up to two.
 #[derive(Clone, Copy, Debug, PartialEq, Eq)]
@@ -71,10 +71,10 @@ fn count_parts(counts: &mut Sequence<References>, body: &Body)
 }
 
 /// Counts what the objects with these names hold.
-fn count_objects(counts: &mut Sequence<References>, objects: &[Object], names: &Keys)
+fn count_objects(counts: &mut Sequence<References>, objects: &[Object], names: &KeyNumbers)
     requires size { length counts.old ≡ length objects.now }
-    requires objects { All (IsObject (length objects.now)) objects.now }
-    requires names { All (λ name. name < length objects.now) names.now }
+    requires sound { All (IsObject (length objects.now)) objects.now }
+    requires in_range { All (λ name. name < length objects.now) names.now }
     ensures { Counts (flat_map (λ name. parts (object_at objects.now name).body) names.now) counts.old counts.new }
 {
     let mut number = 0;
@@ -88,11 +88,11 @@ fn count_objects(counts: &mut Sequence<References>, objects: &[Object], names: &
 pub fn references_of(
     alloc: Global,
     world: &World,
-    names: &Keys,
+    names: &KeyNumbers,
 ) -> Result<Sequence<References>, NoMemory>
     requires graph { IsGraph (opening world.now) }
-    requires names { All (λ name. name < length world.now.objects) names.now }
-    ensures is { IfOk result (λ counts. AreCounted (held (opening world.now) names.now) counts) }
+    requires in_range { All (λ name. name < length world.now.objects) names.now }
+    ensures value { IfOk result (λ counts. AreCounted (held (opening world.now) names.now) counts) }
     ensures size { IfOk result (λ counts. length counts ≡ length world.now.objects) }
 {
     let objects = world.objects.as_slice();

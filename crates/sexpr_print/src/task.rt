@@ -4,7 +4,7 @@ use sexpr_text::Bracket;
 
 /// A part of a form that remains to be printed.
 #[derive(Clone, Copy, Debug)]
-pub enum Task {
+pub enum PrintTask {
     Value(Value),
     /// What follows the car of a cons of this area and charge.
     Rest { area: u8, charge: u32, cdr: Value },

@@ -122,7 +122,7 @@ impl TokenText {
     /// Ends the line.
     pub fn end_line(&mut self) -> Result<(), NoMemory>
         ensures text { OnOk result (self.new.text ≡ self.old.text ++ 10 ∷ []) }
-        ensures joined { OnOk result (self.new.joined ≡ true) }
+        ensures after { OnOk result (self.new.joined ≡ true) }
     {
         self.text.push_all(b"\n")?;
         self.joined = true;

@@ -20,8 +20,8 @@ use Rattle.sexpr_text.specs.declared.fault.SexprFault.{SexprFault}
 use Rattle.sexpr_text.specs.declared.fault.SexprFault.TheVariants.{Bad, TooSmall, NoMemory}
 use Rattle.sexpr_text.specs.declared.begun.Inside.{Inside}
 use Rattle.sexpr_text.specs.declared.begun.Inside.TheVariants as I
-use Rattle.sexpr_text.specs.declared.task.Task.{Task}
-use Rattle.sexpr_text.specs.declared.task.Task.TheVariants.{Conses, Behind, Close, Fields}
+use Rattle.sexpr_text.specs.declared.task.ParseTask.{ParseTask}
+use Rattle.sexpr_text.specs.declared.task.ParseTask.TheVariants.{Conses, Behind, Close, Fields}
 use Rattle.sexpr_text.specs.Pieces.{is_end, line_at, token_at}
 use Rattle.sexpr_text.specs.Reading.{Beginning, IsFault, MayGive, Read, Reader, begun, cdr_behind, closed, closes, conses, cons_in, expression, fields, is_dot, misplaced, read_inside, refused, surplus}
 use Rattle.sexpr_text.specs.Tasks.{AllLead, Does, Fails, IsMade, Leads, TaskState, Steps, grown, grown_value, hole, holes_in, tasks_in}
@@ -207,7 +207,7 @@ grown_count : (objects others : List Object) (one : Object) → length objects �
 grown_count objects others one = omega (arith, length-append (objects ++ one ∷ []) others, count_more objects one)
 
 -- the next cons, whose car has begun
-pub cons_steps : (area : ℕ) (bracket : Bracket) (before now : List Task) (old new : TaskState) (b : Beginning) (next : ℕ)
+pub cons_steps : (area : ℕ) (bracket : Bracket) (before now : List ParseTask) (old new : TaskState) (b : Beginning) (next : ℕ)
     → begun next old.labels old.pieces ≡ Ok b → next ≡ length old.objects + 1
     → now ≡ (before ++ Behind (length old.objects) area bracket b.value ∷ []) ++ tasks_in b.inside (length (old.objects ++ cons_in area bracket b.value Nil ∷ []))
     → new ≡ state ((old.objects ++ cons_in area bracket b.value Nil ∷ []) ++ holes_in b.inside) b.labels b.rest
@@ -215,7 +215,7 @@ pub cons_steps : (area : ℕ) (bracket : Bracket) (before now : List Task) (old 
 cons_steps area bracket before now old new b next is at tasks there =
     let made : List Object = old.objects ++ cons_in area bracket b.value Nil ∷ [] in
     let first : begun (length old.objects + 1) old.labels old.pieces ≡ Ok b = ap (λ n. begun n old.labels old.pieces) (sym at) ∙ is in
-    let pushed : List Task = Behind (length old.objects) area bracket b.value ∷ tasks_in b.inside (length made) in
+    let pushed : List ParseTask = Behind (length old.objects) area bracket b.value ∷ tasks_in b.inside (length made) in
     let less = fewer_of (length old.objects + 1) old.labels old.pieces b first in
     let count = grown_count old.objects (holes_in b.inside) (cons_in area bracket b.value Nil) in
     let more : length old.objects < length (made ++ holes_in b.inside) = omega (arith, length-append made (holes_in b.inside), count_more old.objects (cons_in area bracket b.value Nil)) in
@@ -230,7 +230,7 @@ cons_steps area bracket before now old new b next is at tasks there =
     })
 
 -- a step after which nothing remains to be done
-done : (task : Task) (before : List Task) (old new : TaskState) → ((after : Result TaskState SexprFault) → Does task old after → Ok new ≡ after) → length old.objects ≤ length new.objects → length new.pieces < length old.pieces
+done : (task : ParseTask) (before : List ParseTask) (old new : TaskState) → ((after : Result TaskState SexprFault) → Does task old after → Ok new ≡ after) → length old.objects ≤ length new.objects → length new.pieces < length old.pieces
     → Steps task before old before new
 done task before old new leads grows takes =
     record { pushed = []; tasks = sym (append-nil before); leads = leads; made = All-nil _; grows = grows; takes = takes }
@@ -275,7 +275,7 @@ unfolding cdr_behind
 cdr_goes goes read bracket next labels pieces not_shut no_dot = rw (not_shut, no_dot) refl
 
 -- a closing bracket after an element
-pub shut_steps : (name area : ℕ) (bracket : Bracket) (car : Value) (before : List Task) (old new : TaskState) → closes bracket (token_at old.pieces) ≡ true
+pub shut_steps : (name area : ℕ) (bracket : Bracket) (car : Value) (before : List ParseTask) (old new : TaskState) → closes bracket (token_at old.pieces) ≡ true
     → new ≡ state (with_cdr old.objects name area bracket car Nil) old.labels (drop 1 old.pieces) → Steps (Behind name area bracket car) before old before new
 shut_steps name area bracket car before old new shuts there =
     let objects : List Object = with_cdr old.objects name area bracket car Nil in
@@ -325,7 +325,7 @@ goes_leads name area bracket car old not_shut no_dot after does =
           ∙ ap (λ n. grown (λ _. objects) (all n)) (sym (length-set old.objects name (cons_in area bracket car (Ref next))));
     }
 
-pub goes_steps : (name area : ℕ) (bracket : Bracket) (car : Value) (before now : List Task) (old between new : TaskState) → closes bracket (token_at old.pieces) ≡ false → is_dot (token_at old.pieces) ≡ false
+pub goes_steps : (name area : ℕ) (bracket : Bracket) (car : Value) (before now : List ParseTask) (old between new : TaskState) → closes bracket (token_at old.pieces) ≡ false → is_dot (token_at old.pieces) ≡ false
     → between ≡ state (with_cdr old.objects name area bracket car (Ref (length old.objects))) old.labels old.pieces
     → Steps (Conses area bracket) before between now new → Steps (Behind name area bracket car) before old now new
 goes_steps name area bracket car before now old between new not_shut no_dot there steps =
@@ -395,7 +395,7 @@ dot_fails fault name area bracket car old not_shut dot is after does =
     (fault_of fault _ _ (cdr_dotted (conses read does.many area bracket) read bracket next old.labels old.pieces not_shut dot)
     (refused_then fault (read next old.labels (drop 1 old.pieces)) (closed bracket) (expression_fails fault does.depth next old.labels (drop 1 old.pieces) (omega (arith, dot_fewer old.pieces, does.deep)) is))))
 
-pub dot_steps : (name area : ℕ) (bracket : Bracket) (car : Value) (before now : List Task) (old new : TaskState) (b : Beginning) → name < length old.objects → closes bracket (token_at old.pieces) ≡ false → is_dot (token_at old.pieces) ≡ true
+pub dot_steps : (name area : ℕ) (bracket : Bracket) (car : Value) (before now : List ParseTask) (old new : TaskState) (b : Beginning) → name < length old.objects → closes bracket (token_at old.pieces) ≡ false → is_dot (token_at old.pieces) ≡ true
     → begun (length old.objects) old.labels (drop 1 old.pieces) ≡ Ok b
     → now ≡ (before ++ Close bracket ∷ []) ++ tasks_in b.inside (length (with_cdr old.objects name area bracket car b.value))
     → new ≡ state (with_cdr old.objects name area bracket car b.value ++ holes_in b.inside) b.labels b.rest
@@ -431,7 +431,7 @@ fields_go : (read : Reader) (many had next : ℕ) (labels : List (ℕ × ℕ)) (
 fields_go read many had next labels pieces not_shut few = let e : nat_le 2047 had ≡ false = grind (arith, nat_tests) in rw (not_shut, e) refl
 
 -- the closing bracket
-pub block_steps : (name area code : ℕ) (values : List Value) (before : List Task) (old new : TaskState) → closes Curly (token_at old.pieces) ≡ true
+pub block_steps : (name area code : ℕ) (values : List Value) (before : List ParseTask) (old new : TaskState) → closes Curly (token_at old.pieces) ≡ true
     → new ≡ state (slice_set old.objects name (block_with area code values)) old.labels (drop 1 old.pieces) → Steps (Fields name area code values) before old before new
 block_steps name area code values before old new shuts there =
     let objects : List Object = slice_set old.objects name (block_with area code values) in
@@ -514,13 +514,13 @@ field_leads name area code values old b after made not_shut few is does =
           ∙ ap (λ r. r >>= field_more (expression does.depth) (does.many - 1) (length values) next) (expression_goes does.depth next old.labels old.pieces b does.deep is))),
     )
 
-pub field_steps : (name area code : ℕ) (values : List Value) (before now : List Task) (old new : TaskState) (b : Beginning) → name < length old.objects → closes Curly (token_at old.pieces) ≡ false → length values < 2047
+pub field_steps : (name area code : ℕ) (values : List Value) (before now : List ParseTask) (old new : TaskState) (b : Beginning) → name < length old.objects → closes Curly (token_at old.pieces) ≡ false → length values < 2047
     → begun (length old.objects) old.labels old.pieces ≡ Ok b
     → now ≡ (before ++ Fields name area code (values ++ b.value ∷ []) ∷ []) ++ tasks_in b.inside (length old.objects)
     → new ≡ state (old.objects ++ holes_in b.inside) b.labels b.rest
     → Steps (Fields name area code values) before old now new
 field_steps name area code values before now old new b made not_shut few is tasks there =
-    let task : Task = Fields name area code (values ++ b.value ∷ []) in
+    let task : ParseTask = Fields name area code (values ++ b.value ∷ []) in
     let less = fewer_of (length old.objects) old.labels old.pieces b is in
     let here : IsMade (length (old.objects ++ holes_in b.inside)) task = (omega (arith, length-append old.objects (holes_in b.inside)), omega (arith, length-append values (b.value ∷ []))) in
     let P : TaskState → Type 0 = λ s. Steps (Fields name area code values) before old now s in
@@ -536,58 +536,58 @@ field_steps name area code values before now old new b made not_shut few is task
 -- All tasks
 
 -- the last tasks lead first
-pub lead_split : (tasks pushed : List Task) (now after : Result TaskState SexprFault) → AllLead (tasks ++ pushed) now after → (between : Result TaskState SexprFault) × AllLead pushed now between × AllLead tasks between after
+pub lead_split : (tasks pushed : List ParseTask) (now after : Result TaskState SexprFault) → AllLead (tasks ++ pushed) now after → (between : Result TaskState SexprFault) × AllLead pushed now between × AllLead tasks between after
 lead_split [] pushed now after lead = (after, lead, refl)
 lead_split (task ∷ tasks) pushed now after lead =
     let rest = lead_split tasks pushed now lead.0 lead.1 in
     (rest.0, rest.1, (lead.0, rest.2, lead.2))
 
-pub lead_join : (tasks pushed : List Task) (now between after : Result TaskState SexprFault) → AllLead pushed now between → AllLead tasks between after → AllLead (tasks ++ pushed) now after
+pub lead_join : (tasks pushed : List ParseTask) (now between after : Result TaskState SexprFault) → AllLead pushed now between → AllLead tasks between after → AllLead (tasks ++ pushed) now after
 lead_join [] pushed now between after first second = let P : Result TaskState SexprFault → Type 0 = λ r. AllLead pushed now r in subst P second first
 lead_join (task ∷ tasks) pushed now between after first second = (second.0, lead_join tasks pushed now between second.0 first second.1, second.2)
 
 -- a refusal remains
-pub lead_refused : (fault : SexprFault) (tasks : List Task) (now after : Result TaskState SexprFault) → IsFault fault now → AllLead tasks now after → IsFault fault after
+pub lead_refused : (fault : SexprFault) (tasks : List ParseTask) (now after : Result TaskState SexprFault) → IsFault fault now → AllLead tasks now after → IsFault fault after
 lead_refused fault [] now after is lead = fault_of fault after now (sym lead) is
 lead_refused fault (task ∷ tasks) now after is lead = stays fault task lead.0 after (lead_refused fault tasks now lead.0 is lead.1) lead.2
   where
-    stays : (fault : SexprFault) (task : Task) (now after : Result TaskState SexprFault) → IsFault fault now → Leads task now after → IsFault fault after
+    stays : (fault : SexprFault) (task : ParseTask) (now after : Result TaskState SexprFault) → IsFault fault now → Leads task now after → IsFault fault after
     stays (Bad line reason) task (Err other) after is lead = lead ∙ is
     stays (Bad line reason) task (Ok state) after is lead = absurd (cc)
     stays (TooSmall line) task (Err other) after is lead = lead ∙ is
     stays (TooSmall line) task (Ok state) after is lead = absurd (cc)
     stays NoMemory task now after is lead = tt
 
-made_more : (one other : ℕ) → one ≤ other → (task : Task) → IsMade one task → IsMade other task
+made_more : (one other : ℕ) → one ≤ other → (task : ParseTask) → IsMade one task → IsMade other task
 made_more one other more (Conses area bracket) made = tt
 made_more one other more (Behind name area bracket car) made = omega arith
 made_more one other more (Close bracket) made = tt
 made_more one other more (Fields name area code values) made = (omega arith, made.1)
 
 -- the last task leads first
-last_leads : (items before : List Task) (task : Task) (old : TaskState) (after : Result TaskState SexprFault) → items ≡ before ++ task ∷ [] → AllLead items (Ok old) after
+last_leads : (items before : List ParseTask) (task : ParseTask) (old : TaskState) (after : Result TaskState SexprFault) → items ≡ before ++ task ∷ [] → AllLead items (Ok old) after
     → (between : Result TaskState SexprFault) × Does task old between × AllLead before between after
 last_leads items before task old after is lead =
-    let P : List Task → Type 0 = λ ts. AllLead ts (Ok old) after in
+    let P : List ParseTask → Type 0 = λ ts. AllLead ts (Ok old) after in
     let split = lead_split before (task ∷ []) (Ok old) after (subst P is lead) in
     let Q : Result TaskState SexprFault → Type 0 = λ r. Leads task r split.0 in
     (split.0, subst Q (sym split.1.1) split.1.2, split.2)
 
 -- after a step the tasks lead to the same state
-pub step_leads : (items before now : List Task) (task : Task) (old new : TaskState) (after : Result TaskState SexprFault) → items ≡ before ++ task ∷ [] → Steps task before old now new → AllLead items (Ok old) after → AllLead now (Ok new) after
+pub step_leads : (items before now : List ParseTask) (task : ParseTask) (old new : TaskState) (after : Result TaskState SexprFault) → items ≡ before ++ task ∷ [] → Steps task before old now new → AllLead items (Ok old) after → AllLead now (Ok new) after
 step_leads items before now task old new after is steps lead =
     let last = last_leads items before task old after is lead in
-    let P : List Task → Type 0 = λ ts. AllLead ts (Ok new) after in
+    let P : List ParseTask → Type 0 = λ ts. AllLead ts (Ok new) after in
     subst P (sym steps.tasks) (lead_join before steps.pushed (Ok new) last.0 after (steps.leads last.0 last.1) last.2)
 
-pub step_made : (items before now : List Task) (task : Task) (old new : TaskState) → items ≡ before ++ task ∷ [] → Steps task before old now new → All (IsMade (length old.objects)) items → All (IsMade (length new.objects)) now
+pub step_made : (items before now : List ParseTask) (task : ParseTask) (old new : TaskState) → items ≡ before ++ task ∷ [] → Steps task before old now new → All (IsMade (length old.objects)) items → All (IsMade (length new.objects)) now
 step_made items before now task old new is steps made =
     let rest = (All-pop (IsMade (length old.objects)) items before (Some task) is made).0 in
-    let P : List Task → Type 0 = All (IsMade (length new.objects)) in
+    let P : List ParseTask → Type 0 = All (IsMade (length new.objects)) in
     subst P (sym steps.tasks) (All-append (IsMade (length new.objects)) before steps.pushed (All-weaker (IsMade (length old.objects)) (IsMade (length new.objects)) (made_more (length old.objects) (length new.objects) steps.grows) before rest) steps.made)
 
 -- a task that is refused
-pub step_fails : (fault : SexprFault) (items before : List Task) (task : Task) (old : TaskState) (after : Result TaskState SexprFault) → items ≡ before ++ task ∷ [] → Fails task old fault → AllLead items (Ok old) after → IsFault fault after
+pub step_fails : (fault : SexprFault) (items before : List ParseTask) (task : ParseTask) (old : TaskState) (after : Result TaskState SexprFault) → items ≡ before ++ task ∷ [] → Fails task old fault → AllLead items (Ok old) after → IsFault fault after
 step_fails fault items before task old after is fails lead =
     let last = last_leads items before task old after is lead in
     lead_refused fault before last.0 after (fails last.0 last.1) last.2
@@ -595,18 +595,18 @@ step_fails fault items before task old after is fails lead =
 -- An expression
 
 -- the tasks that remain after the beginning of an expression lead to the whole of it
-pub beginning_leads : (depth : ℕ) (b : Beginning) (old between : TaskState) (tasks : List Task) → begun (length old.objects) old.labels old.pieces ≡ Ok b → length old.pieces ≤ depth
+pub beginning_leads : (depth : ℕ) (b : Beginning) (old between : TaskState) (tasks : List ParseTask) → begun (length old.objects) old.labels old.pieces ≡ Ok b → length old.pieces ≤ depth
     → tasks ≡ tasks_in b.inside (length old.objects) → between ≡ state (old.objects ++ holes_in b.inside) b.labels b.rest
     → AllLead tasks (Ok between) (grown (λ _. old.objects) (expression depth (length old.objects) old.labels old.pieces))
 beginning_leads depth b old between tasks is deep waits there =
     let next = length old.objects in
     let less = fewer_of next old.labels old.pieces b is in
-    let P : List Task → TaskState → Result TaskState SexprFault → Type 0 = λ ts s r. AllLead ts (Ok s) r in
+    let P : List ParseTask → TaskState → Result TaskState SexprFault → Type 0 = λ ts s r. AllLead ts (Ok s) r in
     let e : grown (λ _. old.objects) (read_inside (expression (depth - 1)) next b.value b.inside b.labels b.rest) ≡ grown (λ _. old.objects) (expression depth next old.labels old.pieces) =
     ap (grown (λ _. old.objects)) (sym (expression_goes depth next old.labels old.pieces b deep is)) in
     let first = enters b.inside (depth - 1) b.value old.objects b.labels b.rest (omega arith) in
     let whole : Result TaskState SexprFault = grown (λ _. old.objects) (expression depth next old.labels old.pieces) in
-    let Q : List Task → Type 0 = λ ts. P ts between whole in
+    let Q : List ParseTask → Type 0 = λ ts. P ts between whole in
     let R : TaskState → Type 0 = λ s. P (tasks_in b.inside next) s whole in
     let S : Result TaskState SexprFault → Type 0 = λ r. P (tasks_in b.inside next) (state (old.objects ++ holes_in b.inside) b.labels b.rest) r in
     subst Q (sym waits) (subst R (sym there) (subst S e first))

@@ -8,7 +8,7 @@ use Rattle.lisp_graph.specs.declared.world.World.{World}
 use Rattle.world_text.specs.declared.reading.reason.Reason.TheVariants.{LineTooLong, NotAWorld}
 use Rattle.world_text.specs.declared.fault.WorldFault.{WorldFault}
 use Rattle.world_text.specs.declared.fault.WorldFault.TheVariants as W
-use Rattle.world_text.specs.declared.reading.reader.Part.TheVariants.{Sizing}
+use Rattle.world_text.specs.declared.reading.reader.Section.TheVariants.{Sizing}
 use Rattle.world_text.specs.declared.reading.reader.WorldReader.{WorldReader}
 use Rattle.world_text.specs.Next.{◌>>=◌}
 use Rattle.world_text.specs.Reader.{Said, opening_place}

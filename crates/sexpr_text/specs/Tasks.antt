@@ -7,8 +7,8 @@ use Rattle.world_text.specs.Next.{◌>>=◌}
 use Rattle.world_text.specs.Objects.{block_with}
 use Rattle.sexpr_text.specs.declared.token.Piece.{Piece}
 use Rattle.sexpr_text.specs.declared.fault.SexprFault.{SexprFault}
-use Rattle.sexpr_text.specs.declared.task.Task.{Task}
-use Rattle.sexpr_text.specs.declared.task.Task.TheVariants.{Conses, Behind, Close, Fields}
+use Rattle.sexpr_text.specs.declared.task.ParseTask.{ParseTask}
+use Rattle.sexpr_text.specs.declared.task.ParseTask.TheVariants.{Conses, Behind, Close, Fields}
 use Rattle.sexpr_text.specs.declared.bracket.Bracket.TheVariants.{Round}
 use Rattle.sexpr_text.specs.declared.begun.Inside.{Inside}
 use Rattle.sexpr_text.specs.declared.begun.Inside.TheVariants as I
@@ -39,7 +39,7 @@ abbrev pub hole : Object
 hole = cons_in 0 Round Nil Nil
 
 -- the tasks of a form that is entered, and the place that its block takes
-abbrev pub tasks_in : Inside → ℕ → List Task
+abbrev pub tasks_in : Inside → ℕ → List ParseTask
 tasks_in I.Nothing next = []
 tasks_in (I.Conses area bracket) next = Conses area bracket ∷ []
 tasks_in (I.Block area code) next = Fields next area code [] ∷ []
@@ -58,14 +58,14 @@ pub record Enough (pieces : List Piece) (Is : ℕ → ℕ → Type 0) : Type 0 w
   pub is : Is depth many
 
 -- the state after a closing bracket
-abbrev pub shut : TaskState → Task → Result TaskState SexprFault
+abbrev pub shut : TaskState → ParseTask → Result TaskState SexprFault
 shut state (Close bracket) =
     if closes bracket (token_at state.pieces) then Ok (record state { pieces = drop 1 state.pieces })
     else refused state.pieces (misplaced (token_at state.pieces))
 shut state _ = Ok state
 
 -- a task leads from a state to this one
-abbrev pub Does : Task → TaskState → Result TaskState SexprFault → Type 0
+abbrev pub Does : ParseTask → TaskState → Result TaskState SexprFault → Type 0
 Does (Conses area bracket) state after =
     Enough state.pieces (λ depth many. after ≡ grown (λ _. state.objects) (conses (expression depth) many area bracket (length state.objects) state.labels state.pieces))
 Does (Behind name area bracket car) state after =
@@ -77,25 +77,25 @@ Does (Fields name area code values) state after =
     (fields (expression depth) many (length values) (length state.objects) state.labels state.pieces))
 
 -- a refusal remains
-abbrev pub Leads : Task → Result TaskState SexprFault → Result TaskState SexprFault → Type 0
+abbrev pub Leads : ParseTask → Result TaskState SexprFault → Result TaskState SexprFault → Type 0
 Leads task (Ok state) after = Does task state after
 Leads task (Err fault) after = after ≡ Err fault
 
 -- tasks, the last one first
-abbrev pub AllLead : List Task → Result TaskState SexprFault → Result TaskState SexprFault → Type 0
+abbrev pub AllLead : List ParseTask → Result TaskState SexprFault → Result TaskState SexprFault → Type 0
 AllLead [] now after = now ≡ after
 AllLead (task ∷ tasks) now after = (between : Result TaskState SexprFault) × AllLead tasks now between × Leads task between after
 
 -- the objects of a task exist, and a block has at most 2,047 fields
-abbrev pub IsMade : ℕ → Task → Type 0
+abbrev pub IsMade : ℕ → ParseTask → Type 0
 IsMade count (Conses area bracket) = ⊤
 IsMade count (Behind name area bracket car) = name < count
 IsMade count (Close bracket) = ⊤
 IsMade count (Fields name area code values) = (name < count) × (length values ≤ 2047)
 
 -- A step: the tasks that replace one lead from the new state to the state to which that one led from the old state, and pieces were taken.
-pub record Steps (task : Task) (before : List Task) (old : TaskState) (now : List Task) (new : TaskState) : Type 0 where
-  pub pushed : List Task
+pub record Steps (task : ParseTask) (before : List ParseTask) (old : TaskState) (now : List ParseTask) (new : TaskState) : Type 0 where
+  pub pushed : List ParseTask
   pub tasks : now ≡ before ++ pushed
   pub leads : (after : Result TaskState SexprFault) → Does task old after → AllLead pushed (Ok new) after
   pub made : All (IsMade (length new.objects)) pushed
@@ -103,5 +103,5 @@ pub record Steps (task : Task) (before : List Task) (old : TaskState) (now : Lis
   pub takes : length new.pieces < length old.pieces
 
 -- a task leads from a state to this refusal
-abbrev pub Fails : Task → TaskState → SexprFault → Type 0
+abbrev pub Fails : ParseTask → TaskState → SexprFault → Type 0
 Fails task state fault = (after : Result TaskState SexprFault) → Does task state after → IsFault fault after

@@ -23,7 +23,7 @@ pub enum Inside {
 
 /// The beginning of an expression: its value, and what remains to be read of it.
 #[derive(Clone, Copy, Debug, PartialEq, Eq)]
-pub struct Begun {
+pub struct OpenExpression {
     pub value: Value,
     pub inside: Inside,
 }
@@ -31,7 +31,7 @@ pub struct Begun {
 /// The code of a block.
 #[tactic(auto, unfolding(crate::specs::Reading::code_at))]
 fn code_at(pieces: &PieceReader) -> Result<u16, SexprFault>
-    ensures is { MayGive (λ x. x) result (code_at pieces.now) }
+    ensures value { MayGive (λ x. x) result (code_at pieces.now) }
     ensures some { OnOk result (is_end (token_at pieces.now) ≡ false) }
 {
     let number = integer_at(pieces)?;
@@ -73,11 +73,15 @@ fn form_begun(pieces: &mut PieceReader) -> Result<Inside, SexprFault>
 
 /// A form, whose first object gets the next name.
 #[tactic(auto, unfolding(crate::specs::Reading::object_begun))]
-fn object_begun(labels: &Labels, pieces: &mut PieceReader, next: u64) -> Result<Begun, SexprFault>
+fn object_begun(
+    labels: &Labels,
+    pieces: &mut PieceReader,
+    next: u64,
+) -> Result<OpenExpression, SexprFault>
     ensures { MayGive (λ b. beginning b labels.now pieces.new) result (object_begun next labels.now pieces.old) }
 {
     let inside = form_begun(pieces)?;
-    Ok(Begun {
+    Ok(OpenExpression {
         value: Value::Ref(next),
         inside,
     })
@@ -85,7 +89,11 @@ fn object_begun(labels: &Labels, pieces: &mut PieceReader, next: u64) -> Result<
 
 /// The object of a label.
 #[tactic(auto, unfolding(crate::specs::Reading::again))]
-fn again(labels: &Labels, pieces: &mut PieceReader, label: u32) -> Result<Begun, SexprFault>
+fn again(
+    labels: &Labels,
+    pieces: &mut PieceReader,
+    label: u32,
+) -> Result<OpenExpression, SexprFault>
     requires { is_end (token_at pieces.old) ≡ false }
     ensures { MayGive (λ b. beginning b labels.now pieces.new) result (again labels.now pieces.old label) }
 {
@@ -93,7 +101,7 @@ fn again(labels: &Labels, pieces: &mut PieceReader, label: u32) -> Result<Begun,
         return Err(refusal(pieces, SexprReason::NoLabel { label }));
     };
     pieces.advance();
-    Ok(Begun {
+    Ok(OpenExpression {
         value: Value::Ref(name),
         inside: Inside::Nothing,
     })
@@ -105,7 +113,7 @@ fn labelled(
     pieces: &mut PieceReader,
     next: u64,
     label: u32,
-) -> Result<Begun, SexprFault>
+) -> Result<OpenExpression, SexprFault>
     requires { token_at pieces.old ≡ a_label label }
     ensures { MayGive (λ b. beginning b labels.new pieces.new) result (begun next labels.old pieces.old) }
 {
@@ -118,13 +126,17 @@ fn labelled(
 }
 
 /// The beginning of an expression; the next new object gets the name `next`.
-pub fn begin(labels: &mut Labels, pieces: &mut PieceReader, next: u64) -> Result<Begun, SexprFault>
+pub fn begin(
+    labels: &mut Labels,
+    pieces: &mut PieceReader,
+    next: u64,
+) -> Result<OpenExpression, SexprFault>
     ensures { MayGive (λ b. beginning b labels.new pieces.new) result (begun next labels.old pieces.old) }
 {
     match pieces.token() {
         Token::Atom(value) => {
             pieces.advance();
-            Ok(Begun {
+            Ok(OpenExpression {
                 value,
                 inside: Inside::Nothing,
             })

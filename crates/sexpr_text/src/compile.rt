@@ -21,9 +21,9 @@ fn graph_behind(
     line: u64,
     text: &[u8],
 ) -> Result<(Objects, Fields), SexprFault>
-    requires few { length areas.now ≤ 16 }
+    requires at_most { length areas.now ≤ 16 }
     requires registers { registers ≤ 256 }
-    requires countable { line + length text.now < 2 ^ 63 }
+    requires in_range { line + length text.now < 2 ^ 63 }
     ensures { MayGive (λ x. x) result (graph_behind areas.now registers line text.now) }
 {
     let mut registers = Registers::new(alloc, registers)?;
@@ -36,7 +36,7 @@ fn graph_behind(
 #[tactic(auto, unfolding(crate::specs::Meaning::said_behind))]
 fn said_behind(alloc: Global, text: &[u8]) -> Result<World, SexprFault>
     requires { length text.now < 2 ^ 62 }
-    ensures is { MayGive (λ x. x) result (said_behind text.now) }
+    ensures value { MayGive (λ x. x) result (said_behind text.now) }
 {
     let head = read_header(alloc, text)?;
     let (objects, roots) = graph_behind(
@@ -66,7 +66,7 @@ fn line_of_byte(index: usize, text: &[u8]) -> u64
 /// The world that a text of at most `limit` bytes means.
 fn compile_within(alloc: Global, limit: usize, text: &[u8]) -> Result<World, SexprFault>
     requires { limit ≤ 2 ^ 40 }
-    ensures is { MayGive (λ x. x) result (meaning_within limit text.now) }
+    ensures value { MayGive (λ x. x) result (meaning_within limit text.now) }
 {
     if text.len() > limit {
         return Err(SexprFault::Bad {
@@ -92,7 +92,7 @@ fn compile_within(alloc: Global, limit: usize, text: &[u8]) -> Result<World, Sex
 /// breaks a rule; or else the first piece after the header that can't continue a text. It also fails if memory runs out. Quotas
 /// aren't tested. The text may be nested as deep as memory allows.
 pub fn compile_sexpr(alloc: Global, text: &[u8]) -> Result<World, SexprFault>
-    ensures is { MayGive (λ x. x) result (meaning text.now) }
+    ensures value { MayGive (λ x. x) result (meaning text.now) }
 {
     compile_within(alloc, 1 << 40, text)
 }

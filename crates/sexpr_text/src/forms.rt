@@ -4,7 +4,7 @@ use crate::grammar::{closes, is_dot, misplaced, refusal, surplus};
 use crate::labels::Labels;
 use crate::made::{block_with, cons_in, hole};
 use crate::piece_reader::PieceReader;
-use crate::task::Task;
+use crate::task::ParseTask;
 use crate::{Bracket, SexprFault};
 use lisp_graph::{Areas, Fields, NoMemory, Objects, Value};
 use std::alloc::Global;
@@ -17,7 +17,7 @@ pub struct Forms<'a> {
     pub labels: Labels,
     pub objects: Objects,
     /// What remains to be read of the forms that have begun. The last task is done first.
-    pub tasks: Vec<Task>,
+    pub tasks: Vec<ParseTask>,
 }
 
 impl<'a> Forms<'a> {
@@ -25,18 +25,18 @@ impl<'a> Forms<'a> {
     ghost use Rattle.sexpr_text.specs.Pieces.{pieces_of, token_at};
     ghost use Rattle.std.specs.List.{All};
     ghost use Rattle.sexpr_text.specs.declared.fault.SexprFault.{SexprFault};
-    ghost use Rattle.sexpr_text.specs.declared.task.Task.TheVariants.{Conses as a_conses, Behind as a_behind, Close as a_close, Fields as some_fields};
+    ghost use Rattle.sexpr_text.specs.declared.task.ParseTask.TheVariants.{Conses as a_conses, Behind as a_behind, Close as a_close, Fields as some_fields};
     ghost use Rattle.sexpr_text.specs.Reading.{IsFault, MayGive, expression, is_dot};
     ghost use Rattle.sexpr_text.specs.Tasks.{AllLead, Fails, IsMade, TaskState, Steps, grown_value, holes_in, state_of, tasks_in};
 
     /// Begins to read a text after its header; that text begins in this line.
     pub fn new(alloc: Global, areas: &'a Areas, line: u64, text: &'a [u8]) -> Forms<'a>
-        requires few { length areas.now ≤ 16 }
-        requires countable { line + length text.now < 2 ^ 63 }
-        ensures pieces { result.pieces ≡ pieces_of areas.now line text.now }
+        requires at_most { length areas.now ≤ 16 }
+        requires in_range { line + length text.now < 2 ^ 63 }
+        ensures value { result.pieces ≡ pieces_of areas.now line text.now }
         ensures labels { result.labels ≡ [] }
-        ensures objects { result.objects ≡ [] }
-        ensures idle { result.tasks.items ≡ [] }
+        ensures made { result.objects ≡ [] }
+        ensures done { result.tasks.items ≡ [] }
     {
         Forms {
             alloc,
@@ -49,20 +49,20 @@ impl<'a> Forms<'a> {
 
     /// Enters a form whose beginning was read.
     fn enter(&mut self, inside: Inside) -> Result<(), NoMemory>
-        ensures tasks { OnOk result (self.new.tasks.items ≡ self.old.tasks.items ++ tasks_in inside (length self.old.objects)) }
-        ensures objects { OnOk result (self.new.objects ≡ self.old.objects ++ holes_in inside) }
+        ensures after { OnOk result (self.new.tasks.items ≡ self.old.tasks.items ++ tasks_in inside (length self.old.objects)) }
+        ensures made { OnOk result (self.new.objects ≡ self.old.objects ++ holes_in inside) }
         ensures labels { self.new.labels ≡ self.old.labels }
-        ensures pieces { self.new.pieces ≡ self.old.pieces }
+        ensures unchanged { self.new.pieces ≡ self.old.pieces }
     {
         match inside {
             Inside::Nothing => {}
             Inside::Conses { area, bracket } => {
-                self.tasks.push(Task::Conses { area, bracket })?;
+                self.tasks.push(ParseTask::Conses { area, bracket })?;
             }
             Inside::Block { area, code } => {
                 let name = self.objects.len();
                 self.objects.push(hole())?;
-                self.tasks.push(Task::Fields {
+                self.tasks.push(ParseTask::Fields {
                     name,
                     area,
                     code,
@@ -85,7 +85,7 @@ impl<'a> Forms<'a> {
         let first = begin(&mut self.labels, &mut self.pieces, next)?;
         self.objects
             .push(cons_in(area, bracket, first.value, Value::Nil))?;
-        self.tasks.push(Task::Behind {
+        self.tasks.push(ParseTask::Behind {
             name,
             area,
             bracket,
@@ -104,7 +104,7 @@ impl<'a> Forms<'a> {
         car: Value,
     ) -> Result<(), SexprFault>
         requires made { name < length self.old.objects }
-        requires dot { is_dot (token_at self.old.pieces) ≡ true }
+        requires agrees { is_dot (token_at self.old.pieces) ≡ true }
         ensures ok { OnOk result (Steps (a_behind name area bracket car) self.old.tasks.items (state_of self.old) self.new.tasks.items (state_of self.new)) }
         ensures err { IfErr result (λ fault. Fails (a_behind name area bracket car) (state_of self.old) fault) }
     {
@@ -112,7 +112,7 @@ impl<'a> Forms<'a> {
         let first = begin(&mut self.labels, &mut self.pieces, self.objects.len())?;
         self.objects
             .set(name as usize, cons_in(area, bracket, car, first.value));
-        self.tasks.push(Task::Close { bracket })?;
+        self.tasks.push(ParseTask::Close { bracket })?;
         self.enter(first.inside)?;
         Ok(())
     }
@@ -161,7 +161,7 @@ impl<'a> Forms<'a> {
     /// Reads the next field of a block, or its closing bracket.
     fn field(&mut self, name: u64, area: u8, code: u16, fields: Fields) -> Result<(), SexprFault>
         requires made { name < length self.old.objects }
-        requires few { length fields ≤ 2047 }
+        requires at_most { length fields ≤ 2047 }
         ensures ok { OnOk result (Steps (some_fields name area code fields) self.old.tasks.items (state_of self.old) self.new.tasks.items (state_of self.new)) }
         ensures err { IfErr result (λ fault. Fails (some_fields name area code fields) (state_of self.old) fault) }
     {
@@ -178,7 +178,7 @@ impl<'a> Forms<'a> {
         let first = begin(&mut self.labels, &mut self.pieces, self.objects.len())?;
         let mut fields = fields;
         fields.push(first.value)?;
-        self.tasks.push(Task::Fields {
+        self.tasks.push(ParseTask::Fields {
             name,
             area,
             code,
@@ -189,21 +189,21 @@ impl<'a> Forms<'a> {
     }
 
     /// Does the next part of a task.
-    fn step(&mut self, task: Task) -> Result<(), SexprFault>
+    fn step(&mut self, task: ParseTask) -> Result<(), SexprFault>
         requires made { IsMade (length self.old.objects) task }
         ensures ok { OnOk result (Steps task self.old.tasks.items (state_of self.old) self.new.tasks.items (state_of self.new)) }
         ensures err { IfErr result (λ fault. Fails task (state_of self.old) fault) }
     {
         match task {
-            Task::Conses { area, bracket } => self.cons(area, bracket),
-            Task::Behind {
+            ParseTask::Conses { area, bracket } => self.cons(area, bracket),
+            ParseTask::Behind {
                 name,
                 area,
                 bracket,
                 car,
             } => self.behind(name, area, bracket, car),
-            Task::Close { bracket } => self.close(bracket),
-            Task::Fields {
+            ParseTask::Close { bracket } => self.close(bracket),
+            ParseTask::Fields {
                 name,
                 area,
                 code,
@@ -216,7 +216,7 @@ impl<'a> Forms<'a> {
     fn run(&mut self) -> Result<(), SexprFault>
         requires made { All (IsMade (length self.old.objects)) self.old.tasks.items }
         ensures ok { OnOk result ((after : Result TaskState SexprFault) → AllLead self.old.tasks.items (Ok (state_of self.old)) after → Ok (state_of self.new) ≡ after) }
-        ensures idle { OnOk result (self.new.tasks.items ≡ []) }
+        ensures done { OnOk result (self.new.tasks.items ≡ []) }
         ensures err { IfErr result (λ fault. (after : Result TaskState SexprFault) → AllLead self.old.tasks.items (Ok (state_of self.old)) after → IsFault fault after) }
     {
         while let Some(task) = self.tasks.pop() {
@@ -228,10 +228,10 @@ impl<'a> Forms<'a> {
     /// Reads an expression.
     pub fn expression(&mut self) -> Result<Value, SexprFault>
         requires idle { self.old.tasks.items ≡ [] }
-        ensures is { MayGive (λ value. (value, state_of self.new)) result
+        ensures value { MayGive (λ value. (value, state_of self.new)) result
             (grown_value self.old.objects (expression (length self.old.pieces) (length self.old.objects) self.old.labels self.old.pieces)) }
         ensures takes { OnOk result (length self.new.pieces < length self.old.pieces) }
-        ensures idle { OnOk result (self.new.tasks.items ≡ []) }
+        ensures done { OnOk result (self.new.tasks.items ≡ []) }
     {
         let first = begin(&mut self.labels, &mut self.pieces, self.objects.len())?;
         self.enter(first.inside)?;

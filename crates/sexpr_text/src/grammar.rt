@@ -52,8 +52,8 @@ pub fn refusal(pieces: &PieceReader, reason: SexprReason) -> SexprFault
 
 /// The number, if it is at least 0 and below the count.
 pub fn natural_below(count: u32, number: i32) -> Option<u32>
-    ensures is { result ≡ natural_below count number }
-    ensures within { IfSome result (λ n. n < count) }
+    ensures value { result ≡ natural_below count number }
+    ensures in_range { IfSome result (λ n. n < count) }
 {
     if number < 0 {
         return None;
@@ -64,7 +64,7 @@ pub fn natural_below(count: u32, number: i32) -> Option<u32>
 
 /// The integer that the next piece is.
 pub fn integer_at(pieces: &PieceReader) -> Result<i32, SexprFault>
-    ensures is { MayGive (λ x. x) result (integer_at pieces.now) }
+    ensures value { MayGive (λ x. x) result (integer_at pieces.now) }
     ensures some { OnOk result (is_end (token_at pieces.now) ≡ false) }
 {
     match pieces.token() {

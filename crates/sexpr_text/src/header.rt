@@ -10,13 +10,13 @@ use crate::pieces::is_feed;
 use crate::{SexprFault, SexprReason};
 use lisp_graph::World;
 use std::alloc::Global;
-use world_text::{Part, Reason, WorldBuilder, WorldFault};
+use world_text::{Reason, Section, WorldBuilder, WorldFault};
 
 /// The first line of a text, and the text after it.
 pub fn split_feed(text: &[u8]) -> (&[u8], &[u8])
-    ensures line { result.0.now ≡ first_line text.now }
-    ensures rest { result.1.now ≡ behind_line text.now }
-    ensures fewer { 0 < length text.now → length result.1.now < length text.now }
+    ensures after { result.0.now ≡ first_line text.now }
+    ensures unchanged { result.1.now ≡ behind_line text.now }
+    ensures left { 0 < length text.now → length result.1.now < length text.now }
 {
     match first_feed(text) {
         Some(feed) => (&text[..feed], &text[feed + 1..]),
@@ -25,8 +25,8 @@ pub fn split_feed(text: &[u8]) -> (&[u8], &[u8])
 }
 
 fn first_feed(text: &[u8]) -> Option<usize>
-    ensures is { result ≡ position is_feed text.now }
-    ensures within { IfSome result (λ place. place < length text.now) }
+    ensures value { result ≡ position is_feed text.now }
+    ensures in_range { IfSome result (λ place. place < length text.now) }
 {
     text.iter().position(|byte| is_feed(*byte))
 }
@@ -81,18 +81,18 @@ fn second_builder(alloc: Global) -> Result<WorldBuilder, SexprFault>
     }
 }
 
-fn has_objects(part: Part) -> bool
+fn has_objects(part: Section) -> bool
     ensures { result ≡ has_objects part }
 {
-    matches!(part, Part::Objects | Part::Roots | Part::Closed)
+    matches!(part, Section::Objects | Section::Roots | Section::Closed)
 }
 
 /// Reads the lines of a header after its first one, up to the `capacity` line.
 pub fn read_header(alloc: Global, text: &[u8]) -> Result<Header, SexprFault>
     requires { length text.now < 2 ^ 62 }
-    ensures is { MayGive head_of result (header (length text.now) second_place 2 text.now) }
-    ensures world { IfOk result (λ head. IsHead head.world) }
-    ensures countable { IfOk result (λ head. head.line + length head.rest.now ≤ 2 + length text.now) }
+    ensures value { MayGive head_of result (header (length text.now) second_place 2 text.now) }
+    ensures unchanged { IfOk result (λ head. IsHead head.world) }
+    ensures at_most { IfOk result (λ head. head.line + length head.rest.now ≤ 2 + length text.now) }
 {
     let mut builder = second_builder(alloc)?;
     let mut line = 2u64;

@@ -35,8 +35,8 @@ impl<'a> PieceReader<'a> {
 
     /// A reader at the first piece of a text that begins in this line.
     fn at_first(areas: &'a Areas, past: u64, line: u64, text: &'a [u8]) -> PieceReader<'a>
-        requires few { length areas.now ≤ 16 }
-        requires countable { line + length text.now < 2 ^ 63 }
+        requires at_most { length areas.now ≤ 16 }
+        requires in_range { line + length text.now < 2 ^ 63 }
         ensures { result ≡ pieces_from areas.now past 0 line text.now }
     {
         let (line, text) = skip_white(line, text);
@@ -66,8 +66,8 @@ impl<'a> PieceReader<'a> {
 
     /// A reader at the first piece of a text that begins in this line.
     pub fn new(areas: &'a Areas, line: u64, text: &'a [u8]) -> PieceReader<'a>
-        requires few { length areas.now ≤ 16 }
-        requires countable { line + length text.now < 2 ^ 63 }
+        requires at_most { length areas.now ≤ 16 }
+        requires in_range { line + length text.now < 2 ^ 63 }
         ensures { result ≡ pieces_of areas.now line text.now }
     {
         PieceReader::at_first(areas, line_past(line, text), line, text)

@@ -25,8 +25,8 @@ fn is_edge(byte: u8) -> bool
 }
 
 fn first_edge(text: &[u8]) -> Option<usize>
-    ensures is { result ≡ position is_edge text.now }
-    ensures within { IfSome result (λ edge. edge < length text.now) }
+    ensures value { result ≡ position is_edge text.now }
+    ensures in_range { IfSome result (λ edge. edge < length text.now) }
 {
     text.iter().position(|byte| is_edge(*byte))
 }
@@ -34,9 +34,9 @@ fn first_edge(text: &[u8]) -> Option<usize>
 /// How many bytes the piece has that begins here.
 pub fn piece_length(text: &[u8]) -> usize
     requires { 0 < length text.now }
-    ensures is { result ≡ piece_length text.now }
+    ensures value { result ≡ piece_length text.now }
     ensures some { 0 < result }
-    ensures within { result ≤ length text.now }
+    ensures in_range { result ≤ length text.now }
 {
     let Some(edge) = first_edge(text) else {
         return text.len();
@@ -66,9 +66,9 @@ pub fn line_past(line: u64, text: &[u8]) -> u64
 #[tactic(auto, unfolding(crate::specs::Pieces::pieces_from))]
 pub fn skip_white(first: u64, text: &[u8]) -> (u64, &[u8])
     requires { first + length text.now < 2 ^ 63 }
-    ensures same { (areas : List AreaRule) (past : ℕ) → pieces_from areas past 0 result.0 result.1.now ≡ pieces_from areas past 0 first text.now }
-    ensures countable { result.0 + length result.1.now ≤ first + length text.now }
-    ensures stops { 0 < length result.1.now → is_white (slice_index result.1.now 0) ≡ false }
+    ensures unchanged { (areas : List AreaRule) (past : ℕ) → pieces_from areas past 0 result.0 result.1.now ≡ pieces_from areas past 0 first text.now }
+    ensures at_most { result.0 + length result.1.now ≤ first + length text.now }
+    ensures end { 0 < length result.1.now → is_white (slice_index result.1.now 0) ≡ false }
 {
     let mut line = first;
     let mut rest = text;

@@ -23,7 +23,7 @@ pub struct Registers {
 impl Registers {
     /// `nil` for each register.
     pub fn new(alloc: Global, count: u32) -> Result<Registers, NoMemory>
-        ensures roots { IfOk result (λ registers. registers.roots ≡ replicate count a_nil) }
+        ensures value { IfOk result (λ registers. registers.roots ≡ replicate count a_nil) }
         ensures given { IfOk result (λ registers. registers.given ≡ replicate 256 false) }
     {
         let mut roots = Fields::new(alloc);
@@ -39,9 +39,9 @@ impl Registers {
 #[tactic(auto, unfolding(crate::specs::Roots::register_at))]
 fn register_at(registers: &Registers, pieces: &PieceReader) -> Result<usize, SexprFault>
     requires { length registers.now.roots ≤ 256 }
-    ensures is { MayGive (λ x. x) result (register_at (length registers.now.roots) registers.now.given pieces.now) }
+    ensures value { MayGive (λ x. x) result (register_at (length registers.now.roots) registers.now.given pieces.now) }
     ensures some { OnOk result (is_end (token_at pieces.now) ≡ false) }
-    ensures within { IfOk result (λ register. register < length registers.now.roots) }
+    ensures in_range { IfOk result (λ register. register < length registers.now.roots) }
 {
     let number = integer_at(pieces)?;
     let Some(register) = natural_below(registers.roots.len() as u32, number) else {
@@ -57,11 +57,11 @@ fn register_at(registers: &Registers, pieces: &PieceReader) -> Result<usize, Sex
 /// Reads the register and the expression after `root`.
 #[tactic(auto, unfolding(crate::specs::Roots::root_at))]
 fn root(forms: &mut Forms, registers: &mut Registers) -> Result<(), SexprFault>
-    requires few { length registers.old.roots ≤ 256 }
+    requires at_most { length registers.old.roots ≤ 256 }
     requires idle { forms.old.tasks.items ≡ [] }
-    ensures is { MayGive (λ _. (rooted registers.new forms.new, forms.new.pieces)) result (root_at (rooted registers.old forms.old) forms.old.pieces) }
+    ensures value { MayGive (λ _. (rooted registers.new forms.new, forms.new.pieces)) result (root_at (rooted registers.old forms.old) forms.old.pieces) }
     ensures takes { OnOk result (length forms.new.pieces < length forms.old.pieces) }
-    ensures idle { OnOk result (forms.new.tasks.items ≡ []) }
+    ensures done { OnOk result (forms.new.tasks.items ≡ []) }
     ensures count { OnOk result (length registers.new.roots ≡ length registers.old.roots) }
 {
     let register = register_at(registers, &forms.pieces)?;
@@ -84,7 +84,7 @@ fn ended(forms: &Forms) -> Result<(), SexprFault>
 
 /// Reads the roots up to the end of the text.
 pub fn roots(forms: &mut Forms, registers: &mut Registers) -> Result<(), SexprFault>
-    requires few { length registers.old.roots ≤ 256 }
+    requires at_most { length registers.old.roots ≤ 256 }
     requires idle { forms.old.tasks.items ≡ [] }
     ensures { MayGive (λ _. rooted registers.new forms.new) result (roots_from (length forms.old.pieces) (rooted registers.old forms.old) forms.old.pieces) }
 {

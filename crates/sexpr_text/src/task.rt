@@ -4,7 +4,7 @@ use lisp_graph::{Fields, Value};
 
 /// A part of a form that remains to be read.
 #[derive(Drop)]
-pub enum Task {
+pub enum ParseTask {
     /// The conses of a list form, from an element on.
     Conses {
         area: u8,

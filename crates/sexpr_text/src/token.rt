@@ -70,8 +70,8 @@ fn plain_token(piece: &[u8]) -> Token
 
 /// The token that a piece with at least one byte spells, if areas have these names.
 pub fn token_of(areas: &Areas, piece: &[u8]) -> Token
-    requires some { 0 < length piece.now }
-    requires few { length areas.now ≤ 16 }
+    requires at_least { 0 < length piece.now }
+    requires at_most { length areas.now ≤ 16 }
     ensures { result ≡ token_of areas.now piece.now }
 {
     let last = piece[piece.len() - 1];

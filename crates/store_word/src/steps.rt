@@ -30,7 +30,7 @@ impl<L: Ledger> Steps<L> {
     pub fn new(blank: Blank) -> Steps<L>
         requires name { blank.name ≡ L.name }
         requires parts { blank.parts ≡ L.parts }
-        requires one { blank.parts ≡ 1 }
+        requires at_least { blank.parts ≡ 1 }
         ensures { result ≡ 0 }
     {
         let (book, share) = blank.open();

@@ -236,7 +236,7 @@ impl Word {
     /// HEADER-FORWARD or GC-FORWARD.
     pub fn address(self) -> Option<u32>
         ensures value { result ≡ address_of self.content }
-        ensures below { IfSome result (λ at. at < 2 ^ 28) }
+        ensures in_range { IfSome result (λ at. at < 2 ^ 28) }
     {
         if has_address(self.bits) {
             Some((self.bits % (1 << 28)) as u32)
@@ -259,7 +259,7 @@ impl Word {
     /// HEADER.
     pub fn header_parts(self) -> Option<(u16, u16)>
         ensures value { result ≡ header_of self.content }
-        ensures below { IfSome result (λ parts. parts.1 ≤ 2047) }
+        ensures in_range { IfSome result (λ parts. parts.1 ≤ 2047) }
     {
         match self.content() {
             Content::Header { code, length } => Some((code, length)),
@@ -270,8 +270,8 @@ impl Word {
     /// The number that it is kept as, which is always one of the format.
     pub fn bits(self) -> u64
         ensures value { result ≡ bits_of self }
-        ensures format { IsWord result }
-        ensures back { word_from result ≡ Some self }
+        ensures sound { IsWord result }
+        ensures read { word_from result ≡ Some self }
     {
         self.bits
     }
@@ -294,7 +294,7 @@ impl Word {
 // The two bits of a cdr code.
 fn front_bits(code: CdrCode) -> u64
     ensures value { result ≡ cdr_bits code }
-    ensures small { result < 4 }
+    ensures at_most { result < 4 }
 {
     match code {
         CdrCode::Next => 0,
@@ -307,16 +307,16 @@ fn front_bits(code: CdrCode) -> u64
 // Whether the word that is kept as this number has an address.
 fn has_address(bits: u64) -> bool
     requires { IsWord bits }
-    ensures yes { OnTrue result (address_of (parts_from bits).content ≡ Some (bits % 2 ^ 28)) }
-    ensures no { OnFalse result (address_of (parts_from bits).content ≡ None) }
+    ensures on_true { OnTrue result (address_of (parts_from bits).content ≡ Some (bits % 2 ^ 28)) }
+    ensures on_false { OnFalse result (address_of (parts_from bits).content ≡ None) }
 {
     (ADDRESS_TAGS >> (bits >> 28) % 64) % 2 == 1
 }
 
 // Whether a number is kept for a word.
 fn is_word(bits: u64) -> bool
-    ensures holds { OnTrue result (IsWord bits) }
-    ensures not { OnFalse result (NoWord bits) }
+    ensures on_true { OnTrue result (IsWord bits) }
+    ensures on_false { OnFalse result (NoWord bits) }
 {
     let low = bits % (1 << 28);
     if bits >> 36 > 0 || bits >> 32 & 3 > 1 {

@@ -22,16 +22,16 @@ use Rattle.heap_state.specs.lisp_meaning.Roles.{RoleMap}
 use Rattle.heap_state.specs.lisp_meaning.Sound.{IsAllowed}
 use Rattle.heap_state.specs.lisp_meaning.Step.{Answer, Replied, Ends, Reclaims, Scavenges, Step, StepsBy, answer_of, answer_wanting, counted, exceeds, exhausted, with_over}
 use Rattle.scavenger.specs.Scan.{Scan}
-use Rattle.scavenger.specs.Collecting.{Clean}
+use Rattle.scavenger.specs.Collecting.{ScanInvariant}
 use Rattle.heap_state.specs.HasScannedAhead.{ScansAhead}
-use Rattle.heap_state.specs.Consistent.{IsConsistent}
+use Rattle.heap_state.specs.Consistent.{RepresentsState}
 use Rattle.heap_state.specs.RepresentsAll.{RepresentsAll}
 use Rattle.heap_state.specs.Laws.{AllocationIsStep, PerformsIsStep, StepsRepresent}
 use Rattle.heap_state.specs.Scans.{Scans}
 use Rattle.heap_state.specs.StepsTo.{PaysAhead, PaysFor, StepsTo}
 use Rattle.heap_state.specs.Wanting.{paid_wanting}
 use Rattle.heap_state.proofs.Allocating.{fits_quota, quota_left}
-use Rattle.heap_collect.specs.Moments.{IsStanding, StandsForSome}
+use Rattle.heap_collect.specs.Moments.{RepresentsMachineState, StandsForSome}
 use Rattle.heap_collect.proofs.Phases.{stands_for_some}
 use Rattle.heap_collect.proofs.ScannedAhead.{running_phase}
 use Rattle.test_collect.specs.Machines.{IsMachine, IsMade, IsPlayed}
@@ -94,10 +94,10 @@ scans_ahead m t scan registers k s Idle x = x
 scans_ahead m t scan registers k s (Running c) x = record { clean = x.clean; over = λ over. x.over ∙ over; work = λ going. x.work (sym x.over ∙ going) }
 
 module _ {m : Store} {t : Table} {scan : Scan} {registers : List Parts} {areas : List AreaRule} (x : IsMachine m t scan registers areas) where
-  pub standing : IsStanding m t scan registers
+  pub standing : RepresentsMachineState m t scan registers
   standing = record { map = x.map; state = x.state; represents = x.represents }
 
-  pub consistent : IsConsistent m t registers
+  pub consistent : RepresentsState m t registers
   consistent = record { map = x.map; state = x.state; represents = x.represents.represents; reach = x.represents.reach; some = subst (λ (rules : List AreaRule). 0 < length rules) (sym x.areas_are) x.some }
 
   with_state : {m' : Store} {t' : Table} {scan' : Scan} {registers' : List Parts} (k : RoleMap) (new : State) → RepresentsAll m' t' scan' registers' k new → SameWorld x.state new → length registers' ≡ length registers → IsMachine m' t' scan' registers' areas
@@ -184,10 +184,10 @@ module _ {Z : Type 0} {m : Store} {t : Table} {scan : Scan} {areas : List AreaRu
   here : IsMachine m t scan registers areas
   here = subst (λ (ws : List Parts). IsMachine m t scan ws areas) (sym lent) x
 
-  pub lent_consistent : IsConsistent m t registers
+  pub lent_consistent : RepresentsState m t registers
   lent_consistent = consistent here
 
-  pub lent_standing : IsStanding m t scan registers
+  pub lent_standing : RepresentsMachineState m t scan registers
   lent_standing = standing here
 
   pub lent_eight : length registers ≡ 8
@@ -232,7 +232,7 @@ level_is rules areas area rule level low same is =
 
 -- What remains to be scanned
 
-pub clean_of : {m : Store} {t : Table} {scan : Scan} {registers : List Parts} {areas : List AreaRule} → IsMachine m t scan registers areas → (t.aim ≡ None → ⊥) → Clean m t scan registers
+pub clean_of : {m : Store} {t : Table} {scan : Scan} {registers : List Parts} {areas : List AreaRule} → IsMachine m t scan registers areas → (t.aim ≡ None → ⊥) → ScanInvariant m t scan registers
 clean_of {m} {t} {scan} {registers} x some =
     let run = running_phase t x.state.phase x.represents.represents.aims some in
     (subst (λ (p : Phase). Scans m t scan registers x.map x.state.store p 0) run.1 x.represents.scans).clean

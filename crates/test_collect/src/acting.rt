@@ -3,12 +3,12 @@ ghost use Rattle.std.specs.Prelude.{◌≡◌, ◌<◌, ◌≤◌, length, IfSom
 ghost use Rattle.area_space.specs.View.{view};
 ghost use Rattle.heap_commands.specs.Views.{WantsGrowth};
 ghost use Rattle.heap_state.specs.Reads.{reply_of};
-ghost use Rattle.heap_state.specs.Views.{IsConsistent};
+ghost use Rattle.heap_state.specs.Views.{RepresentsState};
 ghost use Rattle.test_collect.specs.Views.{IsPlayed};
 
 use area_space::Ground;
 use heap_commands::{Growing, find_growing};
-use lisp_graph::{Reply, Short};
+use lisp_graph::{CommandHead, Reply};
 use mem_port::Memory;
 use std::sync::ledger::Ledger;
 use store_word::{Steps, SwapFault, Word};
@@ -27,44 +27,44 @@ pub(crate) fn reply_of(answer: Result<Reply, SwapFault>) -> Reply
 pub(crate) fn act<M: Memory, L: Ledger>(
     ground: &mut Ground<M>,
     registers: &mut [Word],
-    command: Short,
+    command: CommandHead,
     steps: &mut Steps<L>,
 ) -> Option<Reply>
-    requires consistent { IsConsistent (view ground.old) registers.old }
-    requires eight { length registers.old ≡ 8 }
+    requires consistent { RepresentsState (view ground.old) registers.old }
+    requires size { length registers.old ≡ 8 }
     ensures some { IfSome result (λ _. IsPlayed (view ground.old) registers.old (view ground.new) registers.new) }
     ensures none { IfNone result (((view ground.new).mem.store ≡ (view ground.old).mem.store) × (ground.new.table ≡ ground.old.table) × (registers.new ≡ registers.old)) }
 {
     match command {
-        Short::Move { to, from } if to < 8 && from < 8 => Some(reply_of(
+        CommandHead::Move { to, from } if to < 8 && from < 8 => Some(reply_of(
             heap_commands::copy_register(ground, registers, to, from, steps),
         )),
-        Short::Car { to, from } if to < 8 && from < 8 => Some(reply_of(heap_commands::car(
+        CommandHead::Car { to, from } if to < 8 && from < 8 => Some(reply_of(heap_commands::car(
             ground, registers, to, from, steps,
         ))),
-        Short::Cdr { to, from } if to < 8 && from < 8 => Some(reply_of(heap_commands::cdr(
+        CommandHead::Cdr { to, from } if to < 8 && from < 8 => Some(reply_of(heap_commands::cdr(
             ground, registers, to, from, steps,
         ))),
-        Short::Rplaca { target, from } if target < 8 && from < 8 => Some(reply_of(
+        CommandHead::Rplaca { target, from } if target < 8 && from < 8 => Some(reply_of(
             heap_commands::rplaca(ground, registers, target, from, steps),
         )),
-        Short::Rplacd { target, from } if target < 8 && from < 8 => Some(reply_of(
+        CommandHead::Rplacd { target, from } if target < 8 && from < 8 => Some(reply_of(
             heap_commands::rplacd(ground, registers, target, from, steps),
         )),
-        Short::Get { to, from, index } if to < 8 && from < 8 => Some(reply_of(heap_commands::get(
-            ground, registers, to, from, index, steps,
-        ))),
-        Short::Put {
+        CommandHead::Get { to, from, index } if to < 8 && from < 8 => Some(reply_of(
+            heap_commands::get(ground, registers, to, from, index, steps),
+        )),
+        CommandHead::Put {
             target,
             index,
             from,
         } if target < 8 && from < 8 => Some(reply_of(heap_commands::put(
             ground, registers, target, index, from, steps,
         ))),
-        Short::Size { of } if of < 8 => Some(reply_of(heap_commands::size(
+        CommandHead::Size { of } if of < 8 => Some(reply_of(heap_commands::size(
             ground, registers, of, steps,
         ))),
-        Short::Eq { left, right } if left < 8 && right < 8 => Some(reply_of(heap_commands::eq(
+        CommandHead::Eq { left, right } if left < 8 && right < 8 => Some(reply_of(heap_commands::eq(
             ground, registers, left, right, steps,
         ))),
         _ => None,
@@ -79,9 +79,9 @@ pub(crate) fn grow<M: Memory, L: Ledger>(
     fields: u16,
     steps: &mut Steps<L>,
 ) -> Option<Reply>
-    requires consistent { IsConsistent (view ground.old) registers.old }
+    requires consistent { RepresentsState (view ground.old) registers.old }
     requires target { target < length registers.old }
-    requires few { fields ≤ 2047 }
+    requires at_most { fields ≤ 2047 }
     ensures { IsPlayed (view ground.old) registers.old (view ground.new) registers.new }
 {
     match find_growing(ground, registers, target, fields, steps) {
@@ -102,10 +102,10 @@ fn grow_found<M: Memory, L: Ledger>(
     charge: u32,
     steps: &mut Steps<L>,
 ) -> Option<Reply>
-    requires consistent { IsConsistent (view ground.old) registers.now }
+    requires consistent { RepresentsState (view ground.old) registers.now }
     requires target { target < length registers.now }
-    requires few { fields ≤ 2047 }
-    requires wants { WantsGrowth (view ground.old) registers.now target fields area charge }
+    requires at_most { fields ≤ 2047 }
+    requires can { WantsGrowth (view ground.old) registers.now target fields area charge }
     ensures { IsPlayed (view ground.old) registers.now (view ground.new) registers.now }
 {
     let _regions = ground.table.regions();

@@ -1,30 +1,30 @@
 //! The sessions. Areas 0, 1 and 2 are dynamic, ephemeral and static; register 7 is always nil.
 use crate::call::Call;
-use lisp_graph::{Condemn, Short};
+use lisp_graph::{CommandHead, Condemn};
 
 /// A scan to the end of a collection.
-const ALL: Call = Call::Do(Short::Scavenge { count: 1_000_000 });
+const ALL: Call = Call::Do(CommandHead::Scavenge { count: 1_000_000 });
 
-const EVICT: Call = Call::Do(Short::PageOut { count: 32 });
+const EVICT: Call = Call::Do(CommandHead::PageOut { count: 32 });
 
 /// Begins a collection of everything outside static areas.
-const FLIP: Call = Call::Do(Short::Flip {
+const FLIP: Call = Call::Do(CommandHead::Flip {
     what: Condemn::Full,
 });
 
-const RECLAIM: Call = Call::Do(Short::Reclaim);
+const RECLAIM: Call = Call::Do(CommandHead::Reclaim);
 
 // Conses in pairs and in cells, a cell that becomes a pair, blocks, and registers that hold neither a cons nor a block; in each area.
 static SHAPES: [Call; 41] = [
-    Call::Do(Short::Car { to: 0, from: 7 }),
-    Call::Do(Short::Size { of: 7 }),
-    Call::Do(Short::Make {
+    Call::Do(CommandHead::Car { to: 0, from: 7 }),
+    Call::Do(CommandHead::Size { of: 7 }),
+    Call::Do(CommandHead::Make {
         to: 0,
         area: 0,
         code: 1,
         length: 3,
     }),
-    Call::Do(Short::Cons {
+    Call::Do(CommandHead::Cons {
         to: 1,
         area: 0,
         car: 0,
@@ -36,33 +36,33 @@ static SHAPES: [Call; 41] = [
         item: 0,
         count: 5,
     },
-    Call::Do(Short::Cdr { to: 3, from: 2 }),
-    Call::Do(Short::Cdr { to: 3, from: 3 }),
-    Call::Do(Short::Rplacd { target: 3, from: 1 }),
-    Call::Do(Short::Rplacd { target: 3, from: 7 }),
-    Call::Do(Short::Put {
+    Call::Do(CommandHead::Cdr { to: 3, from: 2 }),
+    Call::Do(CommandHead::Cdr { to: 3, from: 3 }),
+    Call::Do(CommandHead::Rplacd { target: 3, from: 1 }),
+    Call::Do(CommandHead::Rplacd { target: 3, from: 7 }),
+    Call::Do(CommandHead::Put {
         target: 0,
         index: 1,
         from: 2,
     }),
-    Call::Do(Short::Put {
+    Call::Do(CommandHead::Put {
         target: 0,
         index: 3,
         from: 2,
     }),
-    Call::Do(Short::Get {
+    Call::Do(CommandHead::Get {
         to: 4,
         from: 0,
         index: 4_294_967_295,
     }),
-    Call::Do(Short::Get {
+    Call::Do(CommandHead::Get {
         to: 4,
         from: 0,
         index: 1,
     }),
-    Call::Do(Short::Eq { left: 4, right: 2 }),
-    Call::Do(Short::Rplaca { target: 4, from: 1 }),
-    Call::Do(Short::Cons {
+    Call::Do(CommandHead::Eq { left: 4, right: 2 }),
+    Call::Do(CommandHead::Rplaca { target: 4, from: 1 }),
+    Call::Do(CommandHead::Cons {
         to: 4,
         area: 1,
         car: 2,
@@ -74,18 +74,18 @@ static SHAPES: [Call; 41] = [
         item: 0,
         count: 3,
     },
-    Call::Do(Short::Make {
+    Call::Do(CommandHead::Make {
         to: 6,
         area: 1,
         code: 65_535,
         length: 256,
     }),
-    Call::Do(Short::Put {
+    Call::Do(CommandHead::Put {
         target: 6,
         index: 255,
         from: 4,
     }),
-    Call::Do(Short::Cons {
+    Call::Do(CommandHead::Cons {
         to: 3,
         area: 2,
         car: 6,
@@ -95,48 +95,48 @@ static SHAPES: [Call; 41] = [
     FLIP,
     FLIP,
     RECLAIM,
-    Call::Do(Short::Scavenge { count: 5 }),
+    Call::Do(CommandHead::Scavenge { count: 5 }),
     EVICT,
     ALL,
     EVICT,
     RECLAIM,
     RECLAIM,
-    Call::Do(Short::Make {
+    Call::Do(CommandHead::Make {
         to: 6,
         area: 0,
         code: 9,
         length: 0,
     }),
-    Call::Do(Short::Grow {
+    Call::Do(CommandHead::Grow {
         target: 6,
         length: 0,
     }),
-    Call::Do(Short::Grow {
+    Call::Do(CommandHead::Grow {
         target: 6,
         length: 1,
     }),
-    Call::Do(Short::Grow {
+    Call::Do(CommandHead::Grow {
         target: 5,
         length: 1,
     }),
-    Call::Do(Short::Move { to: 0, from: 7 }),
-    Call::Do(Short::Move { to: 2, from: 5 }),
+    Call::Do(CommandHead::Move { to: 0, from: 7 }),
+    Call::Do(CommandHead::Move { to: 2, from: 5 }),
     EVICT,
     FLIP,
     ALL,
     RECLAIM,
-    Call::Do(Short::Scavenge { count: 1 }),
+    Call::Do(CommandHead::Scavenge { count: 1 }),
 ];
 
 // Objects of two levels, that a dynamic and a static area refer to; the second collection takes those of the first that survived.
 static LEVELS: [Call; 30] = [
-    Call::Do(Short::Make {
+    Call::Do(CommandHead::Make {
         to: 0,
         area: 0,
         code: 1,
         length: 300,
     }),
-    Call::Do(Short::Make {
+    Call::Do(CommandHead::Make {
         to: 1,
         area: 2,
         code: 2,
@@ -148,34 +148,34 @@ static LEVELS: [Call; 30] = [
         item: 0,
         count: 4,
     },
-    Call::Do(Short::Cons {
+    Call::Do(CommandHead::Cons {
         to: 3,
         area: 1,
         car: 2,
         cdr: 7,
     }),
-    Call::Do(Short::Put {
+    Call::Do(CommandHead::Put {
         target: 0,
         index: 0,
         from: 2,
     }),
-    Call::Do(Short::Put {
+    Call::Do(CommandHead::Put {
         target: 1,
         index: 299,
         from: 3,
     }),
-    Call::Do(Short::Make {
+    Call::Do(CommandHead::Make {
         to: 2,
         area: 1,
         code: 3,
         length: 2,
     }),
-    Call::Do(Short::Put {
+    Call::Do(CommandHead::Put {
         target: 2,
         index: 1,
         from: 3,
     }),
-    Call::Do(Short::Make {
+    Call::Do(CommandHead::Make {
         to: 3,
         area: 1,
         code: 4,
@@ -185,22 +185,22 @@ static LEVELS: [Call; 30] = [
     Call::FlipLevels { up_to: 1 },
     ALL,
     RECLAIM,
-    Call::Do(Short::Move { to: 3, from: 7 }),
+    Call::Do(CommandHead::Move { to: 3, from: 7 }),
     Call::List {
         to: 4,
         area: 1,
         item: 1,
         count: 3,
     },
-    Call::Do(Short::Put {
+    Call::Do(CommandHead::Put {
         target: 0,
         index: 299,
         from: 4,
     }),
-    Call::Do(Short::Move { to: 4, from: 7 }),
+    Call::Do(CommandHead::Move { to: 4, from: 7 }),
     EVICT,
     Call::FlipLevels { up_to: 1 },
-    Call::Do(Short::Scavenge { count: 3 }),
+    Call::Do(CommandHead::Scavenge { count: 3 }),
     EVICT,
     ALL,
     RECLAIM,
@@ -215,13 +215,13 @@ static LEVELS: [Call; 30] = [
 
 // Base pages that are partly used at the flip. Between single scans, objects after their used words are made, written and grown.
 static CUT_PAGE: [Call; 36] = [
-    Call::Do(Short::Make {
+    Call::Do(CommandHead::Make {
         to: 0,
         area: 2,
         code: 1,
         length: 99,
     }),
-    Call::Do(Short::Make {
+    Call::Do(CommandHead::Make {
         to: 1,
         area: 0,
         code: 2,
@@ -233,63 +233,63 @@ static CUT_PAGE: [Call; 36] = [
         item: 0,
         count: 4,
     },
-    Call::Do(Short::Make {
+    Call::Do(CommandHead::Make {
         to: 3,
         area: 1,
         code: 3,
         length: 3,
     }),
-    Call::Do(Short::Put {
+    Call::Do(CommandHead::Put {
         target: 3,
         index: 2,
         from: 2,
     }),
-    Call::Do(Short::Put {
+    Call::Do(CommandHead::Put {
         target: 0,
         index: 98,
         from: 3,
     }),
-    Call::Do(Short::Put {
+    Call::Do(CommandHead::Put {
         target: 1,
         index: 98,
         from: 2,
     }),
-    Call::Do(Short::Move { to: 2, from: 7 }),
+    Call::Do(CommandHead::Move { to: 2, from: 7 }),
     EVICT,
     Call::FlipLevels { up_to: 1 },
-    Call::Do(Short::Cons {
+    Call::Do(CommandHead::Cons {
         to: 4,
         area: 2,
         car: 3,
         cdr: 0,
     }),
-    Call::Do(Short::Scavenge { count: 1 }),
-    Call::Do(Short::Make {
+    Call::Do(CommandHead::Scavenge { count: 1 }),
+    Call::Do(CommandHead::Make {
         to: 5,
         area: 0,
         code: 4,
         length: 5,
     }),
-    Call::Do(Short::Put {
+    Call::Do(CommandHead::Put {
         target: 5,
         index: 4,
         from: 4,
     }),
-    Call::Do(Short::Scavenge { count: 1 }),
-    Call::Do(Short::Get {
+    Call::Do(CommandHead::Scavenge { count: 1 }),
+    Call::Do(CommandHead::Get {
         to: 6,
         from: 0,
         index: 98,
     }),
-    Call::Do(Short::Scavenge { count: 1 }),
-    Call::Do(Short::Get {
+    Call::Do(CommandHead::Scavenge { count: 1 }),
+    Call::Do(CommandHead::Get {
         to: 2,
         from: 3,
         index: 2,
     }),
-    Call::Do(Short::Cdr { to: 6, from: 2 }),
-    Call::Do(Short::Rplacd { target: 2, from: 5 }),
-    Call::Do(Short::Scavenge { count: 9 }),
+    Call::Do(CommandHead::Cdr { to: 6, from: 2 }),
+    Call::Do(CommandHead::Rplacd { target: 2, from: 5 }),
+    Call::Do(CommandHead::Scavenge { count: 9 }),
     EVICT,
     Call::List {
         to: 6,
@@ -297,25 +297,25 @@ static CUT_PAGE: [Call; 36] = [
         item: 2,
         count: 3,
     },
-    Call::Do(Short::Rplaca { target: 4, from: 6 }),
-    Call::Do(Short::Scavenge { count: 9 }),
-    Call::Do(Short::Grow {
+    Call::Do(CommandHead::Rplaca { target: 4, from: 6 }),
+    Call::Do(CommandHead::Scavenge { count: 9 }),
+    Call::Do(CommandHead::Grow {
         target: 5,
         length: 6,
     }),
-    Call::Do(Short::Grow {
+    Call::Do(CommandHead::Grow {
         target: 0,
         length: 100,
     }),
-    Call::Do(Short::Scavenge { count: 100 }),
-    Call::Do(Short::Cons {
+    Call::Do(CommandHead::Scavenge { count: 100 }),
+    Call::Do(CommandHead::Cons {
         to: 6,
         area: 0,
         car: 6,
         cdr: 5,
     }),
     ALL,
-    Call::Do(Short::Cons {
+    Call::Do(CommandHead::Cons {
         to: 6,
         area: 1,
         car: 6,
@@ -330,90 +330,90 @@ static CUT_PAGE: [Call; 36] = [
 
 // A block that grows from no field to 2,047, the last times in other regions; its places lead to each other.
 static CHAIN: [Call; 27] = [
-    Call::Do(Short::Make {
+    Call::Do(CommandHead::Make {
         to: 0,
         area: 0,
         code: 1,
         length: 0,
     }),
-    Call::Do(Short::Cons {
+    Call::Do(CommandHead::Cons {
         to: 1,
         area: 0,
         car: 0,
         cdr: 7,
     }),
-    Call::Do(Short::Grow {
+    Call::Do(CommandHead::Grow {
         target: 0,
         length: 1,
     }),
-    Call::Do(Short::Grow {
+    Call::Do(CommandHead::Grow {
         target: 0,
         length: 2,
     }),
-    Call::Do(Short::Grow {
+    Call::Do(CommandHead::Grow {
         target: 0,
         length: 4,
     }),
-    Call::Do(Short::Grow {
+    Call::Do(CommandHead::Grow {
         target: 0,
         length: 8,
     }),
-    Call::Do(Short::Make {
+    Call::Do(CommandHead::Make {
         to: 2,
         area: 0,
         code: 2,
         length: 2_000,
     }),
-    Call::Do(Short::Grow {
+    Call::Do(CommandHead::Grow {
         target: 0,
         length: 16,
     }),
-    Call::Do(Short::Grow {
+    Call::Do(CommandHead::Grow {
         target: 0,
         length: 32,
     }),
-    Call::Do(Short::Grow {
+    Call::Do(CommandHead::Grow {
         target: 0,
         length: 64,
     }),
-    Call::Do(Short::Grow {
+    Call::Do(CommandHead::Grow {
         target: 0,
         length: 128,
     }),
-    Call::Do(Short::Grow {
+    Call::Do(CommandHead::Grow {
         target: 0,
         length: 256,
     }),
-    Call::Do(Short::Grow {
+    Call::Do(CommandHead::Grow {
         target: 0,
         length: 512,
     }),
-    Call::Do(Short::Put {
+    Call::Do(CommandHead::Put {
         target: 0,
         index: 1_022,
         from: 1,
     }),
-    Call::Do(Short::Move { to: 2, from: 7 }),
-    Call::Do(Short::Grow {
+    Call::Do(CommandHead::Move { to: 2, from: 7 }),
+    Call::Do(CommandHead::Grow {
         target: 0,
         length: 1_024,
     }),
     EVICT,
     FLIP,
-    Call::Do(Short::Car { to: 3, from: 1 }),
-    Call::Do(Short::Get {
+    Call::Do(CommandHead::Car { to: 3, from: 1 }),
+    Call::Do(CommandHead::Get {
         to: 4,
         from: 3,
         index: 1_022,
     }),
-    Call::Do(Short::Get {
+    Call::Do(CommandHead::Get {
         to: 4,
         from: 3,
         index: 2_046,
     }),
     ALL,
     RECLAIM,
-    Call::Do(Short::Grow {
+    Call::Do(CommandHead::Grow {
         target: 0,
         length: 2_047,
     }),
@@ -430,75 +430,75 @@ static GROWING: [Call; 25] = [
         item: 0,
         count: 2,
     },
-    Call::Do(Short::Make {
+    Call::Do(CommandHead::Make {
         to: 1,
         area: 0,
         code: 1,
         length: 3,
     }),
-    Call::Do(Short::Put {
+    Call::Do(CommandHead::Put {
         target: 1,
         index: 0,
         from: 0,
     }),
-    Call::Do(Short::Make {
+    Call::Do(CommandHead::Make {
         to: 2,
         area: 0,
         code: 2,
         length: 3,
     }),
-    Call::Do(Short::Put {
+    Call::Do(CommandHead::Put {
         target: 2,
         index: 2,
         from: 1,
     }),
-    Call::Do(Short::Make {
+    Call::Do(CommandHead::Make {
         to: 3,
         area: 1,
         code: 3,
         length: 3,
     }),
-    Call::Do(Short::Put {
+    Call::Do(CommandHead::Put {
         target: 3,
         index: 1,
         from: 2,
     }),
-    Call::Do(Short::Cons {
+    Call::Do(CommandHead::Cons {
         to: 4,
         area: 0,
         car: 3,
         cdr: 7,
     }),
-    Call::Do(Short::Put {
+    Call::Do(CommandHead::Put {
         target: 1,
         index: 1,
         from: 4,
     }),
     EVICT,
     FLIP,
-    Call::Do(Short::Grow {
+    Call::Do(CommandHead::Grow {
         target: 1,
         length: 4,
     }),
-    Call::Do(Short::Scavenge { count: 2 }),
-    Call::Do(Short::Grow {
+    Call::Do(CommandHead::Scavenge { count: 2 }),
+    Call::Do(CommandHead::Grow {
         target: 2,
         length: 9,
     }),
-    Call::Do(Short::Scavenge { count: 8 }),
-    Call::Do(Short::Grow {
+    Call::Do(CommandHead::Scavenge { count: 8 }),
+    Call::Do(CommandHead::Grow {
         target: 1,
         length: 300,
     }),
     EVICT,
-    Call::Do(Short::Scavenge { count: 40 }),
-    Call::Do(Short::Grow {
+    Call::Do(CommandHead::Scavenge { count: 40 }),
+    Call::Do(CommandHead::Grow {
         target: 3,
         length: 8,
     }),
     ALL,
     RECLAIM,
-    Call::Do(Short::Grow {
+    Call::Do(CommandHead::Grow {
         target: 3,
         length: 20,
     }),
@@ -509,7 +509,7 @@ static GROWING: [Call; 25] = [
 
 // Cells whose cars are old become pairs, before a scan and between two; and a flip of levels whose marks are in frames.
 static RELAID: [Call; 23] = [
-    Call::Do(Short::Make {
+    Call::Do(CommandHead::Make {
         to: 1,
         area: 0,
         code: 1,
@@ -521,40 +521,40 @@ static RELAID: [Call; 23] = [
         item: 1,
         count: 3,
     },
-    Call::Do(Short::Cdr { to: 2, from: 0 }),
-    Call::Do(Short::Rplaca { target: 2, from: 1 }),
+    Call::Do(CommandHead::Cdr { to: 2, from: 0 }),
+    Call::Do(CommandHead::Rplaca { target: 2, from: 1 }),
     EVICT,
     FLIP,
-    Call::Do(Short::Rplacd { target: 0, from: 7 }),
-    Call::Do(Short::Scavenge { count: 1 }),
-    Call::Do(Short::Rplacd { target: 2, from: 0 }),
+    Call::Do(CommandHead::Rplacd { target: 0, from: 7 }),
+    Call::Do(CommandHead::Scavenge { count: 1 }),
+    Call::Do(CommandHead::Rplacd { target: 2, from: 0 }),
     ALL,
-    Call::Do(Short::Car { to: 3, from: 0 }),
-    Call::Do(Short::Car { to: 4, from: 2 }),
-    Call::Do(Short::Eq { left: 3, right: 4 }),
+    Call::Do(CommandHead::Car { to: 3, from: 0 }),
+    Call::Do(CommandHead::Car { to: 4, from: 2 }),
+    Call::Do(CommandHead::Eq { left: 3, right: 4 }),
     RECLAIM,
-    Call::Do(Short::Make {
+    Call::Do(CommandHead::Make {
         to: 0,
         area: 2,
         code: 2,
         length: 1,
     }),
-    Call::Do(Short::Cons {
+    Call::Do(CommandHead::Cons {
         to: 1,
         area: 1,
         car: 3,
         cdr: 7,
     }),
-    Call::Do(Short::Put {
+    Call::Do(CommandHead::Put {
         target: 0,
         index: 0,
         from: 1,
     }),
-    Call::Do(Short::Move { to: 1, from: 7 }),
+    Call::Do(CommandHead::Move { to: 1, from: 7 }),
     Call::FlipLevels { up_to: 1 },
-    Call::Do(Short::Scavenge { count: 9 }),
+    Call::Do(CommandHead::Scavenge { count: 9 }),
     ALL,
-    Call::Do(Short::Get {
+    Call::Do(CommandHead::Get {
         to: 1,
         from: 0,
         index: 0,
@@ -570,13 +570,13 @@ static LARGE: [Call; 18] = [
         item: 6,
         count: 1,
     },
-    Call::Do(Short::Make {
+    Call::Do(CommandHead::Make {
         to: 1,
         area: 0,
         code: 1,
         length: 2_047,
     }),
-    Call::Do(Short::Put {
+    Call::Do(CommandHead::Put {
         target: 1,
         index: 2_046,
         from: 0,
@@ -587,14 +587,14 @@ static LARGE: [Call; 18] = [
         item: 0,
         count: 1_024,
     },
-    Call::Do(Short::Cdr { to: 3, from: 2 }),
-    Call::Do(Short::Cdr { to: 3, from: 3 }),
-    Call::Do(Short::Rplacd { target: 3, from: 2 }),
-    Call::Do(Short::Cdr { to: 4, from: 2 }),
-    Call::Do(Short::Rplaca { target: 4, from: 1 }),
+    Call::Do(CommandHead::Cdr { to: 3, from: 2 }),
+    Call::Do(CommandHead::Cdr { to: 3, from: 3 }),
+    Call::Do(CommandHead::Rplacd { target: 3, from: 2 }),
+    Call::Do(CommandHead::Cdr { to: 4, from: 2 }),
+    Call::Do(CommandHead::Rplaca { target: 4, from: 1 }),
     EVICT,
     FLIP,
-    Call::Do(Short::Scavenge { count: 3 }),
+    Call::Do(CommandHead::Scavenge { count: 3 }),
     EVICT,
     ALL,
     RECLAIM,

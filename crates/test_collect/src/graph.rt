@@ -1,7 +1,7 @@
 //! The graph of a session, kept as arrays: what each call has to answer, what the registers have to lead to, and what each area has to
 //! be charged.
 use crate::call::Call;
-use lisp_graph::{AreaKind, Condemn, Reply, Short};
+use lisp_graph::{AreaKind, CommandHead, Condemn, Reply};
 use std::alloc::Global;
 use std::test::Fail;
 use store_word::Flags;
@@ -219,7 +219,7 @@ impl Graph {
     fn make(&mut self, call: Call) -> Result<Option<Reply>, Fail> {
         let name = self.nodes.len();
         match call {
-            Call::Do(Short::Cons { to, area, car, cdr }) => {
+            Call::Do(CommandHead::Cons { to, area, car, cdr }) => {
                 self.add(area, 2, None)?;
                 self.add_part(self.register(car))?;
                 self.add_part(self.register(cdr))?;
@@ -235,7 +235,7 @@ impl Graph {
                 Ok(self.made(to, name))
             }
             Call::Do(
-                Short::Make {
+                CommandHead::Make {
                     to,
                     area,
                     code,
@@ -342,34 +342,36 @@ impl Graph {
     pub fn play(&mut self, call: Call, room: bool) -> Result<Option<Reply>, Fail> {
         self.changed = true;
         let reply = match call {
-            Call::Do(Short::Grow { target, length }) => return self.grow(target, length, room),
-            Call::Do(Short::Move { to, from }) => {
+            Call::Do(CommandHead::Grow { target, length }) => return self.grow(
+                target, length, room,
+            ),
+            Call::Do(CommandHead::Move { to, from }) => {
                 self.set_register(to, self.register(from));
                 Reply::Fine
             }
-            Call::Do(Short::Car { to, from }) => match self.cons(from) {
+            Call::Do(CommandHead::Car { to, from }) => match self.cons(from) {
                 Some(node) => self.fetch(to, node, 0),
                 None => Reply::WrongType,
             },
-            Call::Do(Short::Cdr { to, from }) => match self.cons(from) {
+            Call::Do(CommandHead::Cdr { to, from }) => match self.cons(from) {
                 Some(node) => self.fetch(to, node, 1),
                 None => Reply::WrongType,
             },
-            Call::Do(Short::Rplaca { target, from }) => match self.cons(target) {
+            Call::Do(CommandHead::Rplaca { target, from }) => match self.cons(target) {
                 Some(node) => self.store(node, 0, from),
                 None => Reply::WrongType,
             },
-            Call::Do(Short::Rplacd { target, from }) => match self.cons(target) {
+            Call::Do(CommandHead::Rplacd { target, from }) => match self.cons(target) {
                 Some(node) => self.store(node, 1, from),
                 None => Reply::WrongType,
             },
-            Call::Do(Short::Get { to, from, index }) => match self.block(from) {
+            Call::Do(CommandHead::Get { to, from, index }) => match self.block(from) {
                 Some(node) if index < node.count as u32 => self.fetch(to, node, index as usize),
                 Some(node) => Reply::NoField { length: node.count },
                 None => Reply::WrongType,
             },
             Call::Do(
-                Short::Put {
+                CommandHead::Put {
                     target,
                     index,
                     from,
@@ -379,11 +381,11 @@ impl Graph {
                 Some(node) => Reply::NoField { length: node.count },
                 None => Reply::WrongType,
             },
-            Call::Do(Short::Size { of }) => match self.block(of) {
+            Call::Do(CommandHead::Size { of }) => match self.block(of) {
                 Some(node) => Reply::Number(node.count as i32),
                 None => Reply::WrongType,
             },
-            Call::Do(Short::Eq { left, right }) => {
+            Call::Do(CommandHead::Eq { left, right }) => {
                 if self.register(left) == self.register(right) {
                     Reply::True
                 } else {
@@ -399,10 +401,10 @@ impl Graph {
     /// What a call will be charged, and to which area; None if it makes nothing.
     pub fn wanted(&self, call: Call) -> Option<(u8, u32)> {
         match call {
-            Call::Do(Short::Cons { area, .. }) => Some((area, 2)),
+            Call::Do(CommandHead::Cons { area, .. }) => Some((area, 2)),
             Call::List { area, count, .. } => Some((area, 3 * count as u32)),
-            Call::Do(Short::Make { area, length, .. }) => Some((area, length as u32 + 1)),
-            Call::Do(Short::Grow { target, length }) => {
+            Call::Do(CommandHead::Make { area, length, .. }) => Some((area, length as u32 + 1)),
+            Call::Do(CommandHead::Grow { target, length }) => {
                 let node = self.block(target)?;
                 Some((node.area, grown(node.count, length) as u32 + 1))
             }

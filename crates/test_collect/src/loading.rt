@@ -89,7 +89,7 @@ fn small_world(alloc: Global) -> Result<World, Fail>
 // A ground without objects.
 fn new_ground<M: Memory + Drop>(alloc: Global, mem: M, world: &World) -> Result<Ground<M>, Fail>
     requires fresh { IsFresh (M.seen mem) 16 1 }
-    requires small { IsSmall world.now }
+    requires at_most { IsSmall world.now }
     ensures { IfOk result (λ made. RepresentsWorld (view made) (replicate 3 (plain NilWord)) (emptied world.now)) }
 {
     let Ok(table) = RegionTable::new(alloc, &world.space, &world.areas) else {
@@ -126,7 +126,7 @@ fn run<M: Memory + Drop, L: Ledger>(
     requires fresh { IsFresh (M.seen mem) 16 1 }
     requires name { blank.name ≡ L.name }
     requires parts { blank.parts ≡ L.parts }
-    requires one { blank.parts ≡ 1 }
+    requires at_least { blank.parts ≡ 1 }
 {
     let mut steps = Steps::<L>::new(blank);
     let world = small_world(alloc)?;

@@ -14,7 +14,7 @@ use crate::making::{New, make};
 use area_space::{Ground, RegionTable};
 use heap_collect::{flip, reclaim, scavenge};
 use heap_state::commands_are_steps;
-use lisp_graph::{AreaKind, Areas, Condemn, Reply, Short};
+use lisp_graph::{AreaKind, Areas, CommandHead, Condemn, Reply};
 use mem_port::Memory;
 use scavenger::ScanSet;
 use std::alloc::Global;
@@ -48,7 +48,7 @@ impl<M: Memory + Drop> Machine<M> {
     /// A machine without objects, whose registers are nil, over a new memory of the space's size.
     pub fn new(alloc: Global, space: &Space, areas: Areas, mem: M) -> Result<Machine<M>, NoMemory>
         requires sizes { IsSpace space.now }
-        requires eight { space.now.registers ≡ 8 }
+        requires size { space.now.registers ≡ 8 }
         requires rate { space.now.rate ≡ 0 }
         requires rules { AreAreas areas }
         requires room { RoomRuleFor space.now.regions space.now.levels areas }
@@ -76,7 +76,7 @@ impl<M: Memory> Machine<M> {
             return Some(self.flip(what));
         }
         match call {
-            Call::Do(Short::Cons { to, area, car, cdr }) => self.make(
+            Call::Do(CommandHead::Cons { to, area, car, cdr }) => self.make(
                 to,
                 area,
                 New::Pair { car, cdr },
@@ -89,7 +89,7 @@ impl<M: Memory> Machine<M> {
                 count,
             } => self.make(to, area, New::List { item, count }, steps),
             Call::Do(
-                Short::Make {
+                CommandHead::Make {
                     to,
                     area,
                     code,
@@ -104,10 +104,10 @@ impl<M: Memory> Machine<M> {
                 },
                 steps,
             ),
-            Call::Do(Short::Scavenge { count }) => Some(self.scan(count, steps)),
-            Call::Do(Short::Reclaim) => Some(self.reclaim()),
-            Call::Do(Short::PageOut { count }) => Some(self.evict(count)),
-            Call::Do(Short::Grow { target, length }) => self.grow(target, length, steps),
+            Call::Do(CommandHead::Scavenge { count }) => Some(self.scan(count, steps)),
+            Call::Do(CommandHead::Reclaim) => Some(self.reclaim()),
+            Call::Do(CommandHead::PageOut { count }) => Some(self.evict(count)),
+            Call::Do(CommandHead::Grow { target, length }) => self.grow(target, length, steps),
             Call::Do(command) => self.act(command, steps),
             Call::FlipLevels { .. } => None,
         }
@@ -140,7 +140,7 @@ impl<M: Memory> Machine<M> {
     }
 
     // Does a command that makes nothing, grows nothing and doesn't collect.
-    fn act<L: Ledger>(&mut self, command: Short, steps: &mut Steps<L>) -> Option<Reply> {
+    fn act<L: Ledger>(&mut self, command: CommandHead, steps: &mut Steps<L>) -> Option<Reply> {
         let reply = act(&mut self.ground, &mut self.registers, command, steps);
         command_laws(&self.ground.mem);
         reply
@@ -240,8 +240,8 @@ fn nils(alloc: Global) -> Result<Vec<Word>, NoMemory>
 fn command_laws<M: Memory>(mem: &M)
     ensures marks { MarksHold (M.seen mem.now) }
     ensures performs { PerformsIsStep }
-    ensures allocates { AllocationIsStep }
-    ensures represents { StepsRepresent }
+    ensures err { AllocationIsStep }
+    ensures represented { StepsRepresent }
 {
     let _pages = mem.pages();
     commands_are_steps();

@@ -1,7 +1,7 @@
 //! New objects.
 ghost use Rattle.std.specs.Prelude.{◌≡◌, ◌<◌, ◌≤◌, length, IfSome, IfNone, IsTrue};
 ghost use Rattle.area_space.specs.View.{view};
-ghost use Rattle.heap_state.specs.Views.{IsConsistent};
+ghost use Rattle.heap_state.specs.Views.{RepresentsState};
 ghost use Rattle.test_collect.specs.Views.{IsMade};
 ghost use Rattle.std.specs.List.{All};
 ghost use Rattle.test_collect.specs.Machines.{HasRoomAt};
@@ -36,7 +36,7 @@ fn has_room(table: &RegionTable, area: u8, level: u8, charge: u32) -> bool
 fn items_from(item: u8, count: u16) -> Items
     requires { count ≤ 1024 }
     ensures many { length result ≡ count }
-    ensures inside { All (λ item. item < 8) result }
+    ensures in_range { All (λ item. item < 8) result }
 {
     let mut items = Items::new();
     for i in 0..count {
@@ -56,8 +56,8 @@ pub(crate) fn make<M: Memory, L: Ledger>(
     what: New,
     steps: &mut Steps<L>,
 ) -> Option<Reply>
-    requires consistent { IsConsistent (view ground.old) registers.old }
-    requires eight { length registers.old ≡ 8 }
+    requires consistent { RepresentsState (view ground.old) registers.old }
+    requires size { length registers.old ≡ 8 }
     ensures some { IfSome result (λ reply. IsMade (view ground.old) registers.old (view ground.new) registers.new area level reply) }
     ensures none { IfNone result (((view ground.new).mem.store ≡ (view ground.old).mem.store) × (ground.new.table ≡ ground.old.table) × (registers.new ≡ registers.old)) }
 {

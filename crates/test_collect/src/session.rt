@@ -8,7 +8,7 @@ use crate::call::Call;
 use crate::graph::{AREAS, Graph};
 use crate::machine::Machine;
 use crate::walk::{Tried, base_pages, check_graph, has_old, live_words, lowest_live};
-use lisp_graph::{AreaKind, AreaRule, Areas, Condemn, Name, Reply, Short};
+use lisp_graph::{AreaKind, AreaRule, Areas, CommandHead, Condemn, Name, Reply};
 use mem_port::Memory;
 use std::alloc::Global;
 use std::process::Abort;
@@ -108,16 +108,18 @@ impl<M: Memory> Session<M> {
         steps: &mut Steps<L>,
     ) -> Result<(), Fail> {
         match call {
-            Call::Do(Short::Flip { .. }) | Call::FlipLevels { .. } => self.flip(rt, call, steps)?,
-            Call::Do(Short::Scavenge { count }) => self.scan(rt, count, steps)?,
-            Call::Do(Short::Reclaim) => self.reclaim(rt, steps)?,
-            Call::Do(Short::PageOut { .. }) => assert!(rt;
+            Call::Do(CommandHead::Flip { .. }) | Call::FlipLevels { .. } => self.flip(
+                rt, call, steps,
+            )?,
+            Call::Do(CommandHead::Scavenge { count }) => self.scan(rt, count, steps)?,
+            Call::Do(CommandHead::Reclaim) => self.reclaim(rt, steps)?,
+            Call::Do(CommandHead::PageOut { .. }) => assert!(rt;
                 self.call(call, steps)? == Some(Reply::Fine)
             ),
             _ => self.act(rt, call, steps)?,
         }
         self.check_accounts(rt);
-        if self.often || matches!(call, Call::Do(Short::Reclaim)) {
+        if self.often || matches!(call, Call::Do(CommandHead::Reclaim)) {
             check_graph(rt, self.alloc, &mut self.tried, &self.graph, steps)?;
         }
         Ok(())
@@ -246,7 +248,7 @@ impl<M: Memory> Session<M> {
     ) -> Result<bool, Fail> {
         let units = self.units();
         let words = live_words(self.tried.machine.table());
-        let reply = self.call(Call::Do(Short::Scavenge { count }), steps)?;
+        let reply = self.call(Call::Do(CommandHead::Scavenge { count }), steps)?;
         let placed = live_words(self.tried.machine.table()).wrapping_sub(words);
         let scanned = units.wrapping_add(placed).wrapping_sub(self.units());
         match reply {
@@ -272,7 +274,7 @@ impl<M: Memory> Session<M> {
     // Ends a collection, if nothing remains to be scanned. No region is old then.
     fn reclaim<L: Ledger>(&mut self, rt: &impl Abort, steps: &mut Steps<L>) -> Result<(), Fail> {
         let units = self.units();
-        match self.call(Call::Do(Short::Reclaim), steps)? {
+        match self.call(Call::Do(CommandHead::Reclaim), steps)? {
             Some(Reply::Reclaimed) => {
                 assert!(rt; units == 0);
                 self.graph.reclaim(self.alloc)?;

@@ -5,7 +5,7 @@ ghost use Rattle.mem_port.specs.Store.{IsFresh};
 use crate::call::Call;
 use crate::cases::{END, SESSIONS, calls};
 use crate::session::{SPACE, Session};
-use lisp_graph::{Condemn, Short};
+use lisp_graph::{CommandHead, Condemn};
 use mem_port::{Memory, PlainMemory};
 use paged_memory::{PagedMemory, SwapMemory};
 use std::alloc::Global;
@@ -35,7 +35,7 @@ fn run<M: Memory + Drop, L: Ledger>(
     requires fresh { IsFresh (M.seen mem) 32 2 }
     requires name { blank.name ≡ L.name }
     requires parts { blank.parts ≡ L.parts }
-    requires one { blank.parts ≡ 1 }
+    requires at_least { blank.parts ≡ 1 }
 {
     let mut steps = Steps::<L>::new(blank);
     let mut tried = Session::new(alloc, mem, often)?;
@@ -139,19 +139,19 @@ impl Dice {
                 item,
                 count: self.roll(6) as u16 + 1,
             },
-            1 => Call::Do(Short::Make {
+            1 => Call::Do(CommandHead::Make {
                 to,
                 area,
                 code,
                 length: self.roll(5) as u16,
             }),
-            2 => Call::Do(Short::Make {
+            2 => Call::Do(CommandHead::Make {
                 to,
                 area,
                 code,
                 length: self.roll(300) as u16,
             }),
-            _ => Call::Do(Short::Cons {
+            _ => Call::Do(CommandHead::Cons {
                 to,
                 area,
                 car: item,
@@ -167,31 +167,31 @@ impl Dice {
         let index = self.roll(4);
         let area = self.roll(3) as u8;
         match self.roll(24) {
-            0 => Call::Do(Short::Move { to, from }),
-            1 => Call::Do(Short::Grow {
+            0 => Call::Do(CommandHead::Move { to, from }),
+            1 => Call::Do(CommandHead::Grow {
                 target: to,
                 length: self.roll(40) as u16,
             }),
-            2 | 3 => Call::Do(Short::Car { to, from }),
-            4 | 5 => Call::Do(Short::Cdr { to, from }),
-            6 => Call::Do(Short::Rplaca { target: to, from }),
-            7 | 8 => Call::Do(Short::Rplacd { target: to, from }),
-            9 => Call::Do(Short::Get { to, from, index }),
-            10 | 11 => Call::Do(Short::Put {
+            2 | 3 => Call::Do(CommandHead::Car { to, from }),
+            4 | 5 => Call::Do(CommandHead::Cdr { to, from }),
+            6 => Call::Do(CommandHead::Rplaca { target: to, from }),
+            7 | 8 => Call::Do(CommandHead::Rplacd { target: to, from }),
+            9 => Call::Do(CommandHead::Get { to, from, index }),
+            10 | 11 => Call::Do(CommandHead::Put {
                 target: to,
                 index,
                 from,
             }),
-            12 => Call::Do(Short::Flip {
+            12 => Call::Do(CommandHead::Flip {
                 what: Condemn::Full,
             }),
             13 => Call::FlipLevels {
                 up_to: index as u8 % 2 + 1,
             },
-            14 | 15 => Call::Do(Short::Scavenge { count: index + 1 }),
-            16 => Call::Do(Short::Scavenge { count: 1_000 }),
-            17 => Call::Do(Short::Reclaim),
-            18 => Call::Do(Short::PageOut { count: 8 * index }),
+            14 | 15 => Call::Do(CommandHead::Scavenge { count: index + 1 }),
+            16 => Call::Do(CommandHead::Scavenge { count: 1_000 }),
+            17 => Call::Do(CommandHead::Reclaim),
+            18 => Call::Do(CommandHead::PageOut { count: 8 * index }),
             _ => self.new_object(to, area),
         }
     }

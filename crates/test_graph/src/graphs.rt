@@ -19,8 +19,8 @@ use words::{command, reply};
 /// A world of these objects and 8 registers.
 fn world(alloc: Global, objects: Objects, roots: &[Value]) -> Result<World, NoMemory>
     requires { length roots.now ≤ 8 }
-    ensures objects { IfOk result (λ world. world.objects ≡ objects) }
-    ensures roots { IfOk result (λ world. world.roots ≡ roots.now ++ replicate (8 - length roots.now) Value.Nil) }
+    ensures made { IfOk result (λ world. world.objects ≡ objects) }
+    ensures value { IfOk result (λ world. world.roots ≡ roots.now ++ replicate (8 - length roots.now) Value.Nil) }
     ensures registers { IfOk result (λ world. world.space.registers ≡ 8) }
 {
     let mut all = Fields::from_slice(alloc, roots)?;
@@ -43,8 +43,8 @@ fn world(alloc: Global, objects: Objects, roots: &[Value]) -> Result<World, NoMe
 
 /// A cons whose cdr is itself, and a block of two fields, which is its car.
 fn small_world(alloc: Global) -> Result<World, NoMemory>
-    ensures graph { IfOk result (λ world. IsGraph (opening world)) }
-    ensures roots { IfOk result (λ world. length world.roots ≡ 8) }
+    ensures sound { IfOk result (λ world. IsGraph (opening world)) }
+    ensures value { IfOk result (λ world. length world.roots ≡ 8) }
     ensures registers { IfOk result (λ world. world.space.registers ≡ 8) }
 {
     let fields = Fields::from_slice(alloc, &[Value::Fix(7), Value::Ref(0)])?;

@@ -28,7 +28,7 @@ use Rattle.transporter.proofs.lisp_ground.PlaceRoom.{new_room}
 use Rattle.transporter.proofs.lisp_ground.Places.{place_kept_on}
 use Rattle.transporter.proofs.lisp_ground.Making.{pair_made_on, block_made_on, list_made_on}
 use Rattle.transporter.proofs.lisp_ground.Storing.{kept_on_same}
-use Rattle.transporter.specs.LiveSame.{LiveSame}
+use Rattle.transporter.specs.LiveWordsUnchanged.{LiveWordsUnchanged}
 use Rattle.transporter.specs.Writes.{Writes}
 use Rattle.transporter.proofs.Places.{end_inside}
 use Rattle.transporter.proofs.Alive.{live-opened}
@@ -103,7 +103,7 @@ module _ (m m1 : Store) (t t' : Table) (front middle : Parts) (x : IsOpen m t fr
   pub reserved_chains : t'.chains ≡ r.room.chains
   reserved_chains = ap (λ (u : Table). u.chains) r.commit ∙ committed-chains r.room (slot_of r.room 0 0) at words charge origin
 
-  opened_same : LiveSame m t m1 r.room
+  opened_same : LiveWordsUnchanged m t m1 r.room
   opened_same = live-opened r.region x.on.table (some-area x) first_level r.opens
 
   -- what was in the first class is in it

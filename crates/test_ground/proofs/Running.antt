@@ -39,9 +39,9 @@ use Rattle.transporter.proofs.lisp_ground.Closing.{kept_image}
 use Rattle.transporter.proofs.lisp_ground.Collecting.{flipped_on}
 use Rattle.transporter.proofs.lisp_ground.Standings.{old_region}
 use Rattle.transporter.proofs.lisp_ground.Storing.{kept_on_same}
-use Rattle.transporter.specs.LiveSame.{LiveSame}
+use Rattle.transporter.specs.LiveWordsUnchanged.{LiveWordsUnchanged}
 use Rattle.transporter.specs.Settling.{CanSettle, IsSettleable, SettlesOn}
-use Rattle.transporter.specs.Transports.{LaterOn, StaysOn}
+use Rattle.transporter.specs.Transports.{RepresentedByLaterMap, WordsUnchanged}
 use Rattle.test_ground.specs.Trials.{IsOpen, IsRunning}
 
 -- A new machine
@@ -198,7 +198,7 @@ pub middle-settleable : {m : Store} {t : Table} {front middle : Parts} → IsRun
 middle-settleable x = record { map = x.map; top = x.top; areas = x.areas; registers = x.first ∷ x.second ∷ []; store = x.store; aim = x.aim; value = x.second; can = middle-settles x }
 
 -- by a later map
-later-running : {m m' : Store} {t t' : Table} {front middle front' middle' : Parts} (x : IsRunning m t front middle) (y : LaterOn m t m' t' x.map x.top x.areas x.store x.aim) → t'.aim ≡ t.aim
+later-running : {m m' : Store} {t t' : Table} {front middle front' middle' : Parts} (x : IsRunning m t front middle) (y : RepresentedByLaterMap m t m' t' x.map x.top x.areas x.store x.aim) → t'.aim ≡ t.aim
     → value_of y.map.role front'.content ≡ Some x.first → value_of y.map.role middle'.content ≡ Some x.second → IsRunning m' t' front' middle'
 later-running x y aim front_is middle_is = record {
   map = y.map;
@@ -215,14 +215,14 @@ later-running x y aim front_is middle_is = record {
   reaches = x.reaches;
 }
 
-pub front-settled : {m m' : Store} {t t' : Table} {front middle new : Parts} (x : IsRunning m t front middle) → SettlesOn m t m' t' x.map x.top x.areas x.store x.aim front new → LiveSame m t m' t' → IsRunning m' t' new middle
+pub front-settled : {m m' : Store} {t t' : Table} {front middle new : Parts} (x : IsRunning m t front middle) → SettlesOn m t m' t' x.map x.top x.areas x.store x.aim front new → LiveWordsUnchanged m t m' t' → IsRunning m' t' new middle
 front-settled {middle = middle} x y alive = later-running x y.later alive.table.aim (y.value x.first x.front_is) (refined x.map.role y.later.map.role y.later.refines middle.content x.second x.middle_is)
 
-pub middle-settled : {m m' : Store} {t t' : Table} {front middle new : Parts} (x : IsRunning m t front middle) → SettlesOn m t m' t' x.map x.top x.areas x.store x.aim middle new → LiveSame m t m' t' → IsRunning m' t' front new
+pub middle-settled : {m m' : Store} {t t' : Table} {front middle new : Parts} (x : IsRunning m t front middle) → SettlesOn m t m' t' x.map x.top x.areas x.store x.aim middle new → LiveWordsUnchanged m t m' t' → IsRunning m' t' front new
 middle-settled {front = front} x y alive = later-running x y.later alive.table.aim (refined x.map.role y.later.map.role y.later.refines front.content x.first x.front_is) (y.value x.second x.middle_is)
 
 -- after a swap error, and after reads
-pub running-stays : {m m' : Store} {t t' : Table} {front middle : Parts} → IsRunning m t front middle → StaysOn m t m' t' → LiveSame m t m' t' → IsRunning m' t' front middle
+pub running-stays : {m m' : Store} {t t' : Table} {front middle : Parts} → IsRunning m t front middle → WordsUnchanged m t m' t' → LiveWordsUnchanged m t m' t' → IsRunning m' t' front middle
 running-stays x y alive = record {
   map = x.map;
   top = x.top;

@@ -32,8 +32,8 @@ impl Dice {
 
     // One to `most` registers.
     fn items(&mut self, most: u32) -> Items
-        requires some { 0 < most }
-        requires few { most < 1000 }
+        requires at_least { 0 < most }
+        requires at_most { most < 1000 }
     {
         let count = self.roll(most) + 1;
         let mut items = Items::new();

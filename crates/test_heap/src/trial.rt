@@ -35,9 +35,9 @@ fn load<M: Memory + Drop, L: Ledger>(
 ) -> Result<Heap<M>, Fail>
     requires name { blank.name ≡ L.name }
     requires parts { blank.parts ≡ L.parts }
-    requires one { blank.parts ≡ 1 }
+    requires at_least { blank.parts ≡ 1 }
     requires empty { Stands heap (opening (world_with world.now.space world.now.areas)) }
-    requires world { IsAccepted world.now }
+    requires accepted { IsAccepted world.now }
     ensures { IfOk result (λ loaded. loaded.table.kinds ≡ heap.table.kinds) }
 {
     accepted_worlds_fit();
@@ -52,7 +52,7 @@ fn load<M: Memory + Drop, L: Ledger>(
 impl<M: Memory + Drop> Trial<M> {
     /// A heap that has the objects and the roots of a world, over a new memory of its size.
     pub fn open(alloc: Global, world: &World, mem: M) -> Result<Trial<M>, Fail>
-        requires world { IsAccepted world.now }
+        requires accepted { IsAccepted world.now }
         requires fresh { IsFresh (M.seen mem) world.now.space.regions world.now.space.levels }
     {
         let Ok(heap) = Heap::open(alloc, &world.space, &world.areas, mem) else {

@@ -18,8 +18,8 @@ use Call::{AppendAll, MoveBack, PushBack, Remove};
 fn make(lists: &mut Lists, call: Call) -> bool
     requires nodes { lists.old.nodes ≡ 4 }
     requires lists { length lists.old.lists ≡ 3 }
-    ensures nodes { lists.new.nodes ≡ 4 }
-    ensures lists { length lists.new.lists ≡ 3 }
+    ensures unchanged { lists.new.nodes ≡ 4 }
+    ensures size { length lists.new.lists ≡ 3 }
 {
     match call {
         PushBack(list, node) => {
@@ -62,7 +62,7 @@ fn make(lists: &mut Lists, call: Call) -> bool
 // Whether a list has these nodes, by a walk from its front to its back, and is the owner of each.
 fn holds(lists: &Lists, list: u32, nodes: &[u32]) -> bool
     requires nodes { lists.now.nodes ≡ 4 }
-    requires list { list < length lists.now.lists }
+    requires in_range { list < length lists.now.lists }
 {
     let mut place = lists.front(list);
     for node in nodes {

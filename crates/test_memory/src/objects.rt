@@ -44,7 +44,7 @@ fn store_all<M: Memory, L: Ledger>(
 ) -> Result<(), SwapFault>
     requires { length words.now ≤ length (M.seen mem.old).words }
     ensures size { length (M.seen mem.new).words ≡ length (M.seen mem.old).words }
-    ensures stored { OnOk result ((at : ℕ) → at < length words.now
+    ensures absent { OnOk result ((at : ℕ) → at < length words.now
         → word_at (M.seen mem.new).words at ≡ word_at words.now at) }
 {
     let _pages = mem.pages();
@@ -92,7 +92,7 @@ fn script<M: Memory, L: Ledger>(rt: &impl Abort, mem: &mut M, blank: Blank) -> R
     requires fresh { IsFresh (M.seen mem.old) 5 1 }
     requires name { blank.name ≡ L.name }
     requires parts { blank.parts ≡ L.parts }
-    requires one { blank.parts ≡ 1 }
+    requires at_least { blank.parts ≡ 1 }
 {
     let mut steps = Steps::<L>::new(blank);
     store_all(mem, &example(), &mut steps)?;

@@ -21,7 +21,7 @@ const PLACES: [(u32, PagePlace, [&[u32]; 3]); 9] = [
 // Whether a bucket has these pages, by a walk from its first page to its last.
 fn has(map: &PageMap, bucket: u32, pages: &[u32]) -> bool
     requires pages { length map.now.places ≡ 10 }
-    requires bucket { bucket < length map.now.buckets }
+    requires in_range { bucket < length map.now.buckets }
 {
     let mut next = map.first_in(bucket);
     for page in pages {

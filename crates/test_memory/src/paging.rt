@@ -183,7 +183,7 @@ fn run<M: Memory, P: Memory, L: Ledger>(
     requires flat { IsFresh (P.seen plain.old) 8 2 }
     requires name { blank.name ≡ L.name }
     requires parts { blank.parts ≡ L.parts }
-    requires one { blank.parts ≡ 1 }
+    requires at_least { blank.parts ≡ 1 }
 {
     let mut steps = Steps::<L>::new(blank);
     give_levels(mem);

@@ -4,7 +4,7 @@ ghost use Rattle.input_verdict.specs.Places.{IsPlace};
 
 use super::run::words_of;
 use command_words::read_words;
-use input_verdict::{InputJudge, JudgedInput, Step, judge_line};
+use input_verdict::{InputJudge, JudgedInput, LineEffect, judge_line};
 use line_input::InputReader;
 use lisp_graph::Request;
 use std::alloc::Global;
@@ -109,8 +109,8 @@ fn letter(place: &mut JudgedInput, line: &[u8]) -> Result<char, Fail>
 {
     let mut command = Request::new();
     match judge_line(place, line, line.len().saturating_add(1), &mut command) {
-        Ok(Step::Opens) => Ok('o'),
-        Ok(Step::Does) => Ok('d'),
+        Ok(LineEffect::Opens) => Ok('o'),
+        Ok(LineEffect::Does) => Ok('d'),
         Ok(_) => Ok('.'),
         Err(_) => Err(Fail::from("refused")),
     }

@@ -21,7 +21,7 @@ const BLOCK: &str =
 /// The world of a file with few objects.
 fn world(alloc: Global, file: &str) -> Result<World, Fail>
     ensures accepted { IfOk result IsAccepted }
-    ensures few { IfOk result (λ w. length w.objects < 2 ^ 32) }
+    ensures at_most { IfOk result (λ w. length w.objects < 2 ^ 32) }
 {
     let world = world_of(alloc, file)?;
     if world.objects.len() >= 100 {
@@ -59,7 +59,7 @@ fn compare_answer(
     want: &str,
 ) -> Result<(), Fail>
     requires accepted { IsAccepted world.now }
-    requires few { length world.now.objects < 2 ^ 32 }
+    requires at_most { length world.now.objects < 2 ^ 32 }
 {
     assert!(rt; object < world.objects.len());
     let answer = why(alloc, world, object)?;
@@ -84,7 +84,7 @@ fn why_objects_are_held(rt: HostRuntime) -> Result<(), Fail> {
 /// The text of a world's census.
 fn told(alloc: Global, world: World) -> Result<Text, Fail>
     requires accepted { IsAccepted world }
-    requires few { length world.objects < 2 ^ 32 }
+    requires at_most { length world.objects < 2 ^ 32 }
 {
     let rows = census(alloc, &world)?;
     let World {
@@ -185,7 +185,7 @@ fn chain(alloc: Global, hops: &[Hop]) -> Result<Held, Fail> {
 /// Whether `check_why` accepts this answer for the object with the number 2.
 fn is_answer(alloc: Global, world: &World, held: Held) -> Result<bool, Fail>
     requires accepted { IsAccepted world.now }
-    requires few { length world.now.objects < 2 ^ 32 }
+    requires at_most { length world.now.objects < 2 ^ 32 }
     requires object { 2 < length world.now.objects }
 {
     let Why { held: _, depths } = why(alloc, world, 2)?;
@@ -195,7 +195,7 @@ fn is_answer(alloc: Global, world: &World, held: Held) -> Result<bool, Fail>
 /// Compares the verdicts on right and wrong answers.
 fn compare_answers(rt: &impl Abort, alloc: Global, world: &World) -> Result<(), Fail>
     requires accepted { IsAccepted world.now }
-    requires few { length world.now.objects < 2 ^ 32 }
+    requires at_most { length world.now.objects < 2 ^ 32 }
 {
     assert!(rt; 2 < world.objects.len());
     assert!(rt; is_answer(alloc, world, chain(alloc, RIGHT)?)?);

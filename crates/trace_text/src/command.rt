@@ -6,7 +6,7 @@ ghost use Rattle.trace_text.specs.Commands.{InLimits, command_in, cons_in, get_i
 
 use crate::store::store_command;
 use crate::words::{area, items, number, plain_value, register, small};
-use lisp_graph::{Areas, Request, Short};
+use lisp_graph::{Areas, CommandHead, Request};
 use store_word::Space;
 use world_text::Reason;
 
@@ -21,7 +21,7 @@ fn set(registers: u32, count: usize, text: &[u8], command: &mut Request) -> Resu
     }
     let (to, rest) = register(registers, text)?;
     let (value, _) = plain_value(rest)?;
-    command.set(Short::Set { to, value });
+    command.set(CommandHead::Set { to, value });
     Ok(())
 }
 
@@ -45,7 +45,7 @@ fn cons(
     let (area, rest) = area(areas, rest)?;
     let (car, rest) = register(registers, rest)?;
     let (cdr, _) = register(registers, rest)?;
-    command.set(Short::Cons { to, area, car, cdr });
+    command.set(CommandHead::Cons { to, area, car, cdr });
     Ok(())
 }
 
@@ -60,7 +60,7 @@ fn list(
 ) -> Result<(), Reason>
     requires registers { registers ≤ 256 }
     requires areas { length areas.now ≤ 16 }
-    requires counted { count ≡ length (words_of text.now) + 1 }
+    requires count { count ≡ length (words_of text.now) + 1 }
     ensures { Gives (λ _. command.new) result (list_in registers areas.now count (words_of text.now)) }
 {
     if count > 1_027 {
@@ -94,7 +94,7 @@ fn make(
     let (area, rest) = area(areas, rest)?;
     let (code, rest) = small(65_535, rest)?;
     let (length, _) = small(2_047, rest)?;
-    command.set(Short::Make {
+    command.set(CommandHead::Make {
         to,
         area,
         code,
@@ -114,7 +114,7 @@ fn grow(registers: u32, count: usize, text: &[u8], command: &mut Request) -> Res
     }
     let (target, rest) = register(registers, text)?;
     let (length, _) = small(2_047, rest)?;
-    command.set(Short::Grow { target, length });
+    command.set(CommandHead::Grow { target, length });
     Ok(())
 }
 
@@ -130,7 +130,7 @@ fn get(registers: u32, count: usize, text: &[u8], command: &mut Request) -> Resu
     let (to, rest) = register(registers, text)?;
     let (from, rest) = register(registers, rest)?;
     let (index, _) = number(rest)?;
-    command.set(Short::Get { to, from, index });
+    command.set(CommandHead::Get { to, from, index });
     Ok(())
 }
 
@@ -146,7 +146,7 @@ fn put(registers: u32, count: usize, text: &[u8], command: &mut Request) -> Resu
     let (target, rest) = register(registers, text)?;
     let (index, rest) = number(rest)?;
     let (from, _) = register(registers, rest)?;
-    command.set(Short::Put {
+    command.set(CommandHead::Put {
         target,
         index,
         from,
@@ -164,7 +164,7 @@ fn size(registers: u32, count: usize, text: &[u8], command: &mut Request) -> Res
         return Err(Reason::WrongCount);
     }
     let (of, _) = register(registers, text)?;
-    command.set(Short::Size { of });
+    command.set(CommandHead::Size { of });
     Ok(())
 }
 
@@ -178,8 +178,8 @@ pub fn read_words(
     text: &[u8],
     command: &mut Request,
 ) -> Result<(), Reason>
-    requires limits { InLimits space.now areas.now }
-    requires counted { count ≡ length (words_of text.now) + 1 }
+    requires in_range { InLimits space.now areas.now }
+    requires count { count ≡ length (words_of text.now) + 1 }
     ensures { Gives (λ _. command.new) result (command_in space.now areas.now head.now count (words_of text.now)) }
 {
     if head == b"set".as_slice() {

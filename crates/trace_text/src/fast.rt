@@ -7,7 +7,7 @@ ghost use Rattle.trace_text.specs.Pairs.{pair_name};
 ghost use Rattle.trace_text.specs.Fast.{BeginsList, SaysCons, SaysSet, SpellsItems};
 
 use crate::pair::PairKind;
-use lisp_graph::{Areas, Request, Short, Value};
+use lisp_graph::{Areas, CommandHead, Request, Value};
 use store_word::Space;
 use world_text::{behind_space, leading_area, leading_number, leading_value};
 
@@ -108,7 +108,7 @@ fn set(space: &Space, line: &[u8], command: &mut Request) -> bool
 {
     match set_words(space, line) {
         Some((to, value)) => {
-            command.set(Short::Set { to, value });
+            command.set(CommandHead::Set { to, value });
             true
         }
         None => false,
@@ -138,7 +138,7 @@ fn cons(space: &Space, areas: &Areas, line: &[u8], command: &mut Request) -> boo
 {
     match cons_words(space, areas, line) {
         Some((to, area, car, cdr)) => {
-            command.set(Short::Cons { to, area, car, cdr });
+            command.set(CommandHead::Cons { to, area, car, cdr });
             true
         }
         None => false,
@@ -228,7 +228,7 @@ fn get(space: &Space, line: &[u8], command: &mut Request) -> bool
 {
     match get_words(space, line) {
         Some((to, from, index)) => {
-            command.set(Short::Get { to, from, index });
+            command.set(CommandHead::Get { to, from, index });
             true
         }
         None => false,
@@ -258,7 +258,7 @@ fn put(space: &Space, line: &[u8], command: &mut Request) -> bool
 {
     match put_words(space, line) {
         Some((target, index, from)) => {
-            command.set(Short::Put {
+            command.set(CommandHead::Put {
                 target,
                 index,
                 from,

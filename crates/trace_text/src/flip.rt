@@ -12,8 +12,8 @@ use world_text::{Reason, next_word, number_in};
 
 /// The place of the first comma.
 fn first_comma(text: &[u8]) -> Option<usize>
-    ensures is { result ≡ position is_comma text.now }
-    ensures within { IfSome result (λ end. end < length text.now) }
+    ensures value { result ≡ position is_comma text.now }
+    ensures in_range { IfSome result (λ end. end < length text.now) }
 {
     text.iter().position(|byte| *byte == b',')
 }
@@ -21,9 +21,9 @@ fn first_comma(text: &[u8]) -> Option<usize>
 /// A level above the last one, and at most the top.
 fn level_in(last: u8, top: u8, piece: &[u8]) -> Option<u8>
     requires last { last ≤ 6 }
-    requires top { top ≤ 6 }
-    ensures is { result ≡ number_in (last + 1) top piece.now }
-    ensures within { IfSome result (λ level. (last < level) × (level ≤ top)) }
+    requires at_most { top ≤ 6 }
+    ensures value { result ≡ number_in (last + 1) top piece.now }
+    ensures in_range { IfSome result (λ level. (last < level) × (level ≤ top)) }
 {
     let level = number_in(u32::from(last) + 1, u32::from(top), piece)?;
     Some(level as u8)

@@ -8,7 +8,7 @@ ghost use Rattle.trace_text.specs.Commands.{pair_command, pair_in};
 ghost use Rattle.trace_text.specs.Pairs.{pair_read, pair_with};
 
 use crate::words::register;
-use lisp_graph::{Request, Short};
+use lisp_graph::{CommandHead, Request};
 use world_text::Reason;
 
 /// Which command of two registers it is.
@@ -53,32 +53,32 @@ impl PairKind {
 
     /// The command of this kind with these registers.
     #[inline(always)]
-    pub fn with(self, first: u8, second: u8) -> Short
-        ensures is { command_with result [] ≡ pair_with self first second }
-        ensures short { is_list result ≡ false }
+    pub fn with(self, first: u8, second: u8) -> CommandHead
+        ensures value { command_with result [] ≡ pair_with self first second }
+        ensures at_most { is_list result ≡ false }
     {
         match self {
-            PairKind::Move => Short::Move {
+            PairKind::Move => CommandHead::Move {
                 to: first,
                 from: second,
             },
-            PairKind::Car => Short::Car {
+            PairKind::Car => CommandHead::Car {
                 to: first,
                 from: second,
             },
-            PairKind::Cdr => Short::Cdr {
+            PairKind::Cdr => CommandHead::Cdr {
                 to: first,
                 from: second,
             },
-            PairKind::Rplaca => Short::Rplaca {
+            PairKind::Rplaca => CommandHead::Rplaca {
                 target: first,
                 from: second,
             },
-            PairKind::Rplacd => Short::Rplacd {
+            PairKind::Rplacd => CommandHead::Rplacd {
                 target: first,
                 from: second,
             },
-            PairKind::Eq => Short::Eq {
+            PairKind::Eq => CommandHead::Eq {
                 left: first,
                 right: second,
             },

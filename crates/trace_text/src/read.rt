@@ -32,8 +32,8 @@ fn line_in(
     text: &[u8],
     command: &mut Request,
 ) -> Result<LineKind, Reason>
-    requires limits { InLimits space.now areas.now }
-    requires counted { count ≡ length (words_of text.now) + 1 }
+    requires in_range { InLimits space.now areas.now }
+    requires count { count ≡ length (words_of text.now) + 1 }
     ensures { Gives (λ kind. said_by kind command.new) result (line_in space.now areas.now head.now count (words_of text.now)) }
 {
     if head == b"end".as_slice() {
@@ -57,8 +57,8 @@ pub fn read_request(
     request: &mut Request,
 ) -> Result<LineKind, Reason>
     requires { InLimits space.now areas.now }
-    ensures is { Gives (λ kind. said_by kind request.new) result (trace_line space.now areas.now line.now) }
-    ensures said { AreNamed areas.now → IfOk result (λ kind. SaysLine space.now areas.now line.now (said_by kind request.new)) }
+    ensures value { Gives (λ kind. said_by kind request.new) result (trace_line space.now areas.now line.now) }
+    ensures ok { AreNamed areas.now → IfOk result (λ kind. SaysLine space.now areas.now line.now (said_by kind request.new)) }
     ensures levels { AreNamed areas.now → IfOk result (λ kind. NamesLevels space.now.levels (said_by kind request.new)) }
 {
     if read_fast(space, areas, line, request) {
@@ -78,8 +78,8 @@ pub fn read_command(
     command: &mut Command,
 ) -> Result<LineKind, Reason>
     requires { InLimits space.now areas.now }
-    ensures is { Gives (λ kind. said_by kind command.new) result (trace_line space.now areas.now line.now) }
-    ensures said { AreNamed areas.now → IfOk result (λ kind. SaysLine space.now areas.now line.now (said_by kind command.new)) }
+    ensures value { Gives (λ kind. said_by kind command.new) result (trace_line space.now areas.now line.now) }
+    ensures ok { AreNamed areas.now → IfOk result (λ kind. SaysLine space.now areas.now line.now (said_by kind command.new)) }
     ensures levels { AreNamed areas.now → IfOk result (λ kind. NamesLevels space.now.levels (said_by kind command.new)) }
 {
     let mut request = Request::new();

@@ -8,7 +8,7 @@ ghost use Rattle.trace_text.specs.Commands.{alone, flip_in, page_out_in, scaveng
 use crate::flip::condemn;
 use crate::pair::pair_command;
 use crate::words::number;
-use lisp_graph::{Request, Short};
+use lisp_graph::{CommandHead, Request};
 use store_word::Space;
 use world_text::Reason;
 
@@ -33,7 +33,7 @@ fn flip(levels: u8, count: usize, text: &[u8], command: &mut Request) -> Result<
         return Err(Reason::WrongCount);
     }
     let (what, _) = condemn(levels, text)?;
-    command.set(Short::Flip { what });
+    command.set(CommandHead::Flip { what });
     Ok(())
 }
 
@@ -46,7 +46,7 @@ fn scavenge(count: usize, text: &[u8], command: &mut Request) -> Result<(), Reas
         return Err(Reason::WrongCount);
     }
     let (units, _) = number(text)?;
-    command.set(Short::Scavenge { count: units });
+    command.set(CommandHead::Scavenge { count: units });
     Ok(())
 }
 
@@ -59,7 +59,7 @@ fn page_out(count: usize, text: &[u8], command: &mut Request) -> Result<(), Reas
         return Err(Reason::WrongCount);
     }
     let (pages, _) = number(text)?;
-    command.set(Short::PageOut { count: pages });
+    command.set(CommandHead::PageOut { count: pages });
     Ok(())
 }
 
@@ -84,7 +84,7 @@ pub fn store_command(
     }
     if head == b"reclaim".as_slice() {
         alone(count)?;
-        command.set(Short::Reclaim);
+        command.set(CommandHead::Reclaim);
         return Ok(());
     }
     if head == b"page-out".as_slice() {
@@ -92,12 +92,12 @@ pub fn store_command(
     }
     if head == b"stats".as_slice() {
         alone(count)?;
-        command.set(Short::Stats);
+        command.set(CommandHead::Stats);
         return Ok(());
     }
     if head == b"dump".as_slice() {
         alone(count)?;
-        command.set(Short::Dump);
+        command.set(CommandHead::Dump);
         return Ok(());
     }
     pair_command(space.registers, head, count, text, command)

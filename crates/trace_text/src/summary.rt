@@ -45,8 +45,8 @@ impl SummaryText {
     /// Adds a number in decimal.
     fn push_number(&mut self, number: u64)
         requires { length self.old + 20 ≤ 192 }
-        ensures is { self.new ≡ self.old ++ decimal number }
-        ensures short { length self.new ≤ length self.old + 20 }
+        ensures value { self.new ≡ self.old ++ decimal number }
+        ensures at_most { length self.new ≤ length self.old + 20 }
     {
         let mut buffer = Buffer::new();
         self.push(buffer.format(number).as_bytes());
@@ -56,8 +56,8 @@ impl SummaryText {
     #[tactic(auto, using(std::proofs::Common::append_assoc))]
     fn push_line(&mut self, word: &[u8], count: u64)
         requires { length self.old + length word.now + 22 ≤ 192 }
-        ensures is { self.new ≡ self.old ++ count_line word.now count }
-        ensures short { length self.new ≤ length self.old + length word.now + 22 }
+        ensures value { self.new ≡ self.old ++ count_line word.now count }
+        ensures at_most { length self.new ≤ length self.old + length word.now + 22 }
     {
         self.push(word);
         self.push(b" ");
@@ -67,8 +67,8 @@ impl SummaryText {
 
     /// Its bytes.
     pub fn as_bytes(&self) -> &[u8]
-        ensures is { result.now ≡ self.now }
-        ensures short { length result.now ≤ 192 }
+        ensures value { result.now ≡ self.now }
+        ensures at_most { length result.now ≤ 192 }
     {
         &self.bytes[..self.len]
     }

@@ -11,8 +11,8 @@ use world_text::{Reason, next_area, next_number, next_register, next_word, value
 /// A register, below the number of registers.
 pub fn register(registers: u32, text: &[u8]) -> Result<(u8, &[u8]), Reason>
     requires { registers ≤ 256 }
-    ensures is { Gives (λ x. (x.0, words_of x.1.now)) result (next (a_register registers) (words_of text.now)) }
-    ensures fewer { IfOk result (λ x. length (words_of x.1.now) ≡ length (words_of text.now) - 1) }
+    ensures value { Gives (λ x. (x.0, words_of x.1.now)) result (next (a_register registers) (words_of text.now)) }
+    ensures left { IfOk result (λ x. length (words_of x.1.now) ≡ length (words_of text.now) - 1) }
 {
     let (register, rest) = next_register(registers, text)?;
     Ok((register as u8, rest))
@@ -21,8 +21,8 @@ pub fn register(registers: u32, text: &[u8]) -> Result<(u8, &[u8]), Reason>
 /// The name of one of the areas; the result is the area's place among them.
 pub fn area<'a>(areas: &Areas, text: &'a [u8]) -> Result<(u8, &'a [u8]), Reason>
     requires { length areas.now ≤ 16 }
-    ensures is { Gives (λ x. (x.0, words_of x.1.now)) result (next (an_area areas.now) (words_of text.now)) }
-    ensures fewer { IfOk result (λ x. length (words_of x.1.now) ≡ length (words_of text.now) - 1) }
+    ensures value { Gives (λ x. (x.0, words_of x.1.now)) result (next (an_area areas.now) (words_of text.now)) }
+    ensures left { IfOk result (λ x. length (words_of x.1.now) ≡ length (words_of text.now) - 1) }
 {
     let (area, rest) = next_area(areas, text)?;
     Ok((area as u8, rest))
@@ -65,9 +65,9 @@ pub fn items(
     command: &mut Request,
 ) -> Result<(), Reason>
     requires registers { registers ≤ 256 }
-    requires few { length (words_of text.now) ≤ 1024 }
+    requires at_most { length (words_of text.now) ≤ 1024 }
     ensures items { Gives (λ _. items_of command.new) result (each (a_register registers) (words_of text.now)) }
-    ensures list { command.new ≡ Command.List to area (items_of command.new) }
+    ensures after { command.new ≡ Command.List to area (items_of command.new) }
 {
     command.begin_list(to, area);
     let mut rest = text;

@@ -13,7 +13,7 @@ use Rattle.area_space.specs.PageList.{Adds}
 use Rattle.area_space.proofs.Extending.{end_in_chain}
 use Rattle.lisp_ground.specs.GroundInvariant.{SameForm}
 use Rattle.lisp_ground.specs.Writes.{Within}
-use Rattle.transporter.specs.LiveSame.{OnlyGrows}
+use Rattle.transporter.specs.LiveWordsUnchanged.{OnlyGrows}
 use Rattle.transporter.specs.Making.{PlacesNew}
 use Rattle.transporter.specs.Relocations.{old_class, Commits}
 

@@ -21,19 +21,19 @@ use Rattle.lisp_ground.specs.GroundInvariant.{GroundInvariant}
 use Rattle.lisp_ground.specs.After.{old_on}
 use Rattle.lisp_ground.proofs.Used.{is_used_as}
 use Rattle.lisp_ground.proofs.Storing.{kept_on_same, stores_at, stored_on}
-use Rattle.transporter.specs.LiveSame.{IsLiveWord, LiveSame, LiveSameBut}
-use Rattle.transporter.specs.Settling.{readdressed, HasOld, CanSettle, IsSettleable, Replaces, Settles, SettlesOn}
-use Rattle.transporter.specs.Transports.{LaterOn, StaysOn}
+use Rattle.transporter.specs.LiveWordsUnchanged.{IsLiveWord, LiveWordsUnchanged, LiveWordsUnchangedExcept}
+use Rattle.transporter.specs.Settling.{readdressed, RefersToOld, CanSettle, IsSettleable, Replaces, Settles, SettlesOn}
+use Rattle.transporter.specs.Transports.{RepresentedByLaterMap, WordsUnchanged}
 use Rattle.transporter.proofs.Alive.{still-live}
 
 -- Calls that store nothing
 
-pub later-read : (m m' : Store) (t : Table) (k : RoleMap) (top : ℕ) (areas : List AreaRule) (s : M.Store) (aim : Condemned) → GroundInvariant m t k top areas s aim → StoresNothing m m' → LaterOn m t m' t k top areas s aim
+pub later-read : (m m' : Store) (t : Table) (k : RoleMap) (top : ℕ) (areas : List AreaRule) (s : M.Store) (aim : Condemned) → GroundInvariant m t k top areas s aim → StoresNothing m m' → RepresentedByLaterMap m t m' t k top areas s aim
 later-read m m' t k top areas s aim on n =
     let same : old_on m' t s aim k.at ≡ old_on m t s aim k.at = refl in
     record { map = k; kept = kept_on_same m m' t k top areas s aim on n; refines = λ kind a n e. e; work = omega arith }
 
-pub later-stays : (m mid m' : Store) (t t' : Table) (k : RoleMap) (top : ℕ) (areas : List AreaRule) (s : M.Store) (aim : Condemned) → GroundInvariant m t k top areas s aim → StoresNothing m mid → StaysOn mid t m' t' → LaterOn m t m' t' k top areas s aim
+pub later-stays : (m mid m' : Store) (t t' : Table) (k : RoleMap) (top : ℕ) (areas : List AreaRule) (s : M.Store) (aim : Condemned) → GroundInvariant m t k top areas s aim → StoresNothing m mid → WordsUnchanged mid t m' t' → RepresentedByLaterMap m t m' t' k top areas s aim
 later-stays m mid m' t t' k top areas s aim on n x =
     let there = kept_on_same m mid t k top areas s aim on n in
     let same : old_on mid t s aim k.at ≡ old_on m t s aim k.at = refl in
@@ -41,7 +41,7 @@ later-stays m mid m' t t' k top areas s aim on n x =
     let placed = x.placed in
     record { map = k; kept = x.kept k top areas s aim there; refines = λ kind a n e. e; work = omega arith }
 
-pub later-then_read : (m m1 m2 : Store) (t t1 : Table) (k : RoleMap) (top : ℕ) (areas : List AreaRule) (s : M.Store) (aim : Condemned) → LaterOn m t m1 t1 k top areas s aim → StoresNothing m1 m2 → LaterOn m t m2 t1 k top areas s aim
+pub later-then_read : (m m1 m2 : Store) (t t1 : Table) (k : RoleMap) (top : ℕ) (areas : List AreaRule) (s : M.Store) (aim : Condemned) → RepresentedByLaterMap m t m1 t1 k top areas s aim → StoresNothing m1 m2 → RepresentedByLaterMap m t m2 t1 k top areas s aim
 later-then_read m m1 m2 t t1 k top areas s aim x n =
     let same : old_on m2 t1 s aim x.map.at ≡ old_on m1 t1 s aim x.map.at = refl in
     record { map = x.map; kept = kept_on_same m1 m2 t1 x.map top areas s aim x.kept n; refines = x.refines; work = (let w = x.work in omega arith) }
@@ -89,7 +89,7 @@ live-used m t a v w = is_used_as m t no_rest a v ∙ lt-ltb a (4096 * (a / 4096)
 pub same-code : {t t' : Table} {old new : Parts} → Settles t t' old new → new.cdr ≡ old.cdr
 same-code {t} {t'} {old} {new} x = go x.is
   where
-    go : (new ≡ old) ⊎ ((to : ℕ) × HasOld t old × (new ≡ readdressed old to)) → new.cdr ≡ old.cdr
+    go : (new ≡ old) ⊎ ((to : ℕ) × RefersToOld t old × (new ≡ readdressed old to)) → new.cdr ≡ old.cdr
     go (inl e) = ap (λ (w : Parts). w.cdr) e
     go (inr e) = ap (λ (w : Parts). w.cdr) e.2
 
@@ -105,7 +105,7 @@ fetched m m1 m2 t t1 k top areas registers s aim v at old new alive is can settl
     on : GroundInvariant m1 t1 x.later.map top areas s aim
     on = x.later.kept
 
-    go : (new ≡ old) ⊎ ((to : ℕ) × HasOld t old × (new ≡ readdressed old to)) → SettlesOn m t m2 t1 k top areas s aim old new
+    go : (new ≡ old) ⊎ ((to : ℕ) × RefersToOld t old × (new ≡ readdressed old to)) → SettlesOn m t m2 t1 k top areas s aim old new
     go (inl e) = absurd (stores.0 e)
     go (inr e) =
         let value = can.value e.1.0 e.1.1 in
@@ -126,7 +126,7 @@ pub record IsUnwritten (m : Store) (t : Table) (at : ℕ) (word : Parts) : Type 
   pub alive : IsLiveWord t at
   pub same : word_at m.words at ≡ word
 
-pub unwritten-there : {m mid m1 : Store} {t t1 : Table} {at : ℕ} {word new : Parts} → IsLiveWord t at → IsSettleable m t (word_at m.words at) → StoresNothing m mid → slice_get m.words at ≡ Some word → LiveSame mid t m1 t1
+pub unwritten-there : {m mid m1 : Store} {t t1 : Table} {at : ℕ} {word new : Parts} → IsLiveWord t at → IsSettleable m t (word_at m.words at) → StoresNothing m mid → slice_get m.words at ≡ Some word → LiveWordsUnchanged mid t m1 t1
     → ((k : RoleMap) (top : ℕ) (areas : List AreaRule) (registers : List Value) (s : M.Store) (aim : Condemned) (v : Value) → CanSettle mid t k top areas registers s aim word v → SettlesOn mid t m1 t1 k top areas s aim word new)
     → IsUnwritten m1 t1 at word
 unwritten-there {m} {mid} {m1} {t} {t1} {at} {word} {new} alive x reads read same settles =
@@ -144,12 +144,12 @@ pub fetched-word : {m1 m2 : Store} {at : ℕ} {old new : Parts} → at < length 
 fetched-word {m1} {m2} {at} {old} {new} inside is (inl same) = ap (λ (ws : List Parts). word_at ws at) same.1.words ∙ is ∙ sym same.0
 fetched-word {m1} {m2} {at} {old} {new} inside is (inr stores) = ap (λ (ws : List Parts). word_at ws at) stores.1.words ∙ get_or-set_same m1.words at new null_word inside
 
-pub fetched-others : {m m1 m2 : Store} {t t1 : Table} {at : ℕ} {old new : Parts} → LiveSame m t m1 t1 → Replaces m1 m2 at old new → LiveSameBut m t m2 t1 at
+pub fetched-others : {m m1 m2 : Store} {t t1 : Table} {at : ℕ} {old new : Parts} → LiveWordsUnchanged m t m1 t1 → Replaces m1 m2 at old new → LiveWordsUnchangedExcept m t m2 t1 at
 fetched-others {m} {m1} {m2} {t} {t1} {at} {old} {new} alive r = record { table = alive.table; words = λ a ne w. other r a ne ∙ alive.words a w }
   where
     other : Replaces m1 m2 at old new → (a : ℕ) → a ≢ at → word_at m2.words a ≡ word_at m1.words a
     other (inl same) a ne = ap (λ (ws : List Parts). word_at ws a) same.1.words
     other (inr stores) a ne = ap (λ (ws : List Parts). word_at ws a) stores.1.words ∙ get_or-set_other m1.words at a new null_word ne
 
-pub same-but : {m m' : Store} {t t' : Table} (at : ℕ) → LiveSame m t m' t' → LiveSameBut m t m' t' at
+pub same-but : {m m' : Store} {t t' : Table} (at : ℕ) → LiveWordsUnchanged m t m' t' → LiveWordsUnchangedExcept m t m' t' at
 same-but at alive = record { table = alive.table; words = λ a ne w. alive.words a w }

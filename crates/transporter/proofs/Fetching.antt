@@ -20,7 +20,7 @@ read-keeps m m' t stays =
 
 -- words are read, and then one is fetched
 pub fetched-keeps : (m m' : MemoryView) {mid : Store} (t t' : Table) → StoresNothing m.store mid → Grows t t' → moving.MovesAtMost mid t m'.store t' 1 → preserving.PreservesScanned mid t m'.store t' → marking.MarksFollow mid t m'.store t'
-    → (preserving.AllFresh m.store t → preserving.AllFresh m'.store t') → KeepsGround (record { mem = m; table = t }) (record { mem = m'; table = t' })
+    → (preserving.NoOldAddresses m.store t → preserving.NoOldAddresses m'.store t') → KeepsGround (record { mem = m; table = t }) (record { mem = m'; table = t' })
 fetched-keeps m m' t t' stays grows moves preserves marks fresh =
     record { table = grows; moves = moves-after_read stays moves; preserves = preserves-then (read-preserves t stays) preserves; stays_fresh = fresh; marks = marks-then (marks-read t stays) marks }
 

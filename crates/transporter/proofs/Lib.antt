@@ -22,5 +22,6 @@ pub mod Preserved
 pub mod Together
 pub mod Transported
 pub mod Writing
+pub mod WrittenMarks
 pub use Rattle.lisp_ground.proofs as lisp_ground
 pub use Rattle.lisp_ground.proofs.lisp_meaning

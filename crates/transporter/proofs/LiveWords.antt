@@ -16,7 +16,7 @@ use Rattle.transporter.specs.lisp_ground.GroundInvariant.{GroundInvariant}
 use Rattle.transporter.proofs.lisp_ground.Owners.{region_cases}
 use Rattle.transporter.proofs.lisp_ground.Standings.{old_region, free_standing, not_old_region}
 use Rattle.transporter.proofs.lisp_ground.Storing.{used_below}
-use Rattle.transporter.specs.LiveSame.{IsLiveWord}
+use Rattle.transporter.specs.LiveWordsUnchanged.{IsLiveWord}
 
 module _ (m : Memory.Store) (t : Table) (k : RoleMap) (top : ℕ) (areas : List AreaRule) (s : Store) (aim : Condemned) (on : GroundInvariant m t k top areas s aim) where
   not_old : (a : ℕ) → (IsOld t (a / 4096) → ⊥) → is_old_at (classes (ground_image m t)) a ≡ false

@@ -21,12 +21,12 @@ use Rattle.lisp_ground.specs.lisp_meaning.Roles.{Role, value_of}
 use Rattle.lisp_ground.specs.Placing.{Opens}
 use Rattle.lisp_ground.specs.Writes.{Within}
 use Rattle.transporter.specs.declared.parcel.Parcel.{Parcel}
-use Rattle.transporter.specs.LiveSame.{OnlyGrows}
+use Rattle.transporter.specs.LiveWordsUnchanged.{OnlyGrows}
 use Rattle.transporter.specs.Marking.{IsForward, IsPlaced, MayMark, placed, forwarded, settled, HasMarker, TurnsOneWay, MarksFollow, MarksFollowBut}
 use Rattle.transporter.specs.Parcels.{IsParcel, a_block, a_pair, a_run, run_parcel, word_count_of}
 use Rattle.transporter.specs.Preserving.{FreshOn}
 use Rattle.transporter.specs.Relocations.{OpensAtMost, MovesHere}
-use Rattle.transporter.specs.Settling.{reference_of, HasOld, Replaces, Settles}
+use Rattle.transporter.specs.Settling.{reference_of, RefersToOld, Replaces, Settles}
 use Rattle.transporter.specs.Transports.{IsTransportable}
 use Rattle.transporter.specs.Writes.{Writes, forward_to}
 use Rattle.transporter.proofs.Alive.{grows-same, old-stays, old-before, live-opened}
@@ -127,7 +127,7 @@ unchanged-unmarked {m} {m'} {t} {page} x same clean = go (x.unmarked page clean)
     never : (a : ℕ) → word_at m'.words a ≡ word_at m.words a → MayMark m t m' t a → ⊥
     never a is (placed p) = let past = p.past in let used = p.used in omega arith
     never a is (forwarded none forward) = none (subst IsForward is forward)
-    never a is (settled old lost) = lost (subst (HasOld t) (sym is) old)
+    never a is (settled old lost) = lost (subst (RefersToOld t) (sym is) old)
 
     go : (m'.marks page ≡ 0) ⊎ HasMarker m t m' t page → m'.marks page ≡ 0
     go (inl none) = none
@@ -139,7 +139,7 @@ turns-words : {m m' : Store} {t t' : Table} → OnlyGrows t t' → m'.words ≡ 
 turns-words {m} {m'} {t} {t'} grows same = record {
   used = grows.used;
   forwards = λ a f. inl (subst (λ (ws : List Parts). IsForward (word_at ws a)) (sym same) f);
-  olds = λ a h. (let was = subst (λ (ws : List Parts). HasOld t' (word_at ws a)) same h in inl (was.0, was.1, old-before grows was.2));
+  olds = λ a h. (let was = subst (λ (ws : List Parts). RefersToOld t' (word_at ws a)) same h in inl (was.0, was.1, old-before grows was.2));
 }
 
 pub marks-read : {m m' : Store} (t : Table) → StoresNothing m m' → MarksFollow m t m' t
@@ -161,7 +161,7 @@ marks-opened {m} {m'} {t} {t'} {area} {level} region v area_in level_in o = reco
 
 -- One word is stored
 
-turns-stored : {m m' : Store} {t : Table} {at : ℕ} {w : Parts} → Stores m m' at w → at < length m.words → (IsForward (word_at m.words at) → IsForward w) → (HasOld t w → ⊥) → TurnsOneWay m t m' t
+turns-stored : {m m' : Store} {t : Table} {at : ℕ} {w : Parts} → Stores m m' at w → at < length m.words → (IsForward (word_at m.words at) → IsForward w) → (RefersToOld t w → ⊥) → TurnsOneWay m t m' t
 turns-stored {m} {m'} {t} {at} {w} stores inside keeps young = record {
   used = λ region. omega arith;
   forwards = λ a f. elim (cases_eq a at) [
@@ -169,8 +169,8 @@ turns-stored {m} {m'} {t} {at} {w} stores inside keeps young = record {
     | inr ne ↦ inl (subst IsForward (sym (there a ne)) f)
   ];
   olds = λ a h. elim (cases_eq a at) [
-    | inl e ↦ absurd (young (subst (HasOld t) (here a e) h))
-    | inr ne ↦ inl (subst (HasOld t) (there a ne) h)
+    | inl e ↦ absurd (young (subst (RefersToOld t) (here a e) h))
+    | inr ne ↦ inl (subst (RefersToOld t) (there a ne) h)
   ];
 }
   where
@@ -193,14 +193,14 @@ marks-marker {m} {m'} {t} {at} {w} stores turns may = record {
 }
 
 -- a word that isn't old, in place of one that is no forward
-pub marks-stored : {m m' : Store} (t : Table) (at : ℕ) (w : Parts) → Stores m m' at w → at < length m.words → (IsForward (word_at m.words at) → ⊥) → (HasOld t w → ⊥) → MarksFollowBut m t m' t at
+pub marks-stored : {m m' : Store} (t : Table) (at : ℕ) (w : Parts) → Stores m m' at w → at < length m.words → (IsForward (word_at m.words at) → ⊥) → (RefersToOld t w → ⊥) → MarksFollowBut m t m' t at
 marks-stored t at w stores inside plain young = record {
   turns = turns-stored stores inside (λ f. absurd (plain f)) young;
   unmarked = λ page ne clean. inl (stores.unmarked page clean (λ own. absurd (ne own)));
 }
 
 -- a forward in place of another word
-pub marks-forward : {m m' : Store} (t : Table) (at : ℕ) (w : Parts) → Stores m m' at w → at < length m.words → (IsForward (word_at m.words at) → ⊥) → IsForward w → (HasOld t w → ⊥) → MarksFollow m t m' t
+pub marks-forward : {m m' : Store} (t : Table) (at : ℕ) (w : Parts) → Stores m m' at w → at < length m.words → (IsForward (word_at m.words at) → ⊥) → IsForward w → (RefersToOld t w → ⊥) → MarksFollow m t m' t
 marks-forward t at w stores inside plain is young =
     marks-marker stores (turns-stored stores inside (λ f. absurd (plain f)) young) (forwarded plain (subst IsForward (sym (stored-here stores inside)) is))
 
@@ -250,12 +250,12 @@ marks-replaced {m} {m'} {t} {t'} {at} {old} {new} grows inside is x (inr stores)
   | inr e ↦ go e.1
 ]
   where
-    go : HasOld t old → MarksFollow m t' m' t'
+    go : RefersToOld t old → MarksFollow m t' m' t'
     go was =
         let here : word_at m'.words at ≡ new = stored-here stores.1 inside in
         let plain : IsForward (word_at m.words at) → ⊥ = λ f. plain-reference old.content was.0 was.1 (subst IsForward is f) in
-        let old_there : HasOld t' (word_at m.words at) = subst (HasOld t') (sym is) (was.0, was.1, old-stays grows was.2) in
-        marks-marker stores.1 (turns-stored stores.1 inside (λ f. absurd (plain f)) x.fresh) (settled old_there (λ h. x.fresh (subst (HasOld t') here h)))
+        let old_there : RefersToOld t' (word_at m.words at) = subst (RefersToOld t') (sym is) (was.0, was.1, old-stays grows was.2) in
+        marks-marker stores.1 (turns-stored stores.1 inside (λ f. absurd (plain f)) x.fresh) (settled old_there (λ h. x.fresh (subst (RefersToOld t') here h)))
 
 -- Many words are written
 
@@ -286,7 +286,7 @@ within-cases at count a = elim (cases_lt a at) [
 
 module _ {m m' : Store} {t t' : Table} {at count : ℕ} {word : ℕ → Parts} (grows : OnlyGrows t t') (writes : Writes m m' at count word) where
   -- each of them may give marks to its page
-  marks-writes : ((a : ℕ) → Within at count a → IsForward (word_at m.words a) → IsForward (word_at m'.words a) ⊎ IsPlaced t t' a) → ((a : ℕ) → Within at count a → HasOld t' (word_at m'.words a) → HasOld t (word_at m.words a) ⊎ IsPlaced t t' a)
+  marks-writes : ((a : ℕ) → Within at count a → IsForward (word_at m.words a) → IsForward (word_at m'.words a) ⊎ IsPlaced t t' a) → ((a : ℕ) → Within at count a → RefersToOld t' (word_at m'.words a) → RefersToOld t (word_at m.words a) ⊎ IsPlaced t t' a)
       → ((a : ℕ) → Within at count a → MayMark m t m' t' a) → MarksFollow m t m' t'
   marks-writes forwards olds may = record {
     turns = record {
@@ -297,7 +297,7 @@ module _ {m m' : Store} {t t' : Table} {at count : ℕ} {word : ℕ → Parts} (
       ];
       olds = λ a h. elim (within-cases at count a) [
         | inl in_there ↦ olds a in_there h
-        | inr out ↦ (let was = subst (HasOld t') (writes.others a out) h in inl (was.0, was.1, old-before grows was.2))
+        | inr out ↦ (let was = subst (RefersToOld t') (writes.others a out) h in inl (was.0, was.1, old-before grows was.2))
       ];
     };
     unmarked = λ page clean. elim (page-cases at count page) [
@@ -354,11 +354,11 @@ marks-left {m} {m'} {t} {at} {count} to plain writes =
     after : (a : ℕ) → Within at count a → IsForward (word_at m'.words a)
     after a x = subst IsForward (sym (is a x)) refl
 
-    young : (a : ℕ) → Within at count a → HasOld t (word_at m'.words a) → ⊥
-    young a x h = let old = subst (HasOld t) (is a x) h in absurd (let e : None ≡ Some old.0 = old.1 in cc)
+    young : (a : ℕ) → Within at count a → RefersToOld t (word_at m'.words a) → ⊥
+    young a x h = let old = subst (RefersToOld t) (is a x) h in absurd (let e : None ≡ Some old.0 = old.1 in cc)
 
 -- the first becomes a forward, and the others have no address of level 1 or more
-pub marks-first : {m m' : Store} {t t' : Table} {at count : ℕ} {word : ℕ → Parts} → OnlyGrows t t' → Writes m m' at count word → 0 < count → ((i : ℕ) → i < count → IsForward (word_at m.words (at + i)) → ⊥) → ((i : ℕ) → i < count → HasOld t' (word i) → ⊥)
+pub marks-first : {m m' : Store} {t t' : Table} {at count : ℕ} {word : ℕ → Parts} → OnlyGrows t t' → Writes m m' at count word → 0 < count → ((i : ℕ) → i < count → IsForward (word_at m.words (at + i)) → ⊥) → ((i : ℕ) → i < count → RefersToOld t' (word i) → ⊥)
     → IsForward (word 0) → ((i : ℕ) → i < count → 0 < i → level_of_word m.levels (word i) ≡ 0) → MarksFollow m t m' t'
 marks-first {m} {m'} {t} {t'} {at} {count} {word} grows writes some plain young forward low = record {
   turns = record {
@@ -368,8 +368,8 @@ marks-first {m} {m'} {t} {t'} {at} {count} {word} grows writes some plain young 
       | inr out ↦ inl (subst IsForward (sym (writes.others a out)) f)
     ];
     olds = λ a h. elim (within-cases at count a) [
-      | inl in_there ↦ absurd (young (a - at) (few a in_there) (subst (HasOld t') (is a in_there) h))
-      | inr out ↦ (let was = subst (HasOld t') (writes.others a out) h in inl (was.0, was.1, old-before grows was.2))
+      | inl in_there ↦ absurd (young (a - at) (few a in_there) (subst (RefersToOld t') (is a in_there) h))
+      | inr out ↦ (let was = subst (RefersToOld t') (writes.others a out) h in inl (was.0, was.1, old-before grows was.2))
     ];
   };
   unmarked = λ page clean. elim (cases_eq page (at / 256)) [

@@ -7,7 +7,7 @@ use Rattle.mem_port.specs.Store.{Store, StoresNothing}
 use Rattle.area_space.specs.Table.{Table, IsOld}
 use Rattle.obj_layout.specs.Forwards.{word_at, Final}
 use Rattle.obj_layout.proofs.Following.{stores_nothing-twice}
-use Rattle.transporter.specs.LiveSame.{IsLiveWord}
+use Rattle.transporter.specs.LiveWordsUnchanged.{IsLiveWord}
 use Rattle.transporter.specs.Growth.{OpensOrStays}
 use Rattle.transporter.specs.Moving.{MovesFor, stays as stays_put, moves as moves_for, FetchMoves, WritesLive, Transported, none, written, moved, MovesAtMost}
 use Rattle.transporter.specs.Parcels.{IsParcel}

@@ -12,9 +12,9 @@ use Rattle.transporter.specs.lisp_ground.GroundInvariant.{GroundInvariant}
 use Rattle.transporter.specs.lisp_ground.Placing.{Opens}
 use Rattle.transporter.proofs.lisp_ground.Places.{place_kept_on}
 use Rattle.transporter.specs.Growth.{OpensOrStays}
-use Rattle.transporter.specs.LiveSame.{LiveSame}
+use Rattle.transporter.specs.LiveWordsUnchanged.{LiveWordsUnchanged}
 use Rattle.transporter.specs.Relocations.{OpensAtMost}
-use Rattle.transporter.specs.Transports.{StaysOn}
+use Rattle.transporter.specs.Transports.{WordsUnchanged}
 use Rattle.transporter.proofs.Alive.{live-faulted}
 use Rattle.transporter.proofs.Transported.{stays-faulted}
 
@@ -40,10 +40,10 @@ module _ (m : Memory.Store) (t : Table) (k : RoleMap) (top : ℕ) (areas : List 
     },
   )
 
-  pub opened_stays : (m2 : Memory.Store) → StoresNothing m1 m2 → StaysOn m t m2 t1
+  pub opened_stays : (m2 : Memory.Store) → StoresNothing m1 m2 → WordsUnchanged m t m2 t1
   opened_stays m2 stays = stays-faulted (record { words = refl; levels = refl; top = refl; unmarked = λ page e. e }) (opened_at_most m2 stays)
 
-  pub opened_live : (m2 : Memory.Store) → StoresNothing m1 m2 → LiveSame m t m2 t1
+  pub opened_live : (m2 : Memory.Store) → StoresNothing m1 m2 → LiveWordsUnchanged m t m2 t1
   opened_live m2 stays = live-faulted on.table (opened_at_most m2 stays)
 
   pub opened_or_same : OpensOrStays t t1

@@ -19,10 +19,10 @@ use Rattle.lisp_ground.specs.lisp_meaning.Roles.{Role, value_of}
 use Rattle.lisp_ground.specs.Writes.{Within}
 use Rattle.lisp_ground.proofs.Owners.{region_cases}
 use Rattle.transporter.specs.Growth.{OpensOrStays, Grows}
-use Rattle.transporter.specs.LiveSame.{OnlyGrows, IsLiveWord, LiveSame}
+use Rattle.transporter.specs.LiveWordsUnchanged.{OnlyGrows, IsLiveWord, LiveWordsUnchanged}
 use Rattle.transporter.specs.Making.{PlacesNew}
-use Rattle.transporter.specs.Settling.{reference_of, content_to, readdressed, HasOld, Replaces, Settles}
-use Rattle.transporter.specs.Preserving.{FreshOn, AllFresh, HasPlaced, PagesGrow, PreservesScanned}
+use Rattle.transporter.specs.Settling.{reference_of, content_to, readdressed, RefersToOld, Replaces, Settles}
+use Rattle.transporter.specs.Preserving.{FreshOn, NoOldAddresses, HasPlaced, PagesGrow, PreservesScanned}
 use Rattle.transporter.proofs.Alive.{grows-same, grows-then, still-live, live-read, old-stays, old-before, not-live}
 use Rattle.transporter.proofs.Extended.{Extends, new-extends, moved-extends, used-after, used-apart, used-new, end-low, end-sized, end-alive, extends-grows}
 use Rattle.transporter.proofs.Settled.{live-not_old}
@@ -135,7 +135,7 @@ opened-grows {t} {room} v (inr o) =
     })
 
 -- nothing was placed
-pub opened-preserves : {m m' : Store} {t t' : Table} → LiveSame m t m' t' → OpensOrStays t t' → PreservesScanned m t m' t'
+pub opened-preserves : {m m' : Store} {t t' : Table} → LiveWordsUnchanged m t m' t' → OpensOrStays t t' → PreservesScanned m t m' t'
 opened-preserves {m} {m'} {t} {t'} same o = record {
   grows = same.table;
   young = λ r old. opened-used t t' o r;
@@ -250,7 +250,7 @@ module _ (m m' : Store) (t room t' : Table) (v' : IsTable t') (opens : OpensOrSt
       }
 
   -- and no used word of a live region changes
-  pub placed-preserves : LiveSame m t m' t' → PreservesScanned m t m' t'
+  pub placed-preserves : LiveWordsUnchanged m t m' t' → PreservesScanned m t m' t'
   placed-preserves same = record { grows = same.table; young = young; placed = placed; paged = paged; words = λ a l. inl (same.words a l) }
 
   -- or each that changes becomes fresh
@@ -264,18 +264,18 @@ module _ (m m' : Store) (t room t' : Table) (v' : IsTable t') (opens : OpensOrSt
   }
 
 -- words of new objects
-pub made-preserves : (m m' : Store) (t t' : Table) (area level at words charge : ℕ) → IsTable t' → LiveSame m t m' t' → 0 < words → PlacesNew t t' area level at words charge → PreservesScanned m t m' t'
+pub made-preserves : (m m' : Store) (t t' : Table) (area level at words charge : ℕ) → IsTable t' → LiveWordsUnchanged m t m' t' → 0 < words → PlacesNew t t' area level at words charge → PreservesScanned m t m' t'
 made-preserves m m' t t' area level at words charge v' same some p = placed-preserves m m' t p.room t' v' p.opens (slot_of p.room area level) at words some (new-extends p) same
 
 -- words of a transport
-pub grows-preserves : {m m' : Store} {t t' : Table} → IsTable t' → LiveSame m t m' t' → Grows t t' → PreservesScanned m t m' t'
+pub grows-preserves : {m m' : Store} {t t' : Table} → IsTable t' → LiveWordsUnchanged m t m' t' → Grows t t' → PreservesScanned m t m' t'
 grows-preserves {m} {m'} {t} {t'} v' same (inl o) = opened-preserves same o
 grows-preserves {m} {m'} {t} {t'} v' same (inr p) = placed-preserves m m' t p.room t' v' p.opens (slot_of p.room p.area p.level) p.to p.words (let s = p.some in omega arith) (moved-extends p.end p.commits) same
 
 -- All words of live regions stay fresh
 
 -- if each word that was placed is fresh
-pub stays_fresh-tended : (m m' : Store) (t t' : Table) → IsTable t → IsTable t' → PreservesScanned m t m' t' → ((a : ℕ) → IsLiveWord t' a → used_of t (a / 4096) ≤ a % 4096 → FreshOn t' (word_at m'.words a).content) → AllFresh m t → AllFresh m' t'
+pub stays_fresh-tended : (m m' : Store) (t t' : Table) → IsTable t → IsTable t' → PreservesScanned m t m' t' → ((a : ℕ) → IsLiveWord t' a → used_of t (a / 4096) ≤ a % 4096 → FreshOn t' (word_at m'.words a).content) → NoOldAddresses m t → NoOldAddresses m' t'
 stays_fresh-tended m m' t t' v v' x new all a l = elim (cases_lt (a % 4096) (used_of t (a / 4096))) [
   | inl used ↦ before (record { live = class used (region_cases t (a / 4096)); used = used })
   | inr past ↦ new a l past
@@ -293,7 +293,7 @@ stays_fresh-tended m m' t t' v v' x new all a l = elim (cases_lt (a % 4096) (use
     ]
 
 pub laid-stays_fresh : (m m' : Store) (t room t' : Table) (slot at words : ℕ) → IsTable t → IsTable t' → OpensOrStays t room → Extends room t' slot at words → PreservesScanned m t m' t' → ((i : ℕ) → i < words → FreshOn t' (word_at m'.words (at + i)).content)
-    → AllFresh m t → AllFresh m' t'
+    → NoOldAddresses m t → NoOldAddresses m' t'
 laid-stays_fresh m m' t room t' slot at words v v' opens x preserves new = stays_fresh-tended m m' t t' v v' preserves (λ a l past.
     let same = opened-used t room opens (a / 4096) in
     let within = used-new room t' slot at words x a (omega arith) l.used in
@@ -302,10 +302,10 @@ laid-stays_fresh m m' t room t' slot at words v v' opens x preserves new = stays
     let is : at + (a - at) ≡ a = omega arith in
     subst (λ (i : ℕ). FreshOn t' (word_at m'.words i).content) is (new (a - at) (omega arith)))
 
-pub made-stays_fresh : (m m' : Store) (t t' : Table) (area level at words charge : ℕ) → IsTable t → IsTable t' → PlacesNew t t' area level at words charge → PreservesScanned m t m' t' → ((i : ℕ) → i < words → FreshOn t' (word_at m'.words (at + i)).content) → AllFresh m t → AllFresh m' t'
+pub made-stays_fresh : (m m' : Store) (t t' : Table) (area level at words charge : ℕ) → IsTable t → IsTable t' → PlacesNew t t' area level at words charge → PreservesScanned m t m' t' → ((i : ℕ) → i < words → FreshOn t' (word_at m'.words (at + i)).content) → NoOldAddresses m t → NoOldAddresses m' t'
 made-stays_fresh m m' t t' area level at words charge v v' p preserves new = laid-stays_fresh m m' t p.room t' (slot_of p.room area level) at words v v' p.opens (new-extends p) preserves new
 
-pub read-stays_fresh : {m m' : Store} (t : Table) → StoresNothing m m' → AllFresh m t → AllFresh m' t
+pub read-stays_fresh : {m m' : Store} (t : Table) → StoresNothing m m' → NoOldAddresses m t → NoOldAddresses m' t
 read-stays_fresh t reads all a l = subst (λ (ws : List Parts). FreshOn t (word_at ws a).content) (sym reads.words) (all a l)
 
 -- A word that is settled and written back
@@ -324,7 +324,7 @@ same-reference NilWord at to b ref is = absurd (let x : None ≡ Some at = ref i
 settled-fresh : {t t' : Table} {old new : Parts} → Settles t t' old new → new ≢ old → FreshOn t' new.content
 settled-fresh {t} {t'} {old} {new} x ne b is young = go x.is
   where
-    go : (new ≡ old) ⊎ ((to : ℕ) × HasOld t old × (new ≡ readdressed old to)) → ⊥
+    go : (new ≡ old) ⊎ ((to : ℕ) × RefersToOld t old × (new ≡ readdressed old to)) → ⊥
     go (inl e) = ne e
     go (inr e) =
         let content : new.content ≡ content_to old.content e.0 = ap (λ (w : Parts). w.content) e.2 in
@@ -336,7 +336,7 @@ replaced-preserves t t' at old new inside x (inl same) = read-preserves t' same.
 replaced-preserves t t' at old new inside x (inr stores) = stored-preserves t' at new stores.1 inside (settled-fresh x stores.0)
 
 -- and if it wasn't old, nothing is stored
-pub unmoved-reads : {m m' : Store} (t t' : Table) (at : ℕ) (old new : Parts) → (HasOld t old → ⊥) → Settles t t' old new → Replaces m m' at old new → StoresNothing m m'
+pub unmoved-reads : {m m' : Store} (t t' : Table) (at : ℕ) (old new : Parts) → (RefersToOld t old → ⊥) → Settles t t' old new → Replaces m m' at old new → StoresNothing m m'
 unmoved-reads t t' at old new none x (inl same) = same.1
 unmoved-reads t t' at old new none x (inr stores) = elim x.is [
   | inl e ↦ absurd (stores.0 e)

@@ -22,9 +22,9 @@ use Rattle.lisp_ground.proofs.Owners.{region_cases}
 use Rattle.lisp_ground.proofs.Places.{place_kept_on}
 use Rattle.lisp_ground.proofs.Storing.{kept_on_same}
 use Rattle.transporter.specs.Parcels.{IsParcel, StandsWhole}
-use Rattle.transporter.specs.LiveSame.{LiveSame}
+use Rattle.transporter.specs.LiveWordsUnchanged.{LiveWordsUnchanged}
 use Rattle.transporter.specs.Relocations.{OpensAtMost, IsMovable, MovesHere}
-use Rattle.transporter.specs.Transports.{CanTransport, IsTransportable, ReachesOn, MovesFrom, moved as moved_from, StaysOn}
+use Rattle.transporter.specs.Transports.{CanTransport, IsTransportable, ReachesOn, MovesFrom, moved as moved_from, WordsUnchanged}
 use Rattle.transporter.proofs.Standing.{named-along}
 use Rattle.transporter.proofs.Landing.{opened-words}
 use Rattle.transporter.proofs.Ready.{stands-whole, movable}
@@ -105,16 +105,16 @@ pub moves-from : {m mid m' : Store} {t t' : Table} {at : ℕ} (here to : ℕ) �
 moves-from {m} {mid} {m'} {t} {t'} {at} here to final stays old moved =
     moved_from here moved.parcel moved.read final old (subst (λ (ws : List Parts). IsParcel ws here moved.parcel) stays.words moved.is) (stores_nothing-twice stays moved.stays) moved.relocates
 
-pub live-after : {m mid m' : Store} {t t' : Table} {at : ℕ} (here to : ℕ) → IsTransportable m t at → StoresNothing m mid → MovesHere mid t m' t' here to → LiveSame m t m' t'
+pub live-after : {m mid m' : Store} {t t' : Table} {at : ℕ} (here to : ℕ) → IsTransportable m t at → StoresNothing m mid → MovesHere mid t m' t' here to → LiveWordsUnchanged m t m' t'
 live-after {m} {mid} {m'} {t} {t'} {at} here to x stays moved =
     live-then (live-read (stores_nothing-twice stays moved.stays)) (live-relocated x.can.kept.table moved.fits moved.one_region moved.relocates)
 
-pub live-after_fault : {m mid m' : Store} {t t' : Table} {at : ℕ} → IsTransportable m t at → StoresNothing m mid → OpensAtMost mid t m' t' → LiveSame m t m' t'
+pub live-after_fault : {m mid m' : Store} {t t' : Table} {at : ℕ} → IsTransportable m t at → StoresNothing m mid → OpensAtMost mid t m' t' → LiveWordsUnchanged m t m' t'
 live-after_fault {m} {mid} {m'} {t} {t'} {at} x stays o = live-then (live-read stays) (live-faulted x.can.kept.table o)
 
 -- After a swap error
 
-pub stays-read : {m m' : Store} {t : Table} → StoresNothing m m' → StaysOn m t m' t
+pub stays-read : {m m' : Store} {t : Table} → StoresNothing m m' → WordsUnchanged m t m' t
 stays-read {m} {m'} {t} n = record {
   words = n.words;
   placed = refl;
@@ -122,7 +122,7 @@ stays-read {m} {m'} {t} n = record {
   old = λ k top areas s aim on. refl;
 }
 
-stays-then : {m m1 m2 : Store} {t t1 t2 : Table} → StaysOn m t m1 t1 → StaysOn m1 t1 m2 t2 → StaysOn m t m2 t2
+stays-then : {m m1 m2 : Store} {t t1 t2 : Table} → WordsUnchanged m t m1 t1 → WordsUnchanged m1 t1 m2 t2 → WordsUnchanged m t m2 t2
 stays-then x y = record {
   words = y.words ∙ x.words;
   placed = y.placed ∙ x.placed;
@@ -130,7 +130,7 @@ stays-then x y = record {
   old = λ k top areas s aim on. y.old k top areas s aim (x.kept k top areas s aim on) ∙ x.old k top areas s aim on;
 }
 
-stays-opened : {m m' : Store} {t t' : Table} {area level : ℕ} (region : Option ℕ) → area < areas_of t → level < levels_of t → Opens m t m' t' region area level → StaysOn m t m' t'
+stays-opened : {m m' : Store} {t t' : Table} {area level : ℕ} (region : Option ℕ) → area < areas_of t → level < levels_of t → Opens m t m' t' region area level → WordsUnchanged m t m' t'
 stays-opened {m} {m'} {t} {t'} {area} {level} region area_in level_in o = record {
   words = opened-words region o;
   placed = go region o;
@@ -142,8 +142,8 @@ stays-opened {m} {m'} {t} {t'} {area} {level} region area_in level_in o = record
     go None o = ap (λ (u : Table). u.placed) o.same
     go (Some r) o = ap (λ (u : Table). u.placed) o.chain
 
-pub stays-faulted : {m mid m' : Store} {t t' : Table} → StoresNothing m mid → OpensAtMost mid t m' t' → StaysOn m t m' t'
-stays-faulted {m} {mid} {m'} {t} {t'} stays (inl x) = subst (λ (u : Table). StaysOn m t m' u) (sym x.1) (stays-read (stores_nothing-twice stays x.0))
+pub stays-faulted : {m mid m' : Store} {t t' : Table} → StoresNothing m mid → OpensAtMost mid t m' t' → WordsUnchanged m t m' t'
+stays-faulted {m} {mid} {m'} {t} {t'} stays (inl x) = subst (λ (u : Table). WordsUnchanged m t m' u) (sym x.1) (stays-read (stores_nothing-twice stays x.0))
 stays-faulted {m} {mid} {m'} {t} {t'} stays (inr x) =
     let o = x.2 in
     stays-then (stays-read (stores_nothing-twice stays x.1)) (stays-then (stays-opened o.region o.area_in o.level_in o.opens) (stays-read o.stays))

@@ -12,29 +12,29 @@ use Rattle.obj_layout.specs.Runs.{IsRun}
 use Rattle.lisp_ground.specs.lisp_meaning.State.{Condemned}
 use Rattle.lisp_ground.specs.lisp_meaning.State as M
 use Rattle.lisp_ground.specs.lisp_meaning.Roles.{RoleMap, value_of}
-use Rattle.transporter.specs.LiveSame.{OnlyGrows, IsLiveWord, LiveSame}
+use Rattle.transporter.specs.LiveWordsUnchanged.{OnlyGrows, IsLiveWord, LiveWordsUnchanged}
 use Rattle.transporter.specs.Marking.{MarksFollow, MarksFollowBut}
 use Rattle.transporter.specs.Moving.{MovesAtMost}
-use Rattle.transporter.specs.Settling.{HasOld, IsKeptValue}
+use Rattle.transporter.specs.Settling.{RefersToOld, IsKeptValue}
 use Rattle.transporter.specs.Preserving.{PreservesScanned}
-use Rattle.transporter.specs.Transports.{LaterOn, MovesFrom}
+use Rattle.transporter.specs.Transports.{RepresentedByLaterMap, MovesFrom}
 use Rattle.transporter.specs.Writes.{forward_to}
 
 -- two later maps, one after the other
 abbrev pub LaterTwice : Type 0
 LaterTwice =
-    (m m1 m2 : Store) (t t1 t2 : Table) (k : RoleMap) (top : ℕ) (areas : List AreaRule) (s : M.Store) (aim : Condemned) (x : LaterOn m t m1 t1 k top areas s aim) (y : LaterOn m1 t1 m2 t2 x.map top areas s aim)
-    → (z : LaterOn m t m2 t2 k top areas s aim) × (z.map ≡ y.map)
+    (m m1 m2 : Store) (t t1 t2 : Table) (k : RoleMap) (top : ℕ) (areas : List AreaRule) (s : M.Store) (aim : Condemned) (x : RepresentedByLaterMap m t m1 t1 k top areas s aim) (y : RepresentedByLaterMap m1 t1 m2 t2 x.map top areas s aim)
+    → (z : RepresentedByLaterMap m t m2 t2 k top areas s aim) × (z.map ≡ y.map)
 
 -- a word that had a value has it by a later map
 abbrev pub ValuesStay : Type 0
 ValuesStay =
-    (m m' : Store) (t t' : Table) (k : RoleMap) (top : ℕ) (areas : List AreaRule) (s : M.Store) (aim : Condemned) (x : LaterOn m t m' t' k top areas s aim) (c : Content) (v : Value)
+    (m m' : Store) (t t' : Table) (k : RoleMap) (top : ℕ) (areas : List AreaRule) (s : M.Store) (aim : Condemned) (x : RepresentedByLaterMap m t m' t' k top areas s aim) (c : Content) (v : Value)
     → value_of k.role c ≡ Some v → value_of x.map.role c ≡ Some v
 
 -- the live words are the same after two calls that leave them unchanged
 abbrev pub LiveTwice : Type 0
-LiveTwice = (m m1 m2 : Store) (t t1 t2 : Table) → LiveSame m t m1 t1 → LiveSame m1 t1 m2 t2 → LiveSame m t m2 t2
+LiveTwice = (m m1 m2 : Store) (t t1 t2 : Table) → LiveWordsUnchanged m t m1 t1 → LiveWordsUnchanged m1 t1 m2 t2 → LiveWordsUnchanged m t m2 t2
 
 -- two calls that preserve what is scanned are one that does
 abbrev pub PreservesTwice : Type 0
@@ -65,6 +65,6 @@ RunsMoveTogether =
 -- if a table only grows, what is live stays live and used, what is old stays old, nothing else becomes old, and a collection keeps what it kept
 pub record TablesGrow : Type 0 where
   pub live : (t t' : Table) (a : ℕ) → OnlyGrows t t' → IsLiveWord t a → IsLiveWord t' a
-  pub old : (t t' : Table) (word : Parts) → OnlyGrows t t' → HasOld t word → HasOld t' word
-  pub no_other : (t t' : Table) (word : Parts) → OnlyGrows t t' → HasOld t' word → HasOld t word
+  pub old : (t t' : Table) (word : Parts) → OnlyGrows t t' → RefersToOld t word → RefersToOld t' word
+  pub no_other : (t t' : Table) (word : Parts) → OnlyGrows t t' → RefersToOld t' word → RefersToOld t word
   pub kept : (t t' : Table) (registers : List Value) (s : M.Store) (aim : Condemned) (v : Value) → OnlyGrows t t' → IsKeptValue t registers s aim v → IsKeptValue t' registers s aim v

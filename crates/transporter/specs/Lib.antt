@@ -1,6 +1,6 @@
 pub mod Growth
 pub mod Laws
-pub mod LiveSame
+pub mod LiveWordsUnchanged
 pub mod Marking
 pub mod Making
 pub mod Moving
@@ -13,6 +13,7 @@ pub mod Settling
 pub mod Preserving
 pub mod Transports
 pub mod Writes
+pub mod WrittenMarks
 pub mod Views
 pub use Rattle.lisp_ground.specs as lisp_ground
 pub use Rattle.lisp_ground.specs.lisp_meaning

@@ -4,7 +4,7 @@ use Rattle.store_word.specs.Words.{Parts}
 use Rattle.mem_port.specs.Store.{Store}
 use Rattle.area_space.specs.Table.{Table, used_of}
 use Rattle.obj_layout.specs.Forwards.{word_at, forward_of}
-use Rattle.transporter.specs.Settling.{HasOld}
+use Rattle.transporter.specs.Settling.{RefersToOld}
 
 -- a word is a forward
 abbrev pub IsForward : Parts → Type 0
@@ -19,7 +19,7 @@ pub record IsPlaced (t t' : Table) (a : ℕ) : Type 0 where
 pub data MayMark (m : Store) (t : Table) (m' : Store) (t' : Table) (a : ℕ) : Type 0 where
   placed : IsPlaced t t' a → MayMark m t m' t' a
   forwarded : (IsForward (word_at m.words a) → ⊥) → IsForward (word_at m'.words a) → MayMark m t m' t' a
-  settled : HasOld t (word_at m.words a) → (HasOld t' (word_at m'.words a) → ⊥) → MayMark m t m' t' a
+  settled : RefersToOld t (word_at m.words a) → (RefersToOld t' (word_at m'.words a) → ⊥) → MayMark m t m' t' a
 
 -- a page has a word that may give it marks
 abbrev pub HasMarker : Store → Table → Store → Table → ℕ → Type 0
@@ -29,7 +29,7 @@ HasMarker m t m' t' page = (a : ℕ) × (a / 256 ≡ page) × MayMark m t m' t' 
 pub record TurnsOneWay (m : Store) (t : Table) (m' : Store) (t' : Table) : Type 0 where
   pub used : (region : ℕ) → used_of t region ≤ used_of t' region
   pub forwards : (a : ℕ) → IsForward (word_at m.words a) → IsForward (word_at m'.words a) ⊎ IsPlaced t t' a
-  pub olds : (a : ℕ) → HasOld t' (word_at m'.words a) → HasOld t (word_at m.words a) ⊎ IsPlaced t t' a
+  pub olds : (a : ℕ) → RefersToOld t' (word_at m'.words a) → RefersToOld t (word_at m.words a) ⊎ IsPlaced t t' a
 
 -- A page without marks gets marks only by a word of it that was placed, became a forward, or lost an old address
 pub record MarksFollow (m : Store) (t : Table) (m' : Store) (t' : Table) : Type 0 where

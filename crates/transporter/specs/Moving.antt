@@ -5,13 +5,13 @@ use Rattle.mem_port.specs.Store.{Store, StoresNothing}
 use Rattle.area_space.specs.Table.{Table, IsOld}
 use Rattle.obj_layout.specs.Forwards.{word_at}
 use Rattle.transporter.specs.Growth.{OpensOrStays}
-use Rattle.transporter.specs.LiveSame.{IsLiveWord}
-use Rattle.transporter.specs.Settling.{reference_of, readdressed, HasOld, Replaces}
+use Rattle.transporter.specs.LiveWordsUnchanged.{IsLiveWord}
+use Rattle.transporter.specs.Settling.{reference_of, readdressed, RefersToOld, Replaces}
 use Rattle.transporter.specs.Transports.{MovesFrom}
 
 -- A word is settled: without an old address it is unchanged, and nothing moves; otherwise the object that it refers to is transported, and it gets the new address
 pub data MovesFor (m : Store) (t : Table) (m' : Store) (t' : Table) (old new : Parts) : Type 0 where
-  stays : (HasOld t old → ⊥) → StoresNothing m m' → t' ≡ t → new ≡ old → MovesFor m t m' t' old new
+  stays : (RefersToOld t old → ⊥) → StoresNothing m m' → t' ≡ t → new ≡ old → MovesFor m t m' t' old new
   moves : (at to : ℕ) → reference_of old.content ≡ Some at → IsOld t (at / 4096) → MovesFrom m t m' t' at to → new ≡ readdressed old to → MovesFor m t m' t' old new
 
 -- The word at an address is settled, and the result is stored there if it differs

@@ -7,15 +7,15 @@ use Rattle.mem_port.specs.Store.{Store}
 use Rattle.area_space.specs.Table.{Table, used_of, IsOld}
 use Rattle.area_space.specs.PageList.{IsAscending}
 use Rattle.obj_layout.specs.Forwards.{word_at}
-use Rattle.transporter.specs.LiveSame.{OnlyGrows, IsLiveWord}
+use Rattle.transporter.specs.LiveWordsUnchanged.{OnlyGrows, IsLiveWord}
 
 -- no address of the content is in an old region
 abbrev pub FreshOn : Table → Content → Type 0
 FreshOn t content = (b : ℕ) → address_of content ≡ Some b → IsOld t (b / 4096) → ⊥
 
 -- each used word of a live region is fresh
-abbrev pub AllFresh : Store → Table → Type 0
-AllFresh m t = (a : ℕ) → IsLiveWord t a → FreshOn t (word_at m.words a).content
+abbrev pub NoOldAddresses : Store → Table → Type 0
+NoOldAddresses m t = (a : ℕ) → IsLiveWord t a → FreshOn t (word_at m.words a).content
 
 -- a page has a word that was placed between two tables
 abbrev pub HasPlaced : Table → Table → ℕ → Type 0

@@ -9,7 +9,7 @@ use Rattle.area_space.specs.Table.{Table, IsOld}
 use Rattle.transporter.specs.lisp_meaning.State.{Condemned, Store}
 use Rattle.transporter.specs.lisp_meaning.Roles.{RoleMap, value_of}
 use Rattle.transporter.specs.lisp_ground.GroundInvariant.{GroundInvariant}
-use Rattle.transporter.specs.Settling.{HasOld, IsKeptValue}
+use Rattle.transporter.specs.Settling.{RefersToOld, IsKeptValue}
 
 -- the ground represents some objects, of which the content has this value; if a region is old, the collection that runs keeps the object that it refers to
 pub record CanRead (m : Memory.Store) (t : Table) (k : RoleMap) (top : ℕ) (areas : List AreaRule) (registers : List Value) (s : Store) (aim : Condemned) (content : Content) (v : Value) : Type 0 where
@@ -27,4 +27,4 @@ pub record IsReadable (m : Memory.Store) (t : Table) (word : Parts) : Type 0 whe
   pub aim : Condemned
   pub value : Value
   pub can : CanRead m t map top areas registers objects aim word.content value
-  pub fresh : HasOld t word → ⊥
+  pub fresh : RefersToOld t word → ⊥

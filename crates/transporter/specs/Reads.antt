@@ -3,7 +3,7 @@ use Rattle.std.specs.Prelude.{◌≡◌, ℕ, ◌+◌, ◌-◌, ◌*◌, ◌≤�
 use Rattle.area_space.specs.View.{GroundView}
 use Rattle.mem_port.specs.Store.{StoresNothing}
 use Rattle.transporter.specs.Growth.{Grows}
-use Rattle.transporter.specs.Views.{AllFresh, MarksFollow, MovesAtMost, PreservesScanned}
+use Rattle.transporter.specs.Views.{NoOldAddresses, MarksFollow, MovesAtMost, PreservesScanned}
 
 -- nothing was stored, in the same table
 abbrev pub StaysWhole : GroundView → GroundView → Type 0
@@ -14,7 +14,7 @@ pub record KeepsGround (v v' : GroundView) : Type 0 where
   pub table : Grows v.table v'.table
   pub moves : MovesAtMost v v' 1
   pub preserves : PreservesScanned v v'
-  pub stays_fresh : AllFresh v → AllFresh v'
+  pub stays_fresh : NoOldAddresses v → NoOldAddresses v'
   pub marks : MarksFollow v v'
 
 -- What a read costs: at most 2,048 words are placed. It takes `least` memory accesses at most, and 4 for each word placed, and after a swap error at most 1,024 more.

@@ -9,16 +9,16 @@ use Rattle.area_space.specs.Table.{Table}
 use Rattle.obj_layout.specs.Forwards.{word_at}
 use Rattle.lisp_ground.specs.lisp_meaning.State.{Condemned, Store}
 use Rattle.lisp_ground.specs.lisp_meaning.Roles.{RoleMap, value_of}
-use Rattle.transporter.specs.LiveSame.{LiveSameBut}
-use Rattle.transporter.specs.Transports.{LaterOn}
+use Rattle.transporter.specs.LiveWordsUnchanged.{LiveWordsUnchangedExcept}
+use Rattle.transporter.specs.Transports.{RepresentedByLaterMap}
 
 -- the ground represents the same objects by a later map, by which the word has this value
 pub record MeansOn (m : Memory.Store) (t : Table) (m' : Memory.Store) (t' : Table) (k : RoleMap) (top : ℕ) (areas : List AreaRule) (s : Store) (aim : Condemned) (word : Parts) (value : Value) : Type 0 where
-  pub later : LaterOn m t m' t' k top areas s aim
+  pub later : RepresentedByLaterMap m t m' t' k top areas s aim
   pub value_is : value_of later.map.role word.content ≡ Some value
 
 -- The word at an address has this content and the cdr code that it had. No other used word of a live region has changed
 pub record SettlesAt (m : Memory.Store) (t : Table) (m' : Memory.Store) (t' : Table) (a : ℕ) (content : Content) : Type 0 where
   pub code : (word_at m'.words a).cdr ≡ (word_at m.words a).cdr
   pub settled : (word_at m'.words a).content ≡ content
-  pub others : LiveSameBut m t m' t' a
+  pub others : LiveWordsUnchangedExcept m t m' t' a

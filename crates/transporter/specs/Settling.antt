@@ -13,7 +13,7 @@ use Rattle.lisp_ground.specs.lisp_meaning.State as M
 use Rattle.lisp_ground.specs.lisp_meaning.Sound.{is_kept, Reaches}
 use Rattle.lisp_ground.specs.lisp_meaning.Roles.{RoleMap, value_of}
 use Rattle.lisp_ground.specs.GroundInvariant.{GroundInvariant}
-use Rattle.transporter.specs.Transports.{LaterOn}
+use Rattle.transporter.specs.Transports.{RepresentedByLaterMap}
 
 -- the address of a reference
 abbrev pub reference_of : Content → Option ℕ
@@ -32,8 +32,8 @@ abbrev pub readdressed : Parts → ℕ → Parts
 readdressed word to = record word { content = content_to word.content to }
 
 -- a word is a reference to an old address
-abbrev pub HasOld : Table → Parts → Type 0
-HasOld t word = (at : ℕ) × (reference_of word.content ≡ Some at) × IsOld t (at / 4096)
+abbrev pub RefersToOld : Table → Parts → Type 0
+RefersToOld t word = (at : ℕ) × (reference_of word.content ≡ Some at) × IsOld t (at / 4096)
 
 -- a collection runs, and keeps the object that a value refers to
 pub record IsKeptValue (t : Table) (registers : List Value) (s : M.Store) (aim : Condemned) (v : Value) : Type 0 where
@@ -45,7 +45,7 @@ pub record IsKeptValue (t : Table) (registers : List Value) (s : M.Store) (aim :
 pub record CanSettle (m : Store) (t : Table) (k : RoleMap) (top : ℕ) (areas : List AreaRule) (registers : List Value) (s : M.Store) (aim : Condemned) (word : Parts) (v : Value) : Type 0 where
   pub kept : GroundInvariant m t k top areas s aim
   pub value : (at : ℕ) → reference_of word.content ≡ Some at → value_of k.role word.content ≡ Some v
-  pub survives : HasOld t word → IsKeptValue t registers s aim v
+  pub survives : RefersToOld t word → IsKeptValue t registers s aim v
 
 -- by some map, for some objects
 pub record IsSettleable (m : Store) (t : Table) (word : Parts) : Type 0 where
@@ -60,12 +60,12 @@ pub record IsSettleable (m : Store) (t : Table) (word : Parts) : Type 0 where
 
 -- The word is unchanged, or has a live address in place of an old one
 pub record Settles (t t' : Table) (old new : Parts) : Type 0 where
-  pub is : (new ≡ old) ⊎ ((to : ℕ) × HasOld t old × (new ≡ readdressed old to))
-  pub fresh : HasOld t' new → ⊥
+  pub is : (new ≡ old) ⊎ ((to : ℕ) × RefersToOld t old × (new ≡ readdressed old to))
+  pub fresh : RefersToOld t' new → ⊥
 
 -- the ground represents the same objects by a later map, by which the new word has each value that the old one had
 pub record SettlesOn (m : Store) (t : Table) (m' : Store) (t' : Table) (k : RoleMap) (top : ℕ) (areas : List AreaRule) (s : M.Store) (aim : Condemned) (old new : Parts) : Type 0 where
-  pub later : LaterOn m t m' t' k top areas s aim
+  pub later : RepresentedByLaterMap m t m' t' k top areas s aim
   pub value : (v : Value) → value_of k.role old.content ≡ Some v → value_of later.map.role new.content ≡ Some v
 
 -- a word is stored in place of another, if they differ

@@ -34,7 +34,7 @@ pub record IsTransportable (m : Store) (t : Table) (at : ℕ) : Type 0 where
   pub can : CanTransport m t map top areas registers store aim kind at name
 
 -- The ground represents the same objects by a later map: each reference still has its meaning. The charge of condemned objects in old regions has fallen by at least the number of words placed.
-pub record LaterOn (m : Store) (t : Table) (m' : Store) (t' : Table) (k : RoleMap) (top : ℕ) (areas : List AreaRule) (s : M.Store) (aim : Condemned) : Type 0 where
+pub record RepresentedByLaterMap (m : Store) (t : Table) (m' : Store) (t' : Table) (k : RoleMap) (top : ℕ) (areas : List AreaRule) (s : M.Store) (aim : Condemned) : Type 0 where
   pub map : RoleMap
   pub kept : GroundInvariant m' t' map top areas s aim
   pub refines : Refines k.role map.role
@@ -42,7 +42,7 @@ pub record LaterOn (m : Store) (t : Table) (m' : Store) (t' : Table) (k : RoleMa
 
 -- the same, and a reference to an address means an object, which is there, live
 pub record ReachesOn (m : Store) (t : Table) (m' : Store) (t' : Table) (k : RoleMap) (top : ℕ) (areas : List AreaRule) (s : M.Store) (aim : Condemned) (kind : Kind) (to n : ℕ) : Type 0 where
-  pub later : LaterOn m t m' t' k top areas s aim
+  pub later : RepresentedByLaterMap m t m' t' k top areas s aim
   pub named : names_as kind (later.map.role to) ≡ Some n
   pub live : IsLive t' (to / 4096)
   pub final : IsFinal m'.words to
@@ -53,7 +53,7 @@ pub data MovesFrom (m : Store) (t : Table) (m' : Store) (t' : Table) (at to : �
   moved : (here : ℕ) (p : Parcel) (read : Store) → Final m.words at here → IsOld t (here / 4096) → IsParcel m.words here p → StoresNothing m read → Relocates read t m' t' p to → MovesFrom m t m' t' at to
 
 -- No word changes, and the ground represents whatever it did
-pub record StaysOn (m : Store) (t : Table) (m' : Store) (t' : Table) : Type 0 where
+pub record WordsUnchanged (m : Store) (t : Table) (m' : Store) (t' : Table) : Type 0 where
   pub words : m'.words ≡ m.words
   pub placed : t'.placed ≡ t.placed
   pub kept : (k : RoleMap) (top : ℕ) (areas : List AreaRule) (s : M.Store) (aim : Condemned) → GroundInvariant m t k top areas s aim → GroundInvariant m' t' k top areas s aim

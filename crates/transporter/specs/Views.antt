@@ -10,7 +10,7 @@ use Rattle.obj_layout.specs.Forwards.{word_at}
 use Rattle.store_word.specs.Words.{Parts}
 use Rattle.store_word.specs.declared.word.Content.{Content}
 use Rattle.transporter.specs.declared.parcel.Parcel.{Parcel}
-use Rattle.transporter.specs.LiveSame as live_same
+use Rattle.transporter.specs.LiveWordsUnchanged as live_same
 use Rattle.transporter.specs.Marking as marking
 use Rattle.transporter.specs.Moving as moving
 use Rattle.transporter.specs.Relocations as relocations
@@ -19,8 +19,8 @@ use Rattle.transporter.specs.Settling as settling
 use Rattle.transporter.specs.Preserving as preserving
 use Rattle.transporter.specs.Transports as transports
 
-abbrev pub AllFresh : GroundView → Type 0
-AllFresh v = preserving.AllFresh v.mem.store v.table
+abbrev pub NoOldAddresses : GroundView → Type 0
+NoOldAddresses v = preserving.NoOldAddresses v.mem.store v.table
 
 abbrev pub CanMove : GroundView → Parcel → Type 0
 CanMove v = relocations.CanMove v.mem.store v.table
@@ -36,7 +36,7 @@ CanTransport v = transports.CanTransport v.mem.store v.table
 
 -- the word at an address is a reference to an old address
 abbrev pub HasOldAt : GroundView → ℕ → Type 0
-HasOldAt v at = settling.HasOld v.table (word_at v.mem.store.words at)
+HasOldAt v at = settling.RefersToOld v.table (word_at v.mem.store.words at)
 
 abbrev pub IsMovable : GroundView → ℕ → Type 0
 IsMovable v = relocations.IsMovable v.mem.store v.table
@@ -47,14 +47,14 @@ IsSettleable v = settling.IsSettleable v.mem.store v.table
 abbrev pub IsTransportable : GroundView → ℕ → Type 0
 IsTransportable v = transports.IsTransportable v.mem.store v.table
 
-abbrev pub LaterOn : GroundView → GroundView → RoleMap → ℕ → List AreaRule → MeaningStore → Condemned → Type 0
-LaterOn v v' = transports.LaterOn v.mem.store v.table v'.mem.store v'.table
+abbrev pub RepresentedByLaterMap : GroundView → GroundView → RoleMap → ℕ → List AreaRule → MeaningStore → Condemned → Type 0
+RepresentedByLaterMap v v' = transports.RepresentedByLaterMap v.mem.store v.table v'.mem.store v'.table
 
-abbrev pub LiveSame : GroundView → GroundView → Type 0
-LiveSame v v' = live_same.LiveSame v.mem.store v.table v'.mem.store v'.table
+abbrev pub LiveWordsUnchanged : GroundView → GroundView → Type 0
+LiveWordsUnchanged v v' = live_same.LiveWordsUnchanged v.mem.store v.table v'.mem.store v'.table
 
-abbrev pub LiveSameBut : GroundView → GroundView → ℕ → Type 0
-LiveSameBut v v' = live_same.LiveSameBut v.mem.store v.table v'.mem.store v'.table
+abbrev pub LiveWordsUnchangedExcept : GroundView → GroundView → ℕ → Type 0
+LiveWordsUnchangedExcept v v' = live_same.LiveWordsUnchangedExcept v.mem.store v.table v'.mem.store v'.table
 
 abbrev pub MarksFollow : GroundView → GroundView → Type 0
 MarksFollow v v' = marking.MarksFollow v.mem.store v.table v'.mem.store v'.table
@@ -90,8 +90,8 @@ SettlesOn v v' = settling.SettlesOn v.mem.store v.table v'.mem.store v'.table
 abbrev pub SettlesWordAt : GroundView → GroundView → ℕ → Parts → Type 0
 SettlesWordAt v v' at = settling.Settles v.table v'.table (word_at v.mem.store.words at)
 
-abbrev pub StaysOn : GroundView → GroundView → Type 0
-StaysOn v v' = transports.StaysOn v.mem.store v.table v'.mem.store v'.table
+abbrev pub WordsUnchanged : GroundView → GroundView → Type 0
+WordsUnchanged v v' = transports.WordsUnchanged v.mem.store v.table v'.mem.store v'.table
 
 abbrev pub PreservesScanned : GroundView → GroundView → Type 0
 PreservesScanned v v' = preserving.PreservesScanned v.mem.store v.table v'.mem.store v'.table

@@ -1,6 +1,6 @@
 //! Words are copied within a memory, and forwards are written at their old places.
 ghost use Rattle.std.specs.Prelude.{◌≡◌, ◌⊎◌, ◌+◌, ◌*◌, ◌<◌, ◌≤◌, ℕ, IfSome, IsOk, length, ◌%◌};
-ghost use Rattle.mem_port.specs.View.{Quiet, shown};
+ghost use Rattle.mem_port.specs.View.{WithoutFault, shown};
 ghost use Rattle.mem_port.specs.Spans.{HoldsSpan};
 ghost use Rattle.obj_layout.specs.Forwards.{word_at};
 ghost use Rattle.transporter.specs.Parcels.{ArePairOf, word_count_of, new_word};
@@ -8,7 +8,7 @@ ghost use Rattle.transporter.specs.Relocations.{CanCopy, Moves};
 ghost use Rattle.transporter.specs.Writes.{Writes, forward_to, pair_word, two_words};
 
 use crate::parcel::{Pair, Parcel};
-use mem_port::{Memory, known};
+use mem_port::{Memory, assert_invariant};
 use std::sync::ledger::Ledger;
 use store_word::{CdrCode, Steps, SwapFault, Word};
 
@@ -16,7 +16,7 @@ use store_word::{CdrCode, Steps, SwapFault, Word};
 fn on_one_page(from: u32, to: u32, left: u32) -> u32
     requires { 0 < left }
     ensures some { 0 < result }
-    ensures few { result ≤ left }
+    ensures at_most { result ≤ left }
     ensures from { from % 256 + result ≤ 256 }
     ensures to { to % 256 + result ≤ 256 }
 {
@@ -32,8 +32,8 @@ pub fn copy_words<M: Memory, L: Ledger>(
     count: u32,
     steps: &mut Steps<L>,
 ) -> Result<(), SwapFault>
-    requires from_inside { from + count ≤ length (M.seen mem.old).words }
-    requires to_inside { to + count ≤ length (M.seen mem.old).words }
+    requires from { from + count ≤ length (M.seen mem.old).words }
+    requires to { to + count ≤ length (M.seen mem.old).words }
     requires apart { (from + count ≤ to) ⊎ (to + count ≤ from) }
 
     // The pages of both places are held.
@@ -41,15 +41,15 @@ pub fn copy_words<M: Memory, L: Ledger>(
     requires to_held { HoldsSpan (M.held mem.old) (record { at = to; words = count }) }
 
     // No swap error occurs, and the words are copied.
-    ensures sure { IsOk result }
-    ensures copied { Writes (M.seen mem.old) (M.seen mem.new) to count (λ i. word_at (M.seen mem.old).words (from + i)) }
+    ensures succeeds { IsOk result }
+    ensures written { Writes (M.seen mem.old) (M.seen mem.new) to count (λ i. word_at (M.seen mem.old).words (from + i)) }
 
     // What remains held, swap errors and the cost.
-    ensures held { (page : ℕ) → M.held mem.old page → M.held mem.new page }
-    ensures quiet { Quiet (shown M.Memory mem.old) (shown M.Memory mem.new) steps.old steps.new }
+    ensures stays_held { (page : ℕ) → M.held mem.old page → M.held mem.new page }
+    ensures no_fault { WithoutFault (shown M.Memory mem.old) (shown M.Memory mem.new) steps.old steps.new }
     ensures cost { steps.new ≡ steps.old + 2 * count }
 {
-    known(mem);
+    assert_invariant(mem);
     let mut done = 0;
     while done < count {
         let piece = on_one_page(from + done, to + done, count - done);
@@ -68,16 +68,16 @@ pub(crate) fn leave_forwards<M: Memory, L: Ledger>(
     count: u32,
     steps: &mut Steps<L>,
 ) -> Result<(), SwapFault>
-    requires at_inside { at + count ≤ length (M.seen mem.old).words }
-    requires to_inside { to + count ≤ length (M.seen mem.old).words }
-    requires at_held { HoldsSpan (M.held mem.old) (record { at = at; words = count }) }
-    ensures sure { IsOk result }
-    ensures forwards { Writes (M.seen mem.old) (M.seen mem.new) at count (λ i. forward_to (to + i)) }
-    ensures held { (page : ℕ) → M.held mem.old page → M.held mem.new page }
-    ensures quiet { Quiet (shown M.Memory mem.old) (shown M.Memory mem.new) steps.old steps.new }
+    requires in_range { at + count ≤ length (M.seen mem.old).words }
+    requires to { to + count ≤ length (M.seen mem.old).words }
+    requires held { HoldsSpan (M.held mem.old) (record { at = at; words = count }) }
+    ensures succeeds { IsOk result }
+    ensures written { Writes (M.seen mem.old) (M.seen mem.new) at count (λ i. forward_to (to + i)) }
+    ensures stays_held { (page : ℕ) → M.held mem.old page → M.held mem.new page }
+    ensures no_fault { WithoutFault (shown M.Memory mem.old) (shown M.Memory mem.new) steps.old steps.new }
     ensures cost { steps.new ≡ steps.old + count }
 {
-    known(mem);
+    assert_invariant(mem);
     for i in 0..count {
         mem.write(at + i, Word::gc_forward(to + i), steps)?;
     }
@@ -93,24 +93,24 @@ pub(crate) fn make_last_pair<M: Memory, L: Ledger>(
     rest: u32,
     steps: &mut Steps<L>,
 ) -> Result<(), SwapFault>
-    requires from_inside { from < length (M.seen mem.old).words }
-    requires to_inside { to + 2 ≤ length (M.seen mem.old).words }
-    requires rest_inside { rest < length (M.seen mem.old).words }
+    requires from { from < length (M.seen mem.old).words }
+    requires to { to + 2 ≤ length (M.seen mem.old).words }
+    requires in_range { rest < length (M.seen mem.old).words }
 
     // The pages of both places are held.
     requires from_held { HoldsSpan (M.held mem.old) (record { at = from; words = 1 }) }
     requires to_held { HoldsSpan (M.held mem.old) (record { at = to; words = 2 }) }
 
     // No swap error occurs, and the pair is written.
-    ensures sure { IsOk result }
+    ensures succeeds { IsOk result }
     ensures pair { Writes (M.seen mem.old) (M.seen mem.new) to 2 (pair_word (word_at (M.seen mem.old).words from) rest) }
 
     // What remains held, swap errors and the cost.
-    ensures held { (page : ℕ) → M.held mem.old page → M.held mem.new page }
-    ensures quiet { Quiet (shown M.Memory mem.old) (shown M.Memory mem.new) steps.old steps.new }
+    ensures stays_held { (page : ℕ) → M.held mem.old page → M.held mem.new page }
+    ensures no_fault { WithoutFault (shown M.Memory mem.old) (shown M.Memory mem.new) steps.old steps.new }
     ensures cost { steps.new ≡ steps.old + 3 }
 {
-    known(mem);
+    assert_invariant(mem);
     let car = mem.read(from, steps)?;
     mem.write(to, car.with_cdr(CdrCode::Normal), steps)?;
     mem.write(to + 1, Word::list_at(rest), steps)?;
@@ -124,15 +124,15 @@ fn write_pair<M: Memory, L: Ledger>(
     to: u32,
     steps: &mut Steps<L>,
 ) -> Result<(), SwapFault>
-    requires inside { to + 2 ≤ length (M.seen mem.old).words }
+    requires in_range { to + 2 ≤ length (M.seen mem.old).words }
     requires to_held { HoldsSpan (M.held mem.old) (record { at = to; words = 2 }) }
-    ensures sure { IsOk result }
+    ensures succeeds { IsOk result }
     ensures written { Writes (M.seen mem.old) (M.seen mem.new) to 2 (two_words pair.first pair.second) }
-    ensures held { (page : ℕ) → M.held mem.old page → M.held mem.new page }
-    ensures quiet { Quiet (shown M.Memory mem.old) (shown M.Memory mem.new) steps.old steps.new }
+    ensures stays_held { (page : ℕ) → M.held mem.old page → M.held mem.new page }
+    ensures no_fault { WithoutFault (shown M.Memory mem.old) (shown M.Memory mem.new) steps.old steps.new }
     ensures cost { steps.new ≡ steps.old + 2 }
 {
-    known(mem);
+    assert_invariant(mem);
     mem.write(to, pair.first, steps)?;
     mem.write(to + 1, pair.second, steps)?;
     Ok(())
@@ -148,10 +148,10 @@ fn lay_parcel<M: Memory, L: Ledger>(
 ) -> Result<(), SwapFault>
     requires can { CanCopy (M.held mem.old) (length (M.seen mem.old).words) parcel.now to }
     requires pair { IfSome pair (ArePairOf (M.seen mem.old).words parcel.now) }
-    ensures sure { IsOk result }
-    ensures copied { Writes (M.seen mem.old) (M.seen mem.new) to (word_count_of parcel.now) (new_word (M.seen mem.old).words parcel.now) }
-    ensures held { (page : ℕ) → M.held mem.old page → M.held mem.new page }
-    ensures quiet { Quiet (shown M.Memory mem.old) (shown M.Memory mem.new) steps.old steps.new }
+    ensures succeeds { IsOk result }
+    ensures written { Writes (M.seen mem.old) (M.seen mem.new) to (word_count_of parcel.now) (new_word (M.seen mem.old).words parcel.now) }
+    ensures stays_held { (page : ℕ) → M.held mem.old page → M.held mem.new page }
+    ensures no_fault { WithoutFault (shown M.Memory mem.old) (shown M.Memory mem.new) steps.old steps.new }
     ensures cost { steps.new ≤ steps.old + 2 * word_count_of parcel.now }
 {
     match pair {
@@ -173,11 +173,11 @@ pub(crate) fn move_words<M: Memory, L: Ledger>(
     requires pair { IfSome pair (ArePairOf (M.seen mem.old).words parcel.now) }
 
     // No swap error occurs, and all of it moves.
-    ensures sure { IsOk result }
+    ensures succeeds { IsOk result }
     ensures moved { Moves (M.seen mem.old) (M.seen mem.new) parcel.now to }
 
     // Swap errors and the cost.
-    ensures quiet { Quiet (shown M.Memory mem.old) (shown M.Memory mem.new) steps.old steps.new }
+    ensures no_fault { WithoutFault (shown M.Memory mem.old) (shown M.Memory mem.new) steps.old steps.new }
     ensures cost { steps.new ≤ steps.old + 3 * word_count_of parcel.now }
 {
     lay_parcel(mem, parcel, pair, to, steps)?;
@@ -195,15 +195,15 @@ fn copy_parcel<M: Memory, L: Ledger>(
     requires { CanCopy (M.held mem.old) (length (M.seen mem.old).words) parcel.now to }
 
     // No swap error occurs, and the words are copied.
-    ensures sure { IsOk result }
-    ensures copied { Writes (M.seen mem.old) (M.seen mem.new) to (word_count_of parcel.now) (new_word (M.seen mem.old).words parcel.now) }
+    ensures succeeds { IsOk result }
+    ensures written { Writes (M.seen mem.old) (M.seen mem.new) to (word_count_of parcel.now) (new_word (M.seen mem.old).words parcel.now) }
 
     // What remains held, swap errors and the cost.
-    ensures held { (page : ℕ) → M.held mem.old page → M.held mem.new page }
-    ensures quiet { Quiet (shown M.Memory mem.old) (shown M.Memory mem.new) steps.old steps.new }
+    ensures stays_held { (page : ℕ) → M.held mem.old page → M.held mem.new page }
+    ensures no_fault { WithoutFault (shown M.Memory mem.old) (shown M.Memory mem.new) steps.old steps.new }
     ensures cost { steps.new ≤ steps.old + 2 * word_count_of parcel.now }
 {
-    known(mem);
+    assert_invariant(mem);
     match parcel.rest {
         None => copy_words(mem, parcel.at, to, parcel.words, steps)?,
         Some(rest) => {

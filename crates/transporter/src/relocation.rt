@@ -1,6 +1,6 @@
 //! A parcel gets a place in the live class of its survivors, and is written there.
 ghost use Rattle.std.specs.Prelude.{◌≡◌, ◌+◌, ◌-◌, ◌*◌, ◌/◌, ◌<◌, ◌≤◌, IfOk, OnOk, OnErr, IfSome, true};
-ghost use Rattle.mem_port.specs.View.{Tells};
+ghost use Rattle.mem_port.specs.View.{AccountsForFaults};
 ghost use Rattle.area_space.specs.View.{view};
 ghost use Rattle.area_space.specs.Views.{IsGround, NamesNoFree};
 ghost use Rattle.lisp_ground.specs.Views.{Opens};
@@ -22,10 +22,10 @@ use store_word::{Steps, SwapFault};
 
 // The class of an old address.
 fn class_of_old(table: &RegionTable, at: u32) -> Class
-    requires inside { at / 4096 < table.now.regions }
-    requires old { IsOld table.now (at / 4096) }
-    ensures class { IsOldIn table.now at result.area result.level }
-    ensures stale { result.stale ≡ true }
+    requires in_range { at / 4096 < table.now.regions }
+    requires can { IsOld table.now (at / 4096) }
+    ensures area { IsOldIn table.now at result.area result.level }
+    ensures value { result.stale ≡ true }
 {
     match table.class_of(at) {
         Some(class) => class,
@@ -38,29 +38,29 @@ fn class_of_old(table: &RegionTable, at: u32) -> Class
 ///
 /// The used words of the area and these may be at most twice its quota. Nothing is stored.
 pub fn place_for<M: Memory>(ground: &mut Ground<M>, area: u8, level: u8, words: u32) -> Placed
-    requires some { 0 < words }
-    requires few { words ≤ 2048 }
-    requires area_in { area < areas_of ground.old.table }
-    requires level_in { level < levels_of ground.old.table }
+    requires at_least { 0 < words }
+    requires at_most { words ≤ 2048 }
+    requires area { area < areas_of ground.old.table }
+    requires level { level < levels_of ground.old.table }
 
     // There is room for them, and the ground is sound.
     requires room { RoomRule ground.old.table }
-    requires within { words_of_area ground.old.table area + words ≤ 2 * quota_of ground.old.table area }
+    requires in_range { words_of_area ground.old.table area + words ≤ 2 * quota_of ground.old.table area }
     requires ground { IsGround (view ground.old) }
     requires named { NamesNoFree (view ground.old) }
 
     // The place, and when a region was opened for it.
-    ensures opens { Opens (view ground.old) (view ground.new) result.opened area level }
+    ensures opened { Opens (view ground.old) (view ground.new) result.opened area level }
     ensures end { IsEnd ground.new.table (slot_of ground.old.table area level) result.at words }
     ensures needed { OpensIfFull ground.old.table (slot_of ground.old.table area level) words result.opened }
 
     // What is unchanged: the counts, and the resident pages.
-    ensures faults { M.faults ground.new.mem ≡ M.faults ground.old.mem }
+    ensures no_fault { M.faults ground.new.mem ≡ M.faults ground.old.mem }
     ensures taken { M.taken ground.new.mem ≡ M.taken ground.old.mem }
     ensures resident { M.resident ground.new.mem ≡ M.resident ground.old.mem }
 {
     let placed = ground.place(area, level, words);
-    ground.table.known();
+    ground.table.assert_invariant();
     placed
 }
 
@@ -77,12 +77,12 @@ fn put<M: Memory, L: Ledger>(
     requires can { CanPut (view ground.old) parcel.now class placed.now.at }
     requires pair { IfSome pair (ArePairOf (view ground.old).mem.store.words parcel.now) }
     ensures moved { OnOk result (Moves (view ground.old).mem.store (view ground.new).mem.store parcel.now placed.now.at) }
-    ensures committed { OnOk result (Commits ground.old.table ground.new.table class.area class.level (survivor ground.old.table class.level) placed.now.at (word_count_of parcel.now) parcel.now.charge) }
-    ensures stays { OnErr result (StoresNothing (view ground.old).mem.store (view ground.new).mem.store) }
-    ensures same { OnErr result (ground.new.table ≡ ground.old.table) }
-    ensures tells { Tells (view ground.old).mem (view ground.new).mem steps.old steps.new result }
+    ensures placed { OnOk result (Commits ground.old.table ground.new.table class.area class.level (survivor ground.old.table class.level) placed.now.at (word_count_of parcel.now) parcel.now.charge) }
+    ensures unchanged { OnErr result (StoresNothing (view ground.old).mem.store (view ground.new).mem.store) }
+    ensures table { OnErr result (ground.new.table ≡ ground.old.table) }
+    ensures accounted { AccountsForFaults (view ground.old).mem (view ground.new).mem steps.old steps.new result }
     ensures cost { steps.new ≤ steps.old + 3 * word_count_of parcel.now + 18 }
-    ensures most { OnErr result (steps.new ≤ steps.old + 18) }
+    ensures cost_at_most { OnErr result (steps.new ≤ steps.old + 18) }
 {
     let words = parcel.new_words();
     let from = Span {
@@ -111,15 +111,15 @@ pub(crate) fn relocate<M: Memory, L: Ledger>(
     requires pair { IfSome pair (ArePairOf (view ground.old).mem.store.words parcel.now) }
     ensures moved { IfOk result (Relocates (view ground.old) (view ground.new) parcel.now) }
     ensures fault { OnErr result (OpensOnly (view ground.old) (view ground.new)) }
-    ensures tells { Tells (view ground.old).mem (view ground.new).mem steps.old steps.new result }
+    ensures accounted { AccountsForFaults (view ground.old).mem (view ground.new).mem steps.old steps.new result }
     ensures cost { steps.new ≤ steps.old + 3 * word_count_of parcel.now + 18 }
-    ensures most { OnErr result (steps.new ≤ steps.old + 18) }
+    ensures cost_at_most { OnErr result (steps.new ≤ steps.old + 18) }
 {
-    ground.table.known();
+    ground.table.assert_invariant();
     let class = class_of_old(&ground.table, parcel.at);
     let level = ground.table.survivor_level(class.level);
     let placed = place_for(ground, class.area, level, parcel.new_words());
     put(ground, parcel, pair, class, &placed, steps)?;
-    ground.table.known();
+    ground.table.assert_invariant();
     Ok(placed.at)
 }

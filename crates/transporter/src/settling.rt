@@ -1,8 +1,8 @@
 //! Settling (the read barrier): an old address in a word becomes that of the transported object.
 ghost use Rattle.std.specs.Prelude.{◌≡◌, ℕ, List, ◌+◌, ◌-◌, ◌*◌, ◌/◌, ◌<◌, ◌≤◌, ◌^◌, IfOk, OnOk, OnErr, Some, length};
-ghost use Rattle.mem_port.specs.View.{Tells, shown};
+ghost use Rattle.mem_port.specs.View.{AccountsForFaults, shown};
 ghost use Rattle.area_space.specs.View.{view};
-ghost use Rattle.transporter.specs.Views.{AllFresh, CanSettle, FetchMoves, HasOldAt, IsSettleable, LaterOn, LiveSame, LiveSameBut, MarksFollow, MovesAtMost, MovesFor, SettlesOn, SettlesWordAt, StaysOn, PreservesScanned};
+ghost use Rattle.transporter.specs.Views.{NoOldAddresses, CanSettle, FetchMoves, HasOldAt, IsSettleable, RepresentedByLaterMap, LiveWordsUnchanged, LiveWordsUnchangedExcept, MarksFollow, MovesAtMost, MovesFor, SettlesOn, SettlesWordAt, WordsUnchanged, PreservesScanned};
 ghost use Rattle.area_space.specs.lisp_graph.declared.object.Value.{Value};
 ghost use Rattle.area_space.specs.lisp_graph.declared.world.AreaRule.{AreaRule};
 ghost use Rattle.lisp_ground.specs.lisp_meaning.State.{Condemned, Store};
@@ -11,8 +11,8 @@ ghost use Rattle.mem_port.specs.Store.{StoresNothing};
 ghost use Rattle.area_space.specs.Table.{IsOld};
 ghost use Rattle.obj_layout.specs.Forwards.{word_at};
 ghost use Rattle.transporter.specs.Growth.{Grows};
-ghost use Rattle.transporter.specs.LiveSame.{IsLiveWord};
-ghost use Rattle.transporter.specs.Settling.{reference_of, readdressed, HasOld, Replaces, Settles};
+ghost use Rattle.transporter.specs.LiveWordsUnchanged.{IsLiveWord};
+ghost use Rattle.transporter.specs.Settling.{reference_of, readdressed, RefersToOld, Replaces, Settles};
 
 use crate::transports::transport;
 use area_space::Ground;
@@ -68,23 +68,23 @@ pub fn settle<M: Memory, L: Ledger>(
     ensures word { IfOk result (Settles ground.old.table ground.new.table word) }
     ensures words { IfOk result (MovesFor (view ground.old) (view ground.new) word) }
     ensures moves { MovesAtMost (view ground.old) (view ground.new) 1 }
-    ensures still { (HasOld ground.old.table word → ⊥) → (ground.new ≡ ground.old) × (steps.new ≡ steps.old) }
+    ensures unchanged { (RefersToOld ground.old.table word → ⊥) → (ground.new ≡ ground.old) × (steps.new ≡ steps.old) }
 
     // What is unchanged in the ground.
     ensures table { Grows ground.old.table ground.new.table }
-    ensures live { LiveSame (view ground.old) (view ground.new) }
+    ensures live { LiveWordsUnchanged (view ground.old) (view ground.new) }
     ensures preserves { PreservesScanned (view ground.old) (view ground.new) }
     ensures marks { MarksFollow (view ground.old) (view ground.new) }
-    ensures stays_fresh { (HasOld ground.old.table word → ⊥) → AllFresh (view ground.old) → AllFresh (view ground.new) }
+    ensures stays_fresh { (RefersToOld ground.old.table word → ⊥) → NoOldAddresses (view ground.old) → NoOldAddresses (view ground.new) }
 
     // What holds after a swap error, and that it is counted.
-    ensures fault { OnErr result (StaysOn (view ground.old) (view ground.new)) }
-    ensures tells { Tells (view ground.old).mem (view ground.new).mem steps.old steps.new result }
+    ensures fault { OnErr result (WordsUnchanged (view ground.old) (view ground.new)) }
+    ensures accounted { AccountsForFaults (view ground.old).mem (view ground.new).mem steps.old steps.new result }
 
     // What is placed, and the cost.
-    ensures few { ground.new.table.placed ≤ ground.old.table.placed + 2048 }
+    ensures at_most { ground.new.table.placed ≤ ground.old.table.placed + 2048 }
     ensures cost { OnOk result (steps.new ≤ steps.old + 4 * (ground.new.table.placed - ground.old.table.placed) + 43) }
-    ensures most { OnErr result (steps.new ≤ steps.old + 1069) }
+    ensures cost_at_most { OnErr result (steps.new ≤ steps.old + 1069) }
 {
     match reference(word) {
         Some(at) if ground.table.is_old(at) => settle_old(ground, word, at, steps),
@@ -100,9 +100,9 @@ fn settle_old<M: Memory, L: Ledger>(
     at: u32,
     steps: &mut Steps<L>,
 ) -> Result<Word, SwapFault>
-    requires word { IsSettleable (view ground.old) word }
-    requires at { reference_of word.content ≡ Some at }
-    requires old { IsOld ground.old.table (at / 4096) }
+    requires can { IsSettleable (view ground.old) word }
+    requires agrees { reference_of word.content ≡ Some at }
+    requires in_range { IsOld ground.old.table (at / 4096) }
 
     // The word that is returned, and its value.
     ensures settles { IfOk result (λ new. (k : RoleMap) (top : ℕ) (areas : List AreaRule) (registers : List Value) (s : Store) (aim : Condemned) (v : Value)
@@ -114,18 +114,18 @@ fn settle_old<M: Memory, L: Ledger>(
 
     // What is unchanged in the ground.
     ensures table { Grows ground.old.table ground.new.table }
-    ensures live { LiveSame (view ground.old) (view ground.new) }
+    ensures live { LiveWordsUnchanged (view ground.old) (view ground.new) }
     ensures preserves { PreservesScanned (view ground.old) (view ground.new) }
     ensures marks { MarksFollow (view ground.old) (view ground.new) }
 
     // What holds after a swap error, and that it is counted.
-    ensures fault { OnErr result (StaysOn (view ground.old) (view ground.new)) }
-    ensures tells { Tells (view ground.old).mem (view ground.new).mem steps.old steps.new result }
+    ensures fault { OnErr result (WordsUnchanged (view ground.old) (view ground.new)) }
+    ensures accounted { AccountsForFaults (view ground.old).mem (view ground.new).mem steps.old steps.new result }
 
     // What is placed, and the cost.
-    ensures few { ground.new.table.placed ≤ ground.old.table.placed + 2048 }
+    ensures at_most { ground.new.table.placed ≤ ground.old.table.placed + 2048 }
     ensures cost { OnOk result (steps.new ≤ steps.old + 4 * (ground.new.table.placed - ground.old.table.placed) + 43) }
-    ensures most { OnErr result (steps.new ≤ steps.old + 1069) }
+    ensures cost_at_most { OnErr result (steps.new ≤ steps.old + 1069) }
 {
     let to = transport(ground, at, steps)?;
     Ok(with_address(word, to))
@@ -143,8 +143,8 @@ pub fn fetch<M: Memory, L: Ledger>(
     at: u32,
     steps: &mut Steps<L>,
 ) -> Result<Word, SwapFault>
-    requires live { IsLiveWord ground.old.table at }
-    requires word { IsSettleable (view ground.old) (word_at (view ground.old).mem.store.words at) }
+    requires in_range { IsLiveWord ground.old.table at }
+    requires can { IsSettleable (view ground.old) (word_at (view ground.old).mem.store.words at) }
 
     // The word that is returned, and its value.
     ensures settles { IfOk result (λ new. (k : RoleMap) (top : ℕ) (areas : List AreaRule) (registers : List Value) (s : Store) (aim : Condemned) (v : Value)
@@ -157,22 +157,22 @@ pub fn fetch<M: Memory, L: Ledger>(
 
     // What changes in the ground, and what is unchanged.
     ensures table { Grows ground.old.table ground.new.table }
-    ensures others { LiveSameBut (view ground.old) (view ground.new) at }
-    ensures live { OnErr result (LiveSame (view ground.old) (view ground.new)) }
+    ensures registers { LiveWordsUnchangedExcept (view ground.old) (view ground.new) at }
+    ensures live { OnErr result (LiveWordsUnchanged (view ground.old) (view ground.new)) }
     ensures preserves { PreservesScanned (view ground.old) (view ground.new) }
     ensures marks { MarksFollow (view ground.old) (view ground.new) }
-    ensures stays_fresh { (HasOldAt (view ground.old) at → ⊥) → AllFresh (view ground.old) → AllFresh (view ground.new) }
+    ensures stays_fresh { (HasOldAt (view ground.old) at → ⊥) → NoOldAddresses (view ground.old) → NoOldAddresses (view ground.new) }
 
     // What holds after a swap error, and that it is counted.
     ensures fault { OnErr result ((k : RoleMap) (top : ℕ) (areas : List AreaRule) (registers : List Value) (s : Store) (aim : Condemned) (v : Value)
         → CanSettle (view ground.old) k top areas registers s aim (word_at (view ground.old).mem.store.words at) v
-        → LaterOn (view ground.old) (view ground.new) k top areas s aim) }
-    ensures tells { Tells (view ground.old).mem (view ground.new).mem steps.old steps.new result }
+        → RepresentedByLaterMap (view ground.old) (view ground.new) k top areas s aim) }
+    ensures accounted { AccountsForFaults (view ground.old).mem (view ground.new).mem steps.old steps.new result }
 
     // What is placed, and the cost.
-    ensures few { ground.new.table.placed ≤ ground.old.table.placed + 2048 }
+    ensures at_most { ground.new.table.placed ≤ ground.old.table.placed + 2048 }
     ensures cost { OnOk result (steps.new ≤ steps.old + 4 * (ground.new.table.placed - ground.old.table.placed) + 45) }
-    ensures most { steps.new ≤ steps.old + 4 * (ground.new.table.placed - ground.old.table.placed) + 1071 }
+    ensures cost_at_most { steps.new ≤ steps.old + 4 * (ground.new.table.placed - ground.old.table.placed) + 1071 }
 {
     let word = ground.mem.read(at, steps)?;
     let settled = settle(ground, word, steps)?;
@@ -191,7 +191,7 @@ fn write_changed<M: Memory, L: Ledger>(
     requires { at < length (M.seen mem.old).words }
     ensures ok { OnOk result (Replaces (M.seen mem.old) (M.seen mem.new) at old new) }
     ensures err { OnErr result (StoresNothing (M.seen mem.old) (M.seen mem.new)) }
-    ensures tells { Tells (shown M.Memory mem.old) (shown M.Memory mem.new) steps.old steps.new result }
+    ensures accounted { AccountsForFaults (shown M.Memory mem.old) (shown M.Memory mem.new) steps.old steps.new result }
     ensures cost { steps.new ≤ steps.old + 1 }
 {
     if new.bits() == old.bits() {

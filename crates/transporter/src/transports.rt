@@ -1,8 +1,8 @@
 //! Transport: an object moves out of an old region.
 ghost use Rattle.std.specs.Prelude.{◌≡◌, ℕ, List, ◌+◌, ◌-◌, ◌*◌, ◌<◌, ◌≤◌, IfOk, IfSome, OnOk, OnErr};
-ghost use Rattle.mem_port.specs.View.{Tells};
+ghost use Rattle.mem_port.specs.View.{AccountsForFaults};
 ghost use Rattle.area_space.specs.View.{view};
-ghost use Rattle.transporter.specs.Views.{CanTransport, IsMovable, IsTransportable, LiveSame, MarksFollow, MovesAtMost, MovesFrom, MovesHere, OpensAtMost, ReachesOn, StaysOn, PreservesScanned};
+ghost use Rattle.transporter.specs.Views.{CanTransport, IsMovable, IsTransportable, LiveWordsUnchanged, MarksFollow, MovesAtMost, MovesFrom, MovesHere, OpensAtMost, ReachesOn, WordsUnchanged, PreservesScanned};
 ghost use Rattle.area_space.specs.lisp_graph.declared.object.Value.{Value};
 ghost use Rattle.area_space.specs.lisp_graph.declared.world.AreaRule.{AreaRule};
 ghost use Rattle.lisp_ground.specs.lisp_meaning.State.{Condemned, Store};
@@ -37,7 +37,7 @@ pub fn transport<M: Memory, L: Ledger>(
     requires { IsTransportable (view ground.old) at }
 
     // The address of the object, and which words moved.
-    ensures reaches { IfOk result (λ to. (k : RoleMap) (top : ℕ) (areas : List AreaRule) (registers : List Value) (s : Store) (aim : Condemned) (kind : Kind) (n : ℕ)
+    ensures settles { IfOk result (λ to. (k : RoleMap) (top : ℕ) (areas : List AreaRule) (registers : List Value) (s : Store) (aim : Condemned) (kind : Kind) (n : ℕ)
         → CanTransport (view ground.old) k top areas registers s aim kind at n
         → ReachesOn (view ground.old) (view ground.new) k top areas s aim kind to n) }
     ensures words { IfOk result (MovesFrom (view ground.old) (view ground.new) at) }
@@ -45,18 +45,18 @@ pub fn transport<M: Memory, L: Ledger>(
 
     // What is unchanged in the ground.
     ensures table { Grows ground.old.table ground.new.table }
-    ensures live { LiveSame (view ground.old) (view ground.new) }
+    ensures live { LiveWordsUnchanged (view ground.old) (view ground.new) }
     ensures preserves { PreservesScanned (view ground.old) (view ground.new) }
     ensures marks { MarksFollow (view ground.old) (view ground.new) }
 
     // What holds after a swap error, and that it is counted.
-    ensures fault { OnErr result (StaysOn (view ground.old) (view ground.new)) }
-    ensures tells { Tells (view ground.old).mem (view ground.new).mem steps.old steps.new result }
+    ensures fault { OnErr result (WordsUnchanged (view ground.old) (view ground.new)) }
+    ensures accounted { AccountsForFaults (view ground.old).mem (view ground.new).mem steps.old steps.new result }
 
     // What is placed, and the cost.
-    ensures few { ground.new.table.placed ≤ ground.old.table.placed + 2048 }
+    ensures at_most { ground.new.table.placed ≤ ground.old.table.placed + 2048 }
     ensures cost { OnOk result (steps.new ≤ steps.old + 4 * (ground.new.table.placed - ground.old.table.placed) + 43) }
-    ensures most { OnErr result (steps.new ≤ steps.old + 1069) }
+    ensures cost_at_most { OnErr result (steps.new ≤ steps.old + 1069) }
 {
     let found = resolve_first(&mut ground.mem, at, steps)?;
     if !ground.table.is_old(found.at) {
@@ -73,12 +73,12 @@ fn move_from<M: Memory, L: Ledger>(
 ) -> Result<u32, SwapFault>
     requires whole { StandsWhole (view ground.old).mem.store.words object.at }
     requires first { IfSome object.first (λ word. word ≡ word_at (view ground.old).mem.store.words object.at) }
-    requires movable { IsMovable (view ground.old) object.at }
+    requires can { IsMovable (view ground.old) object.at }
     ensures moved { IfOk result (MovesHere (view ground.old) (view ground.new) object.at) }
     ensures fault { OnErr result (OpensAtMost (view ground.old) (view ground.new)) }
-    ensures tells { Tells (view ground.old).mem (view ground.new).mem steps.old steps.new result }
+    ensures accounted { AccountsForFaults (view ground.old).mem (view ground.new).mem steps.old steps.new result }
     ensures cost { OnOk result (steps.new ≤ steps.old + 4 * (ground.new.table.placed - ground.old.table.placed) + 31) }
-    ensures most { OnErr result (steps.new ≤ steps.old + 1057) }
+    ensures cost_at_most { OnErr result (steps.new ≤ steps.old + 1057) }
 {
     let found = parcel_of(&mut ground.mem, object, steps)?;
     relocate(ground, &found.parcel, found.pair, steps)

@@ -18,7 +18,7 @@ use Rattle.std.proofs.lemmas.Option.{get_or_from_slice_get, slice_get-get_or, sl
 use Rattle.lisp_graph.specs.declared.object.Object.{Object}
 use Rattle.why_held.specs.declared.rows.CensusRow.{CensusRow}
 use Rattle.why_held.specs.declared.rows.Counted.{Counted}
-use Rattle.why_held.specs.declared.tallies.Tally.{Tally}
+use Rattle.why_held.specs.declared.tallies.KindCount.{KindCount}
 use Rattle.why_held.specs.Census.{IsBefore, IsCensus, IsRow, charge_of, count_of, counted_object, is_code_before, is_kind, same_code}
 use Rattle.why_held.specs.Tallies.{AreTallies, Counts, HasRoom, Kind, kind_cmp, more, row_of, tally_of}
 
@@ -120,16 +120,16 @@ charge_none (one ∷ counted) area code e = go (is_kind area code one) refl (cha
         let z = rest (omega arith) in
         omega arith)
 
-tally : ℕ → ℕ → Option Tally
+tally : ℕ → ℕ → Option KindCount
 tally n charge = if n == 0 then None else Some (record { count = n; charge = charge })
 
 tally_some : (n charge : ℕ) → 0 < n → tally n charge ≡ Some (record { count = n; charge = charge })
 unfolding tally
-tally_some n charge l = ap (λ (b : Bool). if b then None else Some (let t : Tally = record { count = n; charge = charge } in t)) (ne_eqb n 0 (λ e. absurd (omega arith)))
+tally_some n charge l = ap (λ (b : Bool). if b then None else Some (let t : KindCount = record { count = n; charge = charge } in t)) (ne_eqb n 0 (λ e. absurd (omega arith)))
 
 tally_none : (n charge : ℕ) → n ≡ 0 → tally n charge ≡ None
 unfolding tally
-tally_none n charge e = ap (λ (b : Bool). if b then None else Some (let t : Tally = record { count = n; charge = charge } in t)) (eq-eqb n 0 e)
+tally_none n charge e = ap (λ (b : Bool). if b then None else Some (let t : KindCount = record { count = n; charge = charge } in t)) (eq-eqb n 0 e)
 
 more_tally : (n charge one n' charge' : ℕ) → n' ≡ n + 1 → charge' ≡ charge + one → (n ≡ 0 → charge ≡ 0) → Some (more (tally n charge) one) ≡ tally n' charge'
 more_tally n charge one n' charge' e f none = go (cases_eq n 0)
@@ -142,19 +142,19 @@ more_tally n charge one n' charge' e f none = go (cases_eq n 0)
         let a : 1 ≡ n' = omega arith in
         let c = none z in
         let b : one ≡ charge' = omega arith in
-        ap (λ (t : Option Tally). Some (more t one)) (tally_none n charge z)
-        ∙ ap₂ (λ (x y : ℕ). Some (let t : Tally = record { count = x; charge = y } in t)) a b ∙ sym is_new)
+        ap (λ (t : Option KindCount). Some (more t one)) (tally_none n charge z)
+        ∙ ap₂ (λ (x y : ℕ). Some (let t : KindCount = record { count = x; charge = y } in t)) a b ∙ sym is_new)
     go (inr z) = (
         let a : n + 1 ≡ n' = omega arith in
         let b : charge + one ≡ charge' = omega arith in
-        ap (λ (t : Option Tally). Some (more t one)) (tally_some n charge (omega arith))
-        ∙ ap₂ (λ (x y : ℕ). Some (let t : Tally = record { count = x; charge = y } in t)) a b ∙ sym is_new)
+        ap (λ (t : Option KindCount). Some (more t one)) (tally_some n charge (omega arith))
+        ∙ ap₂ (λ (x y : ℕ). Some (let t : KindCount = record { count = x; charge = y } in t)) a b ∙ sym is_new)
 
 tally_is : (counted : List Counted) (area : ℕ) (code : Option ℕ) → tally_of counted area code ≡ tally (count_of counted area code) (charge_of counted area code)
 unfolding tally
 tally_is counted area code = refl
 
-module _ (counted : List Counted) (m : BTreeMap Kind Tally) (are : AreTallies counted m) where
+module _ (counted : List Counted) (m : BTreeMap Kind KindCount) (are : AreTallies counted m) where
   pub tallies_room : (area : ℕ) (code : Option ℕ) → length counted < 2 ^ 32 → HasRoom (get kind_cmp m (area, code))
   tallies_room area code few = subst HasRoom (sym (are.each area code ∙ tally_is counted area code)) (go (cases_eq (count_of counted area code) 0))
     where
@@ -172,7 +172,7 @@ module _ (counted : List Counted) (m : BTreeMap Kind Tally) (are : AreTallies co
       go (inl z) = subst HasRoom (sym (tally_none (count_of counted area code) (charge_of counted area code) z)) tt
       go (inr z) = subst HasRoom (sym (tally_some (count_of counted area code) (charge_of counted area code) (omega arith))) (let x = counts in let y = charges in (omega arith, omega arith))
 
-  module _ (one : Counted) (n : BTreeMap Kind Tally) (counts : Counts one m n) where
+  module _ (one : Counted) (n : BTreeMap Kind KindCount) (counts : Counts one m n) where
     each_more : (area : ℕ) (code : Option ℕ) → get kind_cmp n (area, code) ≡ tally_of (counted ++ one ∷ []) area code
     each_more area code = go (is_kind area code one) refl
       where
@@ -189,7 +189,7 @@ module _ (counted : List Counted) (m : BTreeMap Kind Tally) (are : AreTallies co
             let number : count_of (counted ++ one ∷ []) area code ≡ count_of counted area code + 1 = count_push counted one area code ∙ ap (λ (b : Bool). count_of counted area code + cond b 1 0) is in
             let charges : charge_of (counted ++ one ∷ []) area code ≡ charge_of counted area code + one.charge = charge_push counted one area code ∙ ap (λ (b : Bool). charge_of counted area code + cond b one.charge 0) is in
             found ∙ ap (λ (b : Bool). cond b (Some (more (get kind_cmp m (one.area, one.code)) one.charge)) (get kind_cmp m (area, code))) is
-            ∙ ap (λ (t : Option Tally). Some (more t one.charge)) here
+            ∙ ap (λ (t : Option KindCount). Some (more t one.charge)) here
             ∙ more_tally (count_of counted area code) (charge_of counted area code) one.charge (count_of (counted ++ one ∷ []) area code) (charge_of (counted ++ one ∷ []) area code) number charges (charge_none counted area code)
             ∙ sym (tally_is (counted ++ one ∷ []) area code)
         go false is =
@@ -203,15 +203,15 @@ module _ (counted : List Counted) (m : BTreeMap Kind Tally) (are : AreTallies co
 
 -- The rows
 
-abbrev count_in : Option Tally → ℕ
+abbrev count_in : Option KindCount → ℕ
 count_in None = 0
 count_in (Some x) = x.count
 
-abbrev charge_in : Option Tally → ℕ
+abbrev charge_in : Option KindCount → ℕ
 charge_in None = 0
 charge_in (Some x) = x.charge
 
-is_some_tally : (counted : List Counted) (area : ℕ) (code : Option ℕ) (t : Tally) → tally_of counted area code ≡ Some t → (0 < t.count) × (t.count ≡ count_of counted area code) × (t.charge ≡ charge_of counted area code)
+is_some_tally : (counted : List Counted) (area : ℕ) (code : Option ℕ) (t : KindCount) → tally_of counted area code ≡ Some t → (0 < t.count) × (t.count ≡ count_of counted area code) × (t.charge ≡ charge_of counted area code)
 is_some_tally counted area code t e = go (cases_eq (count_of counted area code) 0)
   where
     go : (count_of counted area code ≡ 0) ⊎ (count_of counted area code ≡ 0 → ⊥) → (0 < t.count) × (t.count ≡ count_of counted area code) × (t.charge ≡ charge_of counted area code)
@@ -222,23 +222,23 @@ is_some_tally counted area code t e = go (cases_eq (count_of counted area code) 
         let b : t.charge ≡ charge_of counted area code = ap charge_in x in
         (omega arith, a, b)
 
-no_entry : Kind × Tally
+no_entry : Kind × KindCount
 no_entry = ((0, None), record { count = 0; charge = 0 })
 
-entry_at : (es : List (Kind × Tally)) (i : ℕ) (d : CensusRow) → i < length es → get_or (map row_of es) i d ≡ row_of (get_or es i no_entry)
+entry_at : (es : List (Kind × KindCount)) (i : ℕ) (d : CensusRow) → i < length es → get_or (map row_of es) i d ≡ row_of (get_or es i no_entry)
 entry_at es i d l =
     get_or_from_slice_get (map row_of es) i (row_of (get_or es i no_entry)) d (slice_get-map row_of es i ∙ ap (option_map row_of) (slice_get-get_or es i no_entry l))
 
-key_at : (es : List (Kind × Tally)) (i : ℕ) → i < length es → get_or (keys_of es) i no_entry.0 ≡ (get_or es i no_entry).0
+key_at : (es : List (Kind × KindCount)) (i : ℕ) → i < length es → get_or (keys_of es) i no_entry.0 ≡ (get_or es i no_entry).0
 key_at [] i l = absurd (omega arith)
 key_at (e ∷ es) zero l = refl
 key_at (e ∷ es) (suc i) l = key_at es i (omega arith)
 
-length_keys : (es : List (Kind × Tally)) → length (keys_of es) ≡ length es
+length_keys : (es : List (Kind × KindCount)) → length (keys_of es) ≡ length es
 length_keys [] = refl
 length_keys (e ∷ es) = ap suc (length_keys es)
 
-module _ (counted : List Counted) (m : BTreeMap Kind Tally) (are : AreTallies counted m) (ordered : IsOrdered kind_cmp m) where
+module _ (counted : List Counted) (m : BTreeMap Kind KindCount) (are : AreTallies counted m) (ordered : IsOrdered kind_cmp m) where
   rows_each : All (IsRow counted) (map row_of m.entries)
   rows_each = All-map (IsRow counted) row_of m.entries (λ i d l. (
       let e = get_or m.entries i d in

@@ -7,7 +7,7 @@ use Rattle.std.specs.Ordering.{nat_cmp, ordering_then}
 use Rattle.std.specs.BTreeMap.{BTreeMap, Updates, get}
 use Rattle.why_held.specs.declared.rows.CensusRow.{CensusRow}
 use Rattle.why_held.specs.declared.rows.Counted.{Counted}
-use Rattle.why_held.specs.declared.tallies.Tally.{Tally}
+use Rattle.why_held.specs.declared.tallies.KindCount.{KindCount}
 use Rattle.why_held.specs.Census.{charge_of, count_of}
 
 -- an area and a code
@@ -19,30 +19,30 @@ abbrev pub kind_cmp : Kind → Kind → Ordering
 kind_cmp = λ x y. ordering_then (nat_cmp x.0 y.0) (option_cmp nat_cmp x.1 y.1)
 
 -- the tally with one more object of this charge
-abbrev pub more : Option Tally → ℕ → Tally
+abbrev pub more : Option KindCount → ℕ → KindCount
 more None charge = record { count = 1; charge = charge }
 more (Some tally) charge = record { count = tally.count + 1; charge = tally.charge + charge }
 
 -- one more object can be counted
-abbrev pub HasRoom : Option Tally → Type 0
+abbrev pub HasRoom : Option KindCount → Type 0
 HasRoom None = ⊤
 HasRoom (Some tally) = (tally.count < 2 ^ 32) × (tally.charge ≤ 2 ^ 64 - 2 ^ 32)
 
 -- the tally of an area and a code, if there are objects of them
-abbrev pub tally_of : List Counted → ℕ → Option ℕ → Option Tally
+abbrev pub tally_of : List Counted → ℕ → Option ℕ → Option KindCount
 tally_of counted area code =
     if count_of counted area code == 0 then None
     else Some (record { count = count_of counted area code; charge = charge_of counted area code })
 
 -- the tallies of what was counted
-pub record AreTallies (counted : List Counted) (tallies : BTreeMap Kind Tally) : Type 0 where
+pub record AreTallies (counted : List Counted) (tallies : BTreeMap Kind KindCount) : Type 0 where
   pub each : (area : ℕ) (code : Option ℕ) → get kind_cmp tallies (area, code) ≡ tally_of counted area code
   pub small : All (λ one. one.charge < 2 ^ 32) counted
 
 -- one more object was counted
-pub record Counts (one : Counted) (old new : BTreeMap Kind Tally) : Type 0 where
+pub record Counts (one : Counted) (old new : BTreeMap Kind KindCount) : Type 0 where
   pub updates : Updates kind_cmp old new (one.area, one.code) (Some (more (get kind_cmp old (one.area, one.code)) one.charge))
   pub small : one.charge < 2 ^ 32
 
-abbrev pub row_of : Kind × Tally → CensusRow
+abbrev pub row_of : Kind × KindCount → CensusRow
 row_of entry = record { area = entry.0.0; code = entry.0.1; count = entry.1.count; charge = entry.1.charge }

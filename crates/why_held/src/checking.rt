@@ -57,7 +57,7 @@ fn parts_within(depths: &[Option<u32>], most: u64, body: &Body) -> bool
 fn is_next_within(depths: &[Option<u32>], objects: &[Object], from: u64) -> bool
     requires from { from < length objects.now }
     requires size { length depths.now ≡ length objects.now }
-    requires objects { All (IsObject (length objects.now)) objects.now }
+    requires sound { All (IsObject (length objects.now)) objects.now }
     ensures { IsTrue result ↔ IsNextWithin objects.now depths.now from }
 {
     match depth_at(depths, from) {
@@ -69,7 +69,7 @@ fn is_next_within(depths: &[Option<u32>], objects: &[Object], from: u64) -> bool
 /// Whether each reference leads at most one deeper.
 fn are_next_within(depths: &[Option<u32>], objects: &[Object]) -> bool
     requires size { length depths.now ≡ length objects.now }
-    requires objects { All (IsObject (length objects.now)) objects.now }
+    requires sound { All (IsObject (length objects.now)) objects.now }
     ensures { IsTrue result ↔ AreNextWithin objects.now depths.now }
 {
     let mut from = 0;
@@ -195,7 +195,7 @@ fn is_answered(world: &World, depths: &[Option<u32>], object: u64, held: &Held) 
 /// reference once.
 pub fn check_why(world: &World, object: u64, answer: &Why) -> bool
     requires graph { IsGraph (opening world.now) }
-    requires object { object < length world.now.objects }
+    requires in_range { object < length world.now.objects }
     ensures sound { IsTrue result → IsHeld (opening world.now) object answer.now.held }
     ensures whole { IsWhy (opening world.now) object answer.now → IsTrue result }
 {

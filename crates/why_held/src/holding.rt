@@ -27,7 +27,7 @@ pub(crate) fn is_ref(object: u64, value: Value) -> bool
 fn first_reference(values: &[Value], object: u64) -> usize
     requires { refers_in object values.now ≡ true }
     ensures first { IsFirst (λ place. is_ref object (value_at values.now place)) result }
-    ensures within { result < length values.now }
+    ensures in_range { result < length values.now }
 {
     let mut place = 0;
     while !is_ref(object, values[place]) {
@@ -39,7 +39,7 @@ fn first_reference(values: &[Value], object: u64) -> usize
 /// The first part of an object that refers to another object; one of its parts does.
 fn first_part(body: &Body, object: u64) -> Part
     requires refers { body_refers object body.now ≡ true }
-    requires wide { width body.now ≤ 2047 }
+    requires at_most { width body.now ≤ 2047 }
     ensures { IsFirstPart body.now object result }
 {
     match body {
@@ -59,7 +59,7 @@ fn first_part(body: &Body, object: u64) -> Part
 /// The first register that refers to an object; one of them does.
 fn first_hop(registers: &[Value], object: u64) -> Hop
     requires refers { refers_in object registers.now ≡ true }
-    requires few { length registers.now ≤ 256 }
+    requires at_most { length registers.now ≤ 256 }
     ensures to { result.to ≡ object }
     ensures stands { register_value registers.now result.part ≡ Ref object }
     ensures first { IsFirst (λ register. is_ref object (value_at registers.now register)) (place_of result.part) }
@@ -72,8 +72,8 @@ fn first_hop(registers: &[Value], object: u64) -> Hop
 
 /// The object that was found for another one.
 fn found_for(nearest: &[Option<u64>], object: u64) -> u64
-    requires within { object < length nearest.now }
-    requires some { IsSome (nearest_at nearest.now object) }
+    requires in_range { object < length nearest.now }
+    requires at_least { IsSome (nearest_at nearest.now object) }
     ensures { nearest_at nearest.now object ≡ Some result }
 {
     match nearest_at(nearest, object) {
@@ -93,9 +93,9 @@ fn chain_to(
     requires graph { IsGraph (opening world.now) }
     requires registers { length world.now.roots ≤ 256 }
     requires levels { AreLevels (opening world.now) depths.now }
-    requires depth { depth_at depths.now object ≡ Some depth }
-    ensures shortest { IfOk result (λ hops. IsShortest (opening world.now) hops object) }
-    ensures chosen { IfOk result (λ hops. IsChosen (opening world.now) depths.now hops) }
+    requires agrees { depth_at depths.now object ≡ Some depth }
+    ensures lowest { IfOk result (λ hops. IsShortest (opening world.now) hops object) }
+    ensures value { IfOk result (λ hops. IsChosen (opening world.now) depths.now hops) }
 {
     let objects = world.objects.as_slice();
     let found = nearest_of(alloc, objects, depths)?;
@@ -129,9 +129,9 @@ fn held_of(
     requires graph { IsGraph (opening world.now) }
     requires registers { length world.now.roots ≤ 256 }
     requires levels { AreLevels (opening world.now) depths.now }
-    requires object { object < length world.now.objects }
-    ensures held { IfOk result (λ held. IsHeld (opening world.now) object held) }
-    ensures chosen { IfOk result (λ held. IsChosenPath (opening world.now) depths.now held) }
+    requires in_range { object < length world.now.objects }
+    ensures stays_held { IfOk result (λ held. IsHeld (opening world.now) object held) }
+    ensures value { IfOk result (λ held. IsChosenPath (opening world.now) depths.now held) }
 {
     match depth_at(depths, object) {
         None => Ok(Held::Free),
@@ -149,8 +149,8 @@ fn held_of(
 pub fn why(alloc: Global, world: &World, object: u64) -> Result<Why, NoMemory>
     requires graph { IsGraph (opening world.now) }
     requires registers { length world.now.roots ≤ 256 }
-    requires few { length world.now.objects < 2 ^ 32 }
-    requires object { object < length world.now.objects }
+    requires at_most { length world.now.objects < 2 ^ 32 }
+    requires in_range { object < length world.now.objects }
     ensures { IfOk result (λ why. IsWhy (opening world.now) object why) }
 {
     let depths = depths_of(alloc, world)?;

@@ -56,7 +56,7 @@ fn push_line(
     charge: u64,
 ) -> Result<(), NoMemory>
     requires count { count ≤ row.count }
-    requires charge { charge ≤ row.charge }
+    requires at_most { charge ≤ row.charge }
     ensures { OnOk result (text.new ≡ text.old ++ census_line areas.now row count charge) }
 {
     push_head(text, areas, row)?;

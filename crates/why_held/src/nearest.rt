@@ -31,9 +31,9 @@ pub(crate) fn nearest_at(nearest: &[Option<u64>], object: u64) -> Option<u64>
 
 /// Records the object `from` for the object to which a value in it refers, if that is one deeper and none was recorded for it.
 fn offer(nearest: &mut Sequence<Option<u64>>, depths: &[Option<u32>], from: u64, value: Value)
-    requires depths { length depths.now ≡ length nearest.old }
+    requires size { length depths.now ≡ length nearest.old }
     requires from { from < length nearest.old }
-    requires value { RefersBelow (length nearest.old) value }
+    requires refers { RefersBelow (length nearest.old) value }
     ensures { Offered depths.now from (value ∷ []) nearest.old nearest.new }
 {
     if let Value::Ref(to) = value {
@@ -52,9 +52,9 @@ fn offer_all(
     from: u64,
     values: &[Value],
 )
-    requires depths { length depths.now ≡ length nearest.old }
+    requires size { length depths.now ≡ length nearest.old }
     requires from { from < length nearest.old }
-    requires values { All (RefersBelow (length nearest.old)) values.now }
+    requires refers { All (RefersBelow (length nearest.old)) values.now }
     ensures { Offered depths.now from values.now nearest.old nearest.new }
 {
     for value in values {
@@ -64,9 +64,9 @@ fn offer_all(
 
 /// Does this for each part of the object `from`.
 fn offer_parts(nearest: &mut Sequence<Option<u64>>, depths: &[Option<u32>], from: u64, body: &Body)
-    requires depths { length depths.now ≡ length nearest.old }
+    requires size { length depths.now ≡ length nearest.old }
     requires from { from < length nearest.old }
-    requires parts { PartsReferBelow (length nearest.old) body.now }
+    requires refers { PartsReferBelow (length nearest.old) body.now }
     ensures { Offered depths.now from (parts_of body.now) nearest.old nearest.new }
 {
     match body {
@@ -84,8 +84,8 @@ pub(crate) fn nearest_of(
     objects: &[Object],
     depths: &[Option<u32>],
 ) -> Result<Sequence<Option<u64>>, NoMemory>
-    requires depths { length depths.now ≡ length objects.now }
-    requires objects { All (IsObject (length objects.now)) objects.now }
+    requires size { length depths.now ≡ length objects.now }
+    requires sound { All (IsObject (length objects.now)) objects.now }
     ensures { IfOk result (λ nearest. AreNearest objects.now depths.now (length objects.now) nearest) }
 {
     let mut nearest = Sequence::new(alloc);

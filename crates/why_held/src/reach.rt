@@ -11,7 +11,7 @@ use world_text::{DumpFault, Numbering};
 /// Adds the object with this key to those that were found, if it isn't among them.
 fn meet(met: &mut Numbering, key: u64, cons: bool) -> Result<(), NoMemory>
     ensures ok { OnOk result (Meets (seen_as cons key ∷ []) met.old met.new) }
-    ensures known { (graph : KeyedGraph) → Shows graph (seen_as cons key) → IsKnown graph met.old → OnOk result (IsKnown graph met.new) }
+    ensures stays_known { (graph : KeyedGraph) → Shows graph (seen_as cons key) → IsKnown graph met.old → OnOk result (IsKnown graph met.new) }
 {
     if met.keys.contains(key) {
         return Ok(());
@@ -23,7 +23,7 @@ fn meet(met: &mut Numbering, key: u64, cons: bool) -> Result<(), NoMemory>
 /// Adds the object to which a value refers, if there is one.
 fn meet_value(met: &mut Numbering, value: Seen) -> Result<(), NoMemory>
     ensures ok { OnOk result (Meets (value ∷ []) met.old met.new) }
-    ensures known { (graph : KeyedGraph) → Shows graph value → IsKnown graph met.old → OnOk result (IsKnown graph met.new) }
+    ensures stays_known { (graph : KeyedGraph) → Shows graph value → IsKnown graph met.old → OnOk result (IsKnown graph met.new) }
 {
     match value {
         Seen::Cons(key) => meet(met, key, true),
@@ -36,8 +36,8 @@ fn meet_value(met: &mut Numbering, value: Seen) -> Result<(), NoMemory>
 pub(crate) fn meet_registers<W: Walk>(walk: &mut W, met: &mut Numbering) -> Result<(), DumpFault>
     requires { IsKnown (W.graph walk.old) met.old }
     ensures ok { OnOk result (Meets (W.graph walk.old).registers met.old met.new) }
-    ensures known { OnOk result (IsKnown (W.graph walk.old) met.new) }
-    ensures same { W.graph walk.new ≡ W.graph walk.old }
+    ensures stays_known { OnOk result (IsKnown (W.graph walk.old) met.new) }
+    ensures unchanged { W.graph walk.new ≡ W.graph walk.old }
     ensures cause { HasSwapCause (W.faults walk.old) (W.faults walk.new) result }
 {
     let count = walk.registers();
@@ -57,12 +57,12 @@ pub(crate) fn meet_fields<W: Walk>(
     key: u64,
     length: u16,
 ) -> Result<(), DumpFault>
-    requires has { (W.graph walk.old).has key ≡ true }
-    requires length { length ≡ ((W.graph walk.old).form key).length }
+    requires object { (W.graph walk.old).has key ≡ true }
+    requires agrees { length ≡ ((W.graph walk.old).form key).length }
     requires known { IsKnown (W.graph walk.old) met.old }
     ensures ok { OnOk result (Meets (fields_of (W.graph walk.old) key) met.old met.new) }
-    ensures known { OnOk result (IsKnown (W.graph walk.old) met.new) }
-    ensures same { W.graph walk.new ≡ W.graph walk.old }
+    ensures stays_known { OnOk result (IsKnown (W.graph walk.old) met.new) }
+    ensures unchanged { W.graph walk.new ≡ W.graph walk.old }
     ensures cause { HasSwapCause (W.faults walk.old) (W.faults walk.new) result }
 {
     let mut index = 0;

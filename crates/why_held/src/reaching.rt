@@ -33,14 +33,14 @@ fn count_object<W: Walk>(
     key: u64,
     cons: bool,
 ) -> Result<(), DumpFault>
-    requires has { (W.graph walk.old).has key ≡ true }
-    requires cons { cons ≡ (W.graph walk.old).cons key }
+    requires object { (W.graph walk.old).has key ≡ true }
+    requires agrees { cons ≡ (W.graph walk.old).cons key }
     requires known { IsKnown (W.graph walk.old) met.old }
     requires room { HasRoom (get kind_cmp tallies.old ((counted_key (W.graph walk.old) key).area, (counted_key (W.graph walk.old) key).code)) }
     ensures ok { OnOk result (Meets (fields_of (W.graph walk.old) key) met.old met.new) }
-    ensures known { OnOk result (IsKnown (W.graph walk.old) met.new) }
-    ensures counts { OnOk result (Counts (counted_key (W.graph walk.old) key) tallies.old tallies.new) }
-    ensures same { W.graph walk.new ≡ W.graph walk.old }
+    ensures stays_known { OnOk result (IsKnown (W.graph walk.old) met.new) }
+    ensures count { OnOk result (Counts (counted_key (W.graph walk.old) key) tallies.old tallies.new) }
+    ensures unchanged { W.graph walk.new ≡ W.graph walk.old }
     ensures cause { HasSwapCause (W.faults walk.old) (W.faults walk.new) result }
 {
     let form = walk.form_of(key)?;
@@ -55,11 +55,11 @@ fn count_objects<W: Walk>(
     tallies: &mut Tallies,
 ) -> Result<(), DumpFault>
     requires known { IsKnown (W.graph walk.old) met.old }
-    requires reaching { IsReaching (W.graph walk.old) 0 met.old }
+    requires fresh { IsReaching (W.graph walk.old) 0 met.old }
     requires none { tallies.old.entries ≡ [] }
-    ensures reached { OnOk result (AreReached (W.graph walk.old) met.new.keys) }
-    ensures counted { OnOk result (AreTallies (map (counted_key (W.graph walk.old)) met.new.keys) tallies.new) }
-    ensures same { W.graph walk.new ≡ W.graph walk.old }
+    ensures sound { OnOk result (AreReached (W.graph walk.old) met.new.keys) }
+    ensures after { OnOk result (AreTallies (map (counted_key (W.graph walk.old)) met.new.keys) tallies.new) }
+    ensures unchanged { W.graph walk.new ≡ W.graph walk.old }
     ensures cause { HasSwapCause (W.faults walk.old) (W.faults walk.new) result }
 {
     let mut number = 0usize;
@@ -78,8 +78,8 @@ pub fn reached<W: Walk>(
     walk: &mut W,
     _areas: &Areas,
 ) -> Result<CensusRows, DumpFault>
-    ensures is { IfOk result (λ rows. IsReachedCensus (W.graph walk.old) rows) }
-    ensures same { W.graph walk.new ≡ W.graph walk.old }
+    ensures value { IfOk result (λ rows. IsReachedCensus (W.graph walk.old) rows) }
+    ensures unchanged { W.graph walk.new ≡ W.graph walk.old }
     ensures cause { HasSwapCause (W.faults walk.old) (W.faults walk.new) result }
 {
     let mut met = Numbering::new(alloc);

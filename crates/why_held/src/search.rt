@@ -85,10 +85,10 @@ fn find_next(
     start: usize,
     depth: u32,
 ) -> Result<(), NoMemory>
-    requires start { start ≤ length search.old.found }
+    requires at_most { start ≤ length search.old.found }
     requires size { length search.old.depths ≡ length objects.now }
-    requires objects { All (IsObject (length objects.now)) objects.now }
-    requires within { All (λ object. object < length objects.now) (drop start search.old.found) }
+    requires sound { All (IsObject (length objects.now)) objects.now }
+    requires in_range { All (λ object. object < length objects.now) (drop start search.old.found) }
     ensures { OnOk result (Finds depth (all_parts objects.now (drop start search.old.found)) search.old search.new) }
 {
     let end = search.found.len() as usize;
@@ -104,7 +104,7 @@ fn find_next(
 /// The depths of all objects. Each reference is followed once.
 pub(crate) fn depths_of(alloc: Global, world: &World) -> Result<Depths, NoMemory>
     requires graph { IsGraph (opening world.now) }
-    requires few { length world.now.objects < 2 ^ 32 }
+    requires at_most { length world.now.objects < 2 ^ 32 }
     ensures { IfOk result (λ depths. AreLevels (opening world.now) depths) }
 {
     let objects = world.objects.as_slice();

@@ -10,25 +10,25 @@ use std::collections::BTreeMap;
 
 /// How many objects there are of an area and a code, and what they are charged together.
 #[derive(Clone, Copy)]
-pub struct Tally {
+pub struct KindCount {
     count: u64,
     charge: u64,
 }
 
 /// The tally of each area and code of which there are objects.
-pub(crate) type Tallies = BTreeMap<(u8, Option<u16>), Tally>;
+pub(crate) type Tallies = BTreeMap<(u8, Option<u16>), KindCount>;
 
 /// The tally with one more object.
-fn more(tally: Option<Tally>, charge: u32) -> Tally
+fn more(tally: Option<KindCount>, charge: u32) -> KindCount
     requires { HasRoom tally }
     ensures { result ≡ more tally charge }
 {
     match tally {
-        None => Tally {
+        None => KindCount {
             count: 1,
             charge: u64::from(charge),
         },
-        Some(tally) => Tally {
+        Some(tally) => KindCount {
             count: tally.count + 1,
             charge: tally.charge + u64::from(charge),
         },
@@ -48,8 +48,8 @@ pub(crate) fn count(tallies: &mut Tallies, one: Counted) -> Result<(), NoMemory>
 
 /// A row for each tally, in their order.
 pub(crate) fn rows_of(alloc: Global, tallies: &Tallies) -> Result<CensusRows, NoMemory>
-    ensures rows { IfOk result (λ rows. rows ≡ map row_of tallies.now.entries) }
-    ensures ordered { IsOrdered kind_cmp tallies.now }
+    ensures value { IfOk result (λ rows. rows ≡ map row_of tallies.now.entries) }
+    ensures order { IsOrdered kind_cmp tallies.now }
 {
     let mut rows = CensusRows::new(alloc);
     for (kind, tally) in tallies {

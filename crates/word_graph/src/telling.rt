@@ -23,10 +23,10 @@ fn value_over<M: Memory, L: Ledger>(
 ) -> Result<Seen, SwapFault>
     requires name { blank.name ≡ L.name }
     requires parts { blank.parts ≡ L.parts }
-    requires one { blank.parts ≡ 1 }
+    requires at_least { blank.parts ≡ 1 }
     requires can { CanSee (view ground.old) word.content }
-    ensures is { IfOk result (λ seen. seen ≡ told (view ground.old) word.content) }
-    ensures stays { StoresNothing (view ground.old).mem.store (view ground.new).mem.store }
+    ensures value { IfOk result (λ seen. seen ≡ told (view ground.old) word.content) }
+    ensures unchanged { StoresNothing (view ground.old).mem.store (view ground.new).mem.store }
     ensures table { ground.new.table ≡ ground.old.table }
     ensures cause { TellsFaults (view ground.old).mem.faults (view ground.new).mem.faults result }
     ensures room { LeavesRoom (view ground.old).mem.resident (view ground.new).mem.resident result }
@@ -41,10 +41,10 @@ fn form_over<M: Memory, L: Ledger>(
 ) -> Result<Form, SwapFault>
     requires name { blank.name ≡ L.name }
     requires parts { blank.parts ≡ L.parts }
-    requires one { blank.parts ≡ 1 }
+    requires at_least { blank.parts ≡ 1 }
     requires object { HasObject (view ground.old) key }
-    ensures is { IfOk result (λ form. form ≡ form_in (view ground.old) key) }
-    ensures stays { StoresNothing (view ground.old).mem.store (view ground.new).mem.store }
+    ensures value { IfOk result (λ form. form ≡ form_in (view ground.old) key) }
+    ensures unchanged { StoresNothing (view ground.old).mem.store (view ground.new).mem.store }
     ensures table { ground.new.table ≡ ground.old.table }
     ensures cause { TellsFaults (view ground.old).mem.faults (view ground.new).mem.faults result }
     ensures room { LeavesRoom (view ground.old).mem.resident (view ground.new).mem.resident result }
@@ -60,17 +60,17 @@ fn field_over<M: Memory, L: Ledger>(
 ) -> Result<Seen, SwapFault>
     requires name { blank.name ≡ L.name }
     requires parts { blank.parts ≡ L.parts }
-    requires one { blank.parts ≡ 1 }
+    requires at_least { blank.parts ≡ 1 }
 
     // The object has this part.
     requires object { HasObject (view ground.old) key }
-    requires within { index < parts_in (view ground.old) key }
+    requires in_range { index < parts_in (view ground.old) key }
 
     // What is returned.
-    ensures is { IfOk result (λ seen. seen ≡ field_in (view ground.old) key index) }
+    ensures value { IfOk result (λ seen. seen ≡ field_in (view ground.old) key index) }
 
     // What is unchanged, and swap errors.
-    ensures stays { StoresNothing (view ground.old).mem.store (view ground.new).mem.store }
+    ensures unchanged { StoresNothing (view ground.old).mem.store (view ground.new).mem.store }
     ensures table { ground.new.table ≡ ground.old.table }
     ensures cause { TellsFaults (view ground.old).mem.faults (view ground.new).mem.faults result }
     ensures room { LeavesRoom (view ground.old).mem.resident (view ground.new).mem.resident result }
@@ -81,8 +81,8 @@ fn field_over<M: Memory, L: Ledger>(
 /// `value_of_word`, without a counter of memory accesses.
 pub fn read_word<M: Memory>(ground: &mut Ground<M>, word: Word) -> Result<Seen, SwapFault>
     requires { CanSee (view ground.old) word.content }
-    ensures is { IfOk result (λ seen. seen ≡ told (view ground.old) word.content) }
-    ensures stays { StoresNothing (view ground.old).mem.store (view ground.new).mem.store }
+    ensures value { IfOk result (λ seen. seen ≡ told (view ground.old) word.content) }
+    ensures unchanged { StoresNothing (view ground.old).mem.store (view ground.new).mem.store }
     ensures table { ground.new.table ≡ ground.old.table }
     ensures cause { TellsFaults (view ground.old).mem.faults (view ground.new).mem.faults result }
     ensures room { LeavesRoom (view ground.old).mem.resident (view ground.new).mem.resident result }
@@ -93,8 +93,8 @@ pub fn read_word<M: Memory>(ground: &mut Ground<M>, word: Word) -> Result<Seen, 
 /// `form_at`, without a counter of memory accesses.
 pub fn read_form<M: Memory>(ground: &mut Ground<M>, key: u64) -> Result<Form, SwapFault>
     requires { HasObject (view ground.old) key }
-    ensures is { IfOk result (λ form. form ≡ form_in (view ground.old) key) }
-    ensures stays { StoresNothing (view ground.old).mem.store (view ground.new).mem.store }
+    ensures value { IfOk result (λ form. form ≡ form_in (view ground.old) key) }
+    ensures unchanged { StoresNothing (view ground.old).mem.store (view ground.new).mem.store }
     ensures table { ground.new.table ≡ ground.old.table }
     ensures cause { TellsFaults (view ground.old).mem.faults (view ground.new).mem.faults result }
     ensures room { LeavesRoom (view ground.old).mem.resident (view ground.new).mem.resident result }
@@ -109,9 +109,9 @@ pub fn read_field<M: Memory>(
     index: u32,
 ) -> Result<Seen, SwapFault>
     requires object { HasObject (view ground.old) key }
-    requires within { index < parts_in (view ground.old) key }
-    ensures is { IfOk result (λ seen. seen ≡ field_in (view ground.old) key index) }
-    ensures stays { StoresNothing (view ground.old).mem.store (view ground.new).mem.store }
+    requires in_range { index < parts_in (view ground.old) key }
+    ensures value { IfOk result (λ seen. seen ≡ field_in (view ground.old) key index) }
+    ensures unchanged { StoresNothing (view ground.old).mem.store (view ground.new).mem.store }
     ensures table { ground.new.table ≡ ground.old.table }
     ensures cause { TellsFaults (view ground.old).mem.faults (view ground.new).mem.faults result }
     ensures room { LeavesRoom (view ground.old).mem.resident (view ground.new).mem.resident result }

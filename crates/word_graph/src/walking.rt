@@ -1,6 +1,6 @@
 //! Reads words and objects, and stores nothing.
 ghost use Rattle.std.specs.Prelude.{◌≡◌, ◌+◌, ◌<◌, ◌≤◌, IfOk, length};
-ghost use Rattle.mem_port.specs.View.{Tells, shown};
+ghost use Rattle.mem_port.specs.View.{AccountsForFaults, shown};
 ghost use Rattle.area_space.specs.View.{view};
 ghost use Rattle.word_graph.specs.Views.{CanSee, HasObject, field_in, form_in, parts_in, told};
 ghost use Rattle.mem_port.specs.Store.{StoresNothing};
@@ -26,10 +26,10 @@ pub fn value_of_word<M: Memory, L: Ledger>(
     steps: &mut Steps<L>,
 ) -> Result<Seen, SwapFault>
     requires { CanSee (view ground.old) word.content }
-    ensures is { IfOk result (λ seen. seen ≡ told (view ground.old) word.content) }
-    ensures stays { StoresNothing (view ground.old).mem.store (view ground.new).mem.store }
+    ensures value { IfOk result (λ seen. seen ≡ told (view ground.old) word.content) }
+    ensures unchanged { StoresNothing (view ground.old).mem.store (view ground.new).mem.store }
     ensures table { ground.new.table ≡ ground.old.table }
-    ensures tells { Tells (view ground.old).mem (view ground.new).mem steps.old steps.new result }
+    ensures accounted { AccountsForFaults (view ground.old).mem (view ground.new).mem steps.old steps.new result }
     ensures cost { steps.new ≤ steps.old + 12 }
 {
     match word.content() {
@@ -48,8 +48,8 @@ pub fn value_of_word<M: Memory, L: Ledger>(
 
 // The code of an object that begins with this word, and the number of its parts.
 fn header_told(first: Word) -> (u16, u16)
-    ensures code { result.0 ≡ code_in first.content }
-    ensures count { result.1 ≡ count_in first.content }
+    ensures first { result.0 ≡ code_in first.content }
+    ensures second { result.1 ≡ count_in first.content }
 {
     first.header_parts().unwrap_or((0, 2))
 }
@@ -74,8 +74,8 @@ fn charge_behind<M: Memory, L: Ledger>(
     requires first { first ≡ word_at (M.seen mem.old).words at }
     requires whole { IsWhole (M.seen mem.old).words at }
     ensures value { IfOk result (λ charge. charge ≡ charge_at (M.seen mem.old).words at) }
-    ensures stays { StoresNothing (M.seen mem.old) (M.seen mem.new) }
-    ensures tells { Tells (shown M.Memory mem.old) (shown M.Memory mem.new) steps.old steps.new result }
+    ensures unchanged { StoresNothing (M.seen mem.old) (M.seen mem.new) }
+    ensures accounted { AccountsForFaults (shown M.Memory mem.old) (shown M.Memory mem.new) steps.old steps.new result }
     ensures cost { steps.new ≤ steps.old + 1 }
 {
     // No address of a memory overflows, as this call's contract says.
@@ -101,10 +101,10 @@ pub fn form_at<M: Memory, L: Ledger>(
     steps: &mut Steps<L>,
 ) -> Result<Form, SwapFault>
     requires { HasObject (view ground.old) key }
-    ensures is { IfOk result (λ form. form ≡ form_in (view ground.old) key) }
-    ensures stays { StoresNothing (view ground.old).mem.store (view ground.new).mem.store }
+    ensures value { IfOk result (λ form. form ≡ form_in (view ground.old) key) }
+    ensures unchanged { StoresNothing (view ground.old).mem.store (view ground.new).mem.store }
     ensures table { ground.new.table ≡ ground.old.table }
-    ensures tells { Tells (view ground.old).mem (view ground.new).mem steps.old steps.new result }
+    ensures accounted { AccountsForFaults (view ground.old).mem (view ground.new).mem steps.old steps.new result }
     ensures cost { steps.new ≤ steps.old + 2 }
 {
     let at = key as u32;
@@ -130,12 +130,12 @@ fn cdr_behind<M: Memory, L: Ledger>(
     first: Word,
     steps: &mut Steps<L>,
 ) -> Result<Word, SwapFault>
-    requires inside { at < length (M.seen mem.old).words }
+    requires in_range { at < length (M.seen mem.old).words }
     requires first { first ≡ word_at (M.seen mem.old).words at }
     requires whole { HasCdr (M.seen mem.old).words at }
-    ensures is { IfOk result (λ word. word.content ≡ cdr_in (M.seen mem.old).words at) }
-    ensures stays { StoresNothing (M.seen mem.old) (M.seen mem.new) }
-    ensures tells { Tells (shown M.Memory mem.old) (shown M.Memory mem.new) steps.old steps.new result }
+    ensures value { IfOk result (λ word. word.content ≡ cdr_in (M.seen mem.old).words at) }
+    ensures unchanged { StoresNothing (M.seen mem.old) (M.seen mem.new) }
+    ensures accounted { AccountsForFaults (shown M.Memory mem.old) (shown M.Memory mem.new) steps.old steps.new result }
     ensures cost { steps.new ≤ steps.old + 1 }
 {
     // No address of a memory overflows, as this call's contract says.
@@ -154,11 +154,11 @@ fn part_at<M: Memory, L: Ledger>(
     index: u32,
     steps: &mut Steps<L>,
 ) -> Result<Word, SwapFault>
-    requires inside { at < length (M.seen mem.old).words }
+    requires in_range { at < length (M.seen mem.old).words }
     requires whole { HasPart (M.seen mem.old).words at index (word_at (M.seen mem.old).words at).content }
-    ensures is { IfOk result (λ word. word.content ≡ part_in (M.seen mem.old).words at index (word_at (M.seen mem.old).words at).content) }
-    ensures stays { StoresNothing (M.seen mem.old) (M.seen mem.new) }
-    ensures tells { Tells (shown M.Memory mem.old) (shown M.Memory mem.new) steps.old steps.new result }
+    ensures value { IfOk result (λ word. word.content ≡ part_in (M.seen mem.old).words at index (word_at (M.seen mem.old).words at).content) }
+    ensures unchanged { StoresNothing (M.seen mem.old) (M.seen mem.new) }
+    ensures accounted { AccountsForFaults (shown M.Memory mem.old) (shown M.Memory mem.new) steps.old steps.new result }
     ensures cost { steps.new ≤ steps.old + 2 }
 {
     // No address of a memory overflows, as this call's contract says.
@@ -184,11 +184,11 @@ pub fn field_at<M: Memory, L: Ledger>(
     steps: &mut Steps<L>,
 ) -> Result<Seen, SwapFault>
     requires object { HasObject (view ground.old) key }
-    requires within { index < parts_in (view ground.old) key }
-    ensures is { IfOk result (λ seen. seen ≡ field_in (view ground.old) key index) }
-    ensures stays { StoresNothing (view ground.old).mem.store (view ground.new).mem.store }
+    requires in_range { index < parts_in (view ground.old) key }
+    ensures value { IfOk result (λ seen. seen ≡ field_in (view ground.old) key index) }
+    ensures unchanged { StoresNothing (view ground.old).mem.store (view ground.new).mem.store }
     ensures table { ground.new.table ≡ ground.old.table }
-    ensures tells { Tells (view ground.old).mem (view ground.new).mem steps.old steps.new result }
+    ensures accounted { AccountsForFaults (view ground.old).mem (view ground.new).mem steps.old steps.new result }
     ensures cost { steps.new ≤ steps.old + 14 }
 {
     let word = part_at(&mut ground.mem, key as u32, index, steps)?;

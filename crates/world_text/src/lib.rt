@@ -11,12 +11,12 @@ mod writing;
 
 pub use fault::{DumpFault, WorldFault, WorldStep};
 pub use reading::{
-    Part, Reason, WorldBuilder, WorldReader, area_of, behind, behind_space, leading_area,
+    Reason, Section, WorldBuilder, WorldReader, area_of, behind, behind_space, leading_area,
     leading_number, leading_value, leading_word, next_area, next_number, next_register, next_word,
     number_in, split_line, value_of,
 };
 pub use store_word::NoMemory;
 pub use writing::{
-    Keys, Numbering, dump_text, file_text, kind_text, name_of, numbering_of, push_areas,
+    KeyNumbers, Numbering, dump_text, file_text, kind_text, name_of, numbering_of, push_areas,
     push_capacity, push_number, push_space, push_spaced, push_value,
 };

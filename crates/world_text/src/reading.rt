@@ -21,6 +21,6 @@ pub use leading::{
 };
 pub use next::{next_area, next_number, next_register};
 pub use numbers::{area_of, number_in, value_of};
-pub use reader::{Part, WorldReader};
+pub use reader::{Section, WorldReader};
 pub use reason::Reason;
 pub use words::{next_word, split_line};

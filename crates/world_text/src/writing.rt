@@ -14,5 +14,5 @@ pub use dump::dump_text;
 pub use dumped::numbering_of;
 pub use file::file_text;
 pub use file_lines::{push_areas, push_capacity, push_space};
-pub use numbering::{Keys, Numbering};
+pub use numbering::{KeyNumbers, Numbering};
 pub use text::{kind_text, name_of, push_number, push_spaced, push_value};

@@ -10,8 +10,8 @@ impl RegionTable {
     /// included. It is at most the quota of the area.
     pub fn account(&self, area: u8) -> u32
         requires { area < areas_of self.now }
-        ensures account { result ≡ account_of self.now area }
-        ensures paid { result ≤ quota_of self.now area }
+        ensures value { result ≡ account_of self.now area }
+        ensures at_most { result ≤ quota_of self.now area }
     {
         self.debts[area as usize]
     }
@@ -34,8 +34,8 @@ impl RegionTable {
     // The charges and the husks of a class.
     pub(super) fn debt(&self, class: u32) -> u32
         requires { class < 2 * slots_of self.now }
-        ensures debt { result ≡ debt self.now class }
-        ensures small { result ≤ 1048576 }
+        ensures value { result ≡ debt self.now class }
+        ensures at_most { result ≤ 1048576 }
     {
         self.charges[class as usize] + self.husks[class as usize]
     }

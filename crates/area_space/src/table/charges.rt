@@ -11,9 +11,9 @@ use crate::classes::Origin;
 impl RegionTable {
     // Charges the live class of a slot, by the origin of the charge.
     pub(crate) fn charge_by(&mut self, slot: u32, charge: u32, origin: Origin)
-        requires inside { slot < slots_of self.old }
+        requires in_range { slot < slots_of self.old }
         requires placed { chain self.old (live slot) ≢ [] }
-        requires origin { AllowsOrigin self.old slot charge origin }
+        requires allowed { AllowsOrigin self.old slot charge origin }
         requires sound { IsTable self.old }
         ensures { self.new ≡ charged_by self.old slot charge origin }
     {
@@ -30,7 +30,7 @@ impl RegionTable {
 
     // Adds to the charge of a live class that has a region.
     fn add_charge(&mut self, slot: u32, amount: u32)
-        requires inside { slot < slots_of self.old }
+        requires in_range { slot < slots_of self.old }
         requires placed { chain self.old (live slot) ≢ [] }
         requires fits { account_of self.old (slot / levels_of self.old) + amount ≤ quota_of self.old (slot / levels_of self.old) }
         ensures { self.new ≡ charged self.old (live slot) amount }
@@ -42,8 +42,8 @@ impl RegionTable {
 
     // Takes from the charge of a class.
     fn take_charge(&mut self, class: u32, amount: u32)
-        requires inside { class < 2 * slots_of self.old }
-        requires enough { amount ≤ slice_index self.old.charges class }
+        requires in_range { class < 2 * slots_of self.old }
+        requires at_most { amount ≤ slice_index self.old.charges class }
         ensures { self.new ≡ discharged self.old class amount }
     {
         let area = class / 2 / (self.top as u32 + 1);
@@ -53,8 +53,8 @@ impl RegionTable {
 
     // Turns charges of the live class of a place into husks.
     pub(crate) fn note_husk(&mut self, at: u32, words: u32)
-        requires inside { (slot : ℕ) × Contains (chain self.old (live slot)) (at / 4096) }
-        requires enough { (slot : ℕ) → Contains (chain self.old (live slot)) (at / 4096) → words ≤ slice_index self.old.charges (live slot) }
+        requires in_range { (slot : ℕ) × Contains (chain self.old (live slot)) (at / 4096) }
+        requires at_most { (slot : ℕ) → Contains (chain self.old (live slot)) (at / 4096) → words ≤ slice_index self.old.charges (live slot) }
         ensures { (slot : ℕ) → Contains (chain self.old (live slot)) (at / 4096) → self.new ≡ husked self.old (live slot) words }
     {
         let slot = self.slot_at(at / 4096);
@@ -63,8 +63,8 @@ impl RegionTable {
 
     // Turns charges of a class into husks.
     fn add_husk(&mut self, class: u32, words: u32)
-        requires inside { class < 2 * slots_of self.old }
-        requires enough { words ≤ slice_index self.old.charges class }
+        requires in_range { class < 2 * slots_of self.old }
+        requires at_most { words ≤ slice_index self.old.charges class }
         ensures { self.new ≡ husked self.old class words }
     {
         self.charges[class as usize] -= words;

@@ -18,8 +18,8 @@ impl RegionTable {
     /// The level of the survivors of a level while a collection runs: 0 in a full collection,
     /// else the next level, or 0 for the greatest.
     pub fn survivor_level(&self, level: u8) -> u8
-        requires running { IsSome self.now.aim }
-        requires level_in { level < levels_of self.now }
+        requires collecting { IsSome self.now.aim }
+        requires level { level < levels_of self.now }
         ensures { result ≡ survivor self.now level }
     {
         match self.aim {
@@ -33,14 +33,14 @@ impl RegionTable {
         requires { (region : ℕ) → IsOld self.old region → ⊥ }
         ensures { Condemns self.old self.new what }
     {
-        self.known();
+        self.assert_invariant();
         let slots = self.areas() * self.levels();
         self.begin(what);
         for slot in 0..slots {
             self.flip_slot(slot, what);
         }
         self.mark_all();
-        self.known();
+        self.assert_invariant();
     }
 
     // Begins a collection: nothing is placed, moved or to be scanned yet.
@@ -55,12 +55,12 @@ impl RegionTable {
 
     // Makes the live regions of a slot old, if the slot is condemned.
     fn flip_slot(&mut self, slot: u32, what: Condemn)
-        requires inside { slot < slots_of self.old }
+        requires in_range { slot < slots_of self.old }
         requires empty { chain self.old (stale slot) ≡ [] }
-        requires begun { self.old.placed ≡ 0 }
+        requires placed { self.old.placed ≡ 0 }
         ensures { FlipsSlot self.old self.new what slot }
     {
-        self.known();
+        self.assert_invariant();
         if self.is_condemned(slot, what) {
             self.turn(slot);
         }
@@ -77,9 +77,9 @@ impl RegionTable {
 
     // Makes the live regions of a slot old.
     fn turn(&mut self, slot: u32)
-        requires inside { slot < slots_of self.old }
+        requires in_range { slot < slots_of self.old }
         requires empty { chain self.old (stale slot) ≡ [] }
-        requires begun { self.old.placed ≡ 0 }
+        requires placed { self.old.placed ≡ 0 }
         ensures { self.new ≡ made_old self.old slot }
     {
         let from = 2 * slot as usize;
@@ -91,7 +91,7 @@ impl RegionTable {
 
     // Sets the flip mark of every region.
     fn mark_all(&mut self)
-        ensures same { self.new ≡ record self.old { marks = self.new.marks } }
+        ensures unchanged { self.new ≡ record self.old { marks = self.new.marks } }
         ensures marks { (region : ℕ) → region < self.old.regions → IsFlipMark self.old region (slice_index self.new.marks region) }
     {
         let regions = self.regions();
@@ -114,8 +114,8 @@ impl RegionTable {
 
     // Sets the flip mark of a region.
     fn set_mark(&mut self, region: u32, mark: u32)
-        requires inside { region < self.old.regions }
-        requires mark { IsFlipMark self.old region mark }
+        requires in_range { region < self.old.regions }
+        requires marks { IsFlipMark self.old region mark }
         ensures { self.new ≡ record self.old { marks = slice_set self.old.marks region mark } }
     {
         self.marks[region as usize] = mark;
@@ -135,9 +135,9 @@ fn condemned(what: Condemn, level: u8) -> bool
 
 // Adds one number of a list to another, and makes it 0.
 fn move_number(numbers: &mut [u32], from: usize, to: usize)
-    requires from_in { from < length numbers.old }
-    requires to_in { to < length numbers.old }
-    requires different { to ≢ from }
+    requires from { from < length numbers.old }
+    requires to { to < length numbers.old }
+    requires apart { to ≢ from }
     requires fits { slice_index numbers.old to + slice_index numbers.old from < 2 ^ 32 }
     ensures { numbers.new ≡ slice_set (slice_set numbers.old to (slice_index numbers.old to + slice_index numbers.old from)) from 0 }
 {

@@ -13,22 +13,22 @@ impl RegionTable {
     pub(crate) fn free_old(&mut self)
         ensures { Frees self.old self.new }
     {
-        self.known();
+        self.assert_invariant();
         let slots = self.areas() * self.levels();
         for slot in 0..slots {
             self.free_slot(slot);
         }
         self.finish();
-        self.known();
+        self.assert_invariant();
     }
 
     // Makes the regions of an old class free.
     fn free_slot(&mut self, slot: u32)
         requires { slot < slots_of self.old }
-        ensures freed { IsFreeing self.old self.new slot }
+        ensures free { IsFreeing self.old self.new slot }
         ensures empty { chain self.new (stale slot) ≡ [] }
     {
-        self.known();
+        self.assert_invariant();
         self.forgive(slot);
         while let Some(_region) = self.release(slot) {}
     }
@@ -48,13 +48,13 @@ impl RegionTable {
 
     // Frees the first region of an old class without charges, if it has one.
     fn release(&mut self, slot: u32) -> Option<u32>
-        requires inside { slot < slots_of self.old }
-        requires forgiven { debt self.old (stale slot) ≡ 0 }
+        requires in_range { slot < slots_of self.old }
+        requires empty { debt self.old (stale slot) ≡ 0 }
         ensures sound { IsTable self.old }
         ensures none { IfNone result (chain self.old (stale slot) ≡ []) }
-        ensures same { IfNone result (self.new ≡ self.old) }
+        ensures unchanged { IfNone result (self.new ≡ self.old) }
         ensures some { IfSome result (λ region. first_of (chain self.old (stale slot)) ≡ Some region) }
-        ensures released { IfSome result (λ region. self.new ≡ released self.old slot region) }
+        ensures after { IfSome result (λ region. self.new ≡ released self.old slot region) }
     {
         match self.chains.front(2 * slot + 1) {
             Some(region) => {

@@ -12,10 +12,10 @@ use super::RegionTable;
 impl RegionTable {
     // The used end of a live chain, if this many words fit there.
     pub(crate) fn room(&self, area: u8, level: u8, words: u32) -> Option<u32>
-        requires area_in { area < areas_of self.now }
-        requires level_in { level < levels_of self.now }
-        requires some { 0 < words }
-        requires few { words ≤ 2048 }
+        requires area { area < areas_of self.now }
+        requires level { level < levels_of self.now }
+        requires at_least { 0 < words }
+        requires at_most { words ≤ 2048 }
         ensures some { IfSome result (λ at. IsEnd self.now (slot_of self.now area level) at words) }
         ensures none { IfNone result ((region : ℕ) → last_of (chain self.now (live (slot_of self.now area level))) ≡ Some region
             → 4096 < used_of self.now region + words) }
@@ -39,7 +39,7 @@ impl RegionTable {
     fn last_region(&self, slot: u32) -> Option<u32>
         requires { slot < slots_of self.now }
         ensures last { result ≡ last_of (chain self.now (live slot)) }
-        ensures inside { IfSome result (λ region. region < self.now.regions) }
+        ensures in_range { IfSome result (λ region. region < self.now.regions) }
         ensures sound { IsTable self.now }
     {
         self.chains.back(2 * slot)
@@ -48,7 +48,7 @@ impl RegionTable {
     // The lowest free region. There must be one.
     pub(crate) fn lowest_free(&self) -> u32
         requires { ((region : ℕ) → region < self.now.regions → IsUnclassed self.now region → ⊥) → ⊥ }
-        ensures inside { result < self.now.regions }
+        ensures in_range { result < self.now.regions }
         ensures free { IsUnclassed self.now result }
         ensures lowest { (region : ℕ) → region < result → IsUnclassed self.now region → ⊥ }
     {
@@ -60,12 +60,12 @@ impl RegionTable {
 
     // Puts a free region at the end of a live chain.
     pub(crate) fn open(&mut self, area: u8, level: u8, region: u32)
-        requires area_in { area < areas_of self.old }
-        requires level_in { level < levels_of self.old }
-        requires region_in { region < self.old.regions }
+        requires area { area < areas_of self.old }
+        requires level { level < levels_of self.old }
+        requires in_range { region < self.old.regions }
         requires free { IsUnclassed self.old region }
-        requires full { (r : ℕ) → last_of (chain self.old (live (slot_of self.old area level))) ≡ Some r → 2048 < used_of self.old r }
-        requires share { regions_of_area self.old area + 1 ≤ share self.old area }
+        requires needed { (r : ℕ) → last_of (chain self.old (live (slot_of self.old area level))) ≡ Some r → 2048 < used_of self.old r }
+        requires at_most { regions_of_area self.old area + 1 ≤ share self.old area }
         ensures table { self.new ≡ opened self.old (live (slot_of self.old area level)) region }
         ensures sound { IsTable self.new }
     {
@@ -76,9 +76,9 @@ impl RegionTable {
 
     // Moves the used end of the last region of a live chain.
     pub(crate) fn extend(&mut self, at: u32, words: u32)
-        requires some { 0 < words }
+        requires at_least { 0 < words }
         requires end { (slot : ℕ) × IsEnd self.old slot at words }
-        ensures extended { self.new ≡ record (extended self.old at words) { pages = self.new.pages } }
+        ensures after { self.new ≡ record (extended self.old at words) { pages = self.new.pages } }
         ensures sound { IsTable self.new }
         ensures pages { Adds (page_list self.old) (page_list self.new) (at / 256) ((at + words - 1) / 256) }
     {

@@ -34,7 +34,7 @@ impl RegionTable {
     /// Adds a page to those that have a word to be scanned.
     pub fn add_scan_page(&mut self, page: u32)
         requires { page < 16 * self.old.regions }
-        ensures same { self.new ≡ record self.old { pages = self.new.pages } }
+        ensures unchanged { self.new ≡ record self.old { pages = self.new.pages } }
         ensures pages { Adds (page_list self.old) (page_list self.new) page page }
     {
         self.scan.insert(page);
@@ -43,7 +43,7 @@ impl RegionTable {
     /// Removes a page from those that have a word to be scanned.
     pub fn drop_scan_page(&mut self, page: u32)
         requires { page < 16 * self.old.regions }
-        ensures same { self.new ≡ record self.old { pages = self.new.pages } }
+        ensures unchanged { self.new ≡ record self.old { pages = self.new.pages } }
         ensures pages { Drops (page_list self.old) (page_list self.new) page }
     {
         self.scan.remove(page);

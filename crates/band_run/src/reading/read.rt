@@ -15,10 +15,10 @@ use std::alloc::Global;
 /// read before any command is answered. The trouble is that of the first line that breaks a rule; or the source failed, or memory
 /// ran out.
 pub fn read_bands<S: Source>(alloc: Global, source: &mut S) -> Result<Commands, RunError>
-    ensures was_read { WasRead band_rules start (S.left source.old) (S.left source.new) result }
+    ensures judged { WasRead band_rules start (S.left source.old) (S.left source.new) result }
     ensures read { IfErr result (λ trouble. trouble ≡ Read → Rose (S.faults source.old) (S.faults source.new)) }
-    ensures later { S.faults source.old ≤ S.faults source.new }
-    ensures quiet { result ≢ Err Read → S.faults source.new ≡ S.faults source.old }
+    ensures never_falls { S.faults source.old ≤ S.faults source.new }
+    ensures no_fault { result ≢ Err Read → S.faults source.new ≡ S.faults source.old }
 {
     read_lines(alloc, BandInput::start(alloc), source)
 }

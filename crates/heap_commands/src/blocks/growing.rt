@@ -1,17 +1,17 @@
 //! Blocks in registers grow.
 ghost use Rattle.std.specs.Prelude.{◌≡◌, ◌≢◌, ◌+◌, ◌-◌, ◌*◌, ◌<◌, ◌≤◌, length as list_length, OnOk, IfOk};
-ghost use Rattle.mem_port.specs.View.{TellsIf};
+ghost use Rattle.mem_port.specs.View.{AccountsForFaultsIf};
 ghost use Rattle.area_space.specs.View.{view};
 ghost use Rattle.heap_commands.specs.Growth.{is_found_fault};
 ghost use Rattle.heap_commands.specs.Views.{CanGrowIn, Finds, MarksGrowth, PlacesGrowth};
 ghost use Rattle.heap_state.specs.Reads.{is_fault, reply_of};
-ghost use Rattle.heap_state.specs.Views.{RepresentsSame, IsConsistent, Performs};
-ghost use Rattle.block_store.specs.transporter.Views.{AllFresh, MarksFollow, PreservesScanned};
-ghost use Rattle.heap_state.specs.Settled.{IsSettled, RegistersFresh};
+ghost use Rattle.heap_state.specs.Views.{RepresentsSame, RepresentsState, Performs};
+ghost use Rattle.block_store.specs.transporter.Views.{NoOldAddresses, MarksFollow, PreservesScanned};
+ghost use Rattle.heap_state.specs.Settled.{IsSettled, NoOldAddressesInRegisters};
 ghost use Rattle.block_store.specs.transporter.Preserving.{RegistersPreserved};
 
 use area_space::Ground;
-use block_store::{BlockFault, grown_length, measure};
+use block_store::{BlockFault, block_size, grown_length};
 use heap_state::settle_register;
 use lisp_graph::{Command, Reply};
 use mem_port::Memory;
@@ -38,8 +38,8 @@ pub fn find_growing<M: Memory, L: Ledger>(
     wanted: u16,
     steps: &mut Steps<L>,
 ) -> Growing
-    requires few { wanted ≤ 2047 }
-    requires consistent { IsConsistent (view ground.old) registers.old }
+    requires at_most { wanted ≤ 2047 }
+    requires consistent { RepresentsState (view ground.old) registers.old }
     requires target { target < list_length registers.old }
 
     // what is found
@@ -47,20 +47,20 @@ pub fn find_growing<M: Memory, L: Ledger>(
 
     // what stays
     ensures represented { RepresentsSame (view ground.old) registers.old (view ground.new) registers.new }
-    ensures others { RegistersPreserved ground.new.table registers.old registers.new }
+    ensures registers { RegistersPreserved ground.new.table registers.old registers.new }
     ensures preserves { PreservesScanned (view ground.old) (view ground.new) }
-    ensures stays_fresh { RegistersFresh ground.old.table registers.old → AllFresh (view ground.old) → AllFresh (view ground.new) }
+    ensures stays_fresh { NoOldAddressesInRegisters ground.old.table registers.old → NoOldAddresses (view ground.old) → NoOldAddresses (view ground.new) }
     ensures marks { MarksFollow (view ground.old) (view ground.new) }
 
     // costs and swap errors
-    ensures tells { TellsIf (view ground.old).mem (view ground.new).mem steps.old steps.new (is_found_fault result) }
-    ensures few { ground.new.table.placed ≤ ground.old.table.placed + 2048 }
+    ensures accounted { AccountsForFaultsIf (view ground.old).mem (view ground.new).mem steps.old steps.new (is_found_fault result) }
+    ensures placed { ground.new.table.placed ≤ ground.old.table.placed + 2048 }
     ensures cost { result ≢ Growing.Answered Reply.Fault → steps.new ≤ steps.old + 4 * (ground.new.table.placed - ground.old.table.placed) + 59 }
 {
     let Ok(word) = settle_register(ground, registers, target, steps) else {
         return Growing::Answered(Reply::Fault);
     };
-    match measure(ground, word, steps) {
+    match block_size(ground, word, steps) {
         Ok(block) if block.length < wanted => Growing::Wants {
             area: block.area,
             charge: grown_length(block.length, wanted) as u32 + 1,
@@ -82,7 +82,7 @@ pub fn grow<M: Memory, L: Ledger>(
     wanted: u16,
     steps: &mut Steps<L>,
 ) -> Result<Reply, SwapFault>
-    requires few { wanted ≤ 2047 }
+    requires at_most { wanted ≤ 2047 }
     requires target { target < list_length registers.now }
     requires settled { IsSettled ground.old.table registers.now target }
     requires can { CanGrowIn (view ground.old) registers.now target wanted }
@@ -92,8 +92,8 @@ pub fn grow<M: Memory, L: Ledger>(
     ensures unmarked { OnOk result (MarksGrowth (view ground.old) registers.now (view ground.new) target wanted) }
 
     // swap errors
-    ensures tells { TellsIf (view ground.old).mem (view ground.new).mem steps.old steps.new (is_fault (reply_of result)) }
-    ensures sure { IfOk result (λ reply. reply ≡ Reply.Fine) }
+    ensures accounted { AccountsForFaultsIf (view ground.old).mem (view ground.new).mem steps.old steps.new (is_fault (reply_of result)) }
+    ensures succeeds { IfOk result (λ reply. reply ≡ Reply.Fine) }
 
     // costs
     ensures placed { OnOk result (PlacesGrowth (view ground.old) registers.now ground.new.table target wanted) }

@@ -1,11 +1,11 @@
 //! Makes new blocks, with a register for each.
 ghost use Rattle.std.specs.Prelude.{◌+◌, ◌<◌, ◌≤◌, get_or, length as list_length, OnOk};
-ghost use Rattle.mem_port.specs.View.{TellsIf};
+ghost use Rattle.mem_port.specs.View.{AccountsForFaultsIf};
 ghost use Rattle.area_space.specs.View.{view};
 ghost use Rattle.store_word.specs.Words.{null_word};
 ghost use Rattle.heap_commands.specs.Views.{MarksMade};
 ghost use Rattle.heap_state.specs.Reads.{is_fault, reply_of};
-ghost use Rattle.heap_state.specs.Views.{IsConsistent, PerformsAt};
+ghost use Rattle.heap_state.specs.Views.{RepresentsState, PerformsAt};
 ghost use Rattle.area_space.specs.Accounts.{account_of};
 ghost use Rattle.area_space.specs.Table.{areas_of, levels_of, quota_of};
 
@@ -30,8 +30,8 @@ pub fn make<M: Memory, L: Ledger>(
     length: u16,
     steps: &mut Steps<L>,
 ) -> Result<Reply, SwapFault>
-    requires few { length ≤ 2047 }
-    requires consistent { IsConsistent (view ground.old) registers.old }
+    requires at_most { length ≤ 2047 }
+    requires consistent { RepresentsState (view ground.old) registers.old }
     requires to { to < list_length registers.old }
     requires area { area < areas_of ground.old.table }
     requires level { level < levels_of ground.old.table }
@@ -42,12 +42,12 @@ pub fn make<M: Memory, L: Ledger>(
     ensures unmarked { OnOk result (MarksMade (view ground.old) (view ground.new) (get_or registers.new to null_word) (length + 1)) }
 
     // costs and swap errors
-    ensures few { OnOk result (ground.new.table.placed ≤ ground.old.table.placed + (length + 1)) }
-    ensures tells { TellsIf (view ground.old).mem (view ground.new).mem steps.old steps.new (is_fault (reply_of result)) }
+    ensures placed { OnOk result (ground.new.table.placed ≤ ground.old.table.placed + (length + 1)) }
+    ensures accounted { AccountsForFaultsIf (view ground.old).mem (view ground.new).mem steps.old steps.new (is_fault (reply_of result)) }
     ensures cost { steps.new ≤ steps.old + length + 10 }
 {
     let at = make_block(ground, area, level, code, length, steps)?;
-    ground.table.known();
+    ground.table.assert_invariant();
     registers[to as usize] = Word::struct_at(at);
     Ok(Reply::Fine)
 }

@@ -4,7 +4,7 @@ ghost use Rattle.area_space.specs.View.{view};
 ghost use Rattle.block_store.specs.transporter.Views.{MovesAtMost};
 ghost use Rattle.heap_commands.specs.Costs.{CommandCosts};
 ghost use Rattle.heap_state.specs.Reads.{reply_of};
-ghost use Rattle.heap_state.specs.Views.{IsConsistent, Performs};
+ghost use Rattle.heap_state.specs.Views.{RepresentsState, Performs};
 
 use area_space::Ground;
 use block_store::{BlockFault, field, length};
@@ -22,8 +22,8 @@ pub fn size<M: Memory, L: Ledger>(
     of: u8,
     steps: &mut Steps<L>,
 ) -> Result<Reply, SwapFault>
-    requires consistent { IsConsistent (view ground.old) registers.old }
-    requires of { of < list_length registers.old }
+    requires consistent { RepresentsState (view ground.old) registers.old }
+    requires in_range { of < list_length registers.old }
     ensures performs { Performs (view ground.old) registers.old (view ground.new) registers.new (Command.Size of) (reply_of result) }
     ensures moves { MovesAtMost (view ground.old) (view ground.new) 1 }
     ensures costs { CommandCosts (view ground.old) (view ground.new) steps.old steps.new result 2048 59 }
@@ -54,7 +54,7 @@ pub fn get<M: Memory, L: Ledger>(
     index: u32,
     steps: &mut Steps<L>,
 ) -> Result<Reply, SwapFault>
-    requires consistent { IsConsistent (view ground.old) registers.old }
+    requires consistent { RepresentsState (view ground.old) registers.old }
     requires to { to < list_length registers.old }
     requires from { from < list_length registers.old }
     ensures performs { Performs (view ground.old) registers.old (view ground.new) registers.new (Command.Get to from index) (reply_of result) }

@@ -4,7 +4,7 @@ ghost use Rattle.area_space.specs.View.{view};
 ghost use Rattle.block_store.specs.transporter.Views.{MovesAtMost};
 ghost use Rattle.heap_commands.specs.Costs.{CommandCosts};
 ghost use Rattle.heap_state.specs.Reads.{reply_of};
-ghost use Rattle.heap_state.specs.Views.{IsConsistent, Performs};
+ghost use Rattle.heap_state.specs.Views.{RepresentsState, Performs};
 
 use area_space::Ground;
 use block_store::{BlockFault, set_field};
@@ -24,7 +24,7 @@ pub fn put<M: Memory, L: Ledger>(
     from: u8,
     steps: &mut Steps<L>,
 ) -> Result<Reply, SwapFault>
-    requires consistent { IsConsistent (view ground.old) registers.old }
+    requires consistent { RepresentsState (view ground.old) registers.old }
     requires target { target < length registers.old }
     requires from { from < length registers.old }
     ensures performs { Performs (view ground.old) registers.old (view ground.new) registers.new (Command.Put target index from) (reply_of result) }

@@ -6,7 +6,7 @@ ghost use Rattle.store_word.specs.Words.{null_word};
 ghost use Rattle.heap_commands.specs.Listing.{RefersToCells};
 ghost use Rattle.heap_state.specs.Reads.{reply_of};
 ghost use Rattle.heap_commands.specs.Views.{MarksMade};
-ghost use Rattle.heap_state.specs.Views.{IsConsistent, PerformsAt};
+ghost use Rattle.heap_state.specs.Views.{RepresentsState, PerformsAt};
 ghost use Rattle.std.specs.List.{All};
 ghost use Rattle.area_space.specs.Accounts.{account_of};
 ghost use Rattle.area_space.specs.Table.{areas_of, levels_of, quota_of};
@@ -32,13 +32,13 @@ pub fn cons<M: Memory, L: Ledger>(
     cdr: u8,
     steps: &mut Steps<L>,
 ) -> Result<Reply, SwapFault>
-    requires consistent { IsConsistent (view ground.old) registers.old }
+    requires consistent { RepresentsState (view ground.old) registers.old }
     requires to { to < length registers.old }
     requires car { car < length registers.old }
     requires cdr { cdr < length registers.old }
     requires area { area < areas_of ground.old.table }
     requires level { level < levels_of ground.old.table }
-    requires quota { account_of ground.old.table area + 2 ≤ quota_of ground.old.table area }
+    requires fits { account_of ground.old.table area + 2 ≤ quota_of ground.old.table area }
 
     // what is performed
     ensures performs { PerformsAt (view ground.old) registers.old (view ground.new) registers.new (Command.Cons to area car cdr) (reply_of result) area level }
@@ -68,13 +68,13 @@ pub fn list<M: Memory, L: Ledger>(
     items: &Items,
     steps: &mut Steps<L>,
 ) -> Result<Reply, SwapFault>
-    requires consistent { IsConsistent (view ground.old) registers.old }
+    requires consistent { RepresentsState (view ground.old) registers.old }
     requires to { to < length registers.old }
-    requires some { 1 ≤ length items.now }
-    requires inside { All (λ item. item < length registers.old) items.now }
+    requires at_least { 1 ≤ length items.now }
+    requires in_range { All (λ item. item < length registers.old) items.now }
     requires area { area < areas_of ground.old.table }
     requires level { level < levels_of ground.old.table }
-    requires quota { account_of ground.old.table area + 3 * length items.now ≤ quota_of ground.old.table area }
+    requires fits { account_of ground.old.table area + 3 * length items.now ≤ quota_of ground.old.table area }
 
     // what is performed, and that the list is one of cells
     ensures performs { PerformsAt (view ground.old) registers.old (view ground.new) registers.new (Command.List to area items.now) (reply_of result) area level }

@@ -4,7 +4,7 @@ ghost use Rattle.area_space.specs.View.{view};
 ghost use Rattle.block_store.specs.transporter.Views.{MovesAtMost};
 ghost use Rattle.heap_commands.specs.Costs.{CommandCosts};
 ghost use Rattle.heap_state.specs.Reads.{reply_of};
-ghost use Rattle.heap_state.specs.Views.{IsConsistent, Performs};
+ghost use Rattle.heap_state.specs.Views.{RepresentsState, Performs};
 
 use area_space::Ground;
 use heap_state::{is_same, settle_items, settle_register};
@@ -22,7 +22,7 @@ pub fn copy_register<M: Memory, L: Ledger>(
     from: u8,
     steps: &mut Steps<L>,
 ) -> Result<Reply, SwapFault>
-    requires consistent { IsConsistent (view ground.old) registers.old }
+    requires consistent { RepresentsState (view ground.old) registers.old }
     requires to { to < length registers.old }
     requires from { from < length registers.old }
     ensures performs { Performs (view ground.old) registers.old (view ground.new) registers.new (Command.Move to from) (reply_of result) }
@@ -50,7 +50,7 @@ pub fn eq<M: Memory, L: Ledger>(
     right: u8,
     steps: &mut Steps<L>,
 ) -> Result<Reply, SwapFault>
-    requires consistent { IsConsistent (view ground.old) registers.old }
+    requires consistent { RepresentsState (view ground.old) registers.old }
     requires left { left < length registers.old }
     requires right { right < length registers.old }
     ensures performs { Performs (view ground.old) registers.old (view ground.new) registers.new (Command.Eq left right) (reply_of result) }

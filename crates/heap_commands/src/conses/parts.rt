@@ -6,7 +6,7 @@ ghost use Rattle.block_store.specs.transporter.Views.{MovesAtMost};
 ghost use Rattle.heap_commands.specs.Costs.{CommandCosts};
 ghost use Rattle.heap_commands.specs.Views.{MovesOrLays};
 ghost use Rattle.heap_state.specs.Reads.{reply_of};
-ghost use Rattle.heap_state.specs.Views.{IsConsistent, Performs};
+ghost use Rattle.heap_state.specs.Views.{RepresentsState, Performs};
 
 use area_space::Ground;
 use cdr_lists::{ListFault, set_car, set_cdr};
@@ -25,7 +25,7 @@ pub fn car<M: Memory, L: Ledger>(
     from: u8,
     steps: &mut Steps<L>,
 ) -> Result<Reply, SwapFault>
-    requires consistent { IsConsistent (view ground.old) registers.old }
+    requires consistent { RepresentsState (view ground.old) registers.old }
     requires to { to < length registers.old }
     requires from { from < length registers.old }
     ensures performs { Performs (view ground.old) registers.old (view ground.new) registers.new (Command.Car to from) (reply_of result) }
@@ -49,7 +49,7 @@ pub fn cdr<M: Memory, L: Ledger>(
     from: u8,
     steps: &mut Steps<L>,
 ) -> Result<Reply, SwapFault>
-    requires consistent { IsConsistent (view ground.old) registers.old }
+    requires consistent { RepresentsState (view ground.old) registers.old }
     requires to { to < length registers.old }
     requires from { from < length registers.old }
     ensures performs { Performs (view ground.old) registers.old (view ground.new) registers.new (Command.Cdr to from) (reply_of result) }
@@ -73,7 +73,7 @@ pub fn rplaca<M: Memory, L: Ledger>(
     from: u8,
     steps: &mut Steps<L>,
 ) -> Result<Reply, SwapFault>
-    requires consistent { IsConsistent (view ground.old) registers.old }
+    requires consistent { RepresentsState (view ground.old) registers.old }
     requires target { target < length registers.old }
     requires from { from < length registers.old }
     ensures performs { Performs (view ground.old) registers.old (view ground.new) registers.new (Command.Rplaca target from) (reply_of result) }
@@ -99,7 +99,7 @@ pub fn rplacd<M: Memory, L: Ledger>(
     from: u8,
     steps: &mut Steps<L>,
 ) -> Result<Reply, SwapFault>
-    requires consistent { IsConsistent (view ground.old) registers.old }
+    requires consistent { RepresentsState (view ground.old) registers.old }
     requires target { target < length registers.old }
     requires from { from < length registers.old }
     ensures performs { Performs (view ground.old) registers.old (view ground.new) registers.new (Command.Rplacd target from) (reply_of result) }

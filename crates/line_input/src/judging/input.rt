@@ -43,11 +43,11 @@ impl<J> InputReader<J> {
     /// if the lines so far are whole (`whole`), so that none may follow; otherwise the bytes up to the first one beyond the limit of
     /// the input or of a line.
     #[inline(always)]
-    pub fn enough_if(&self, whole: bool) -> usize
+    pub fn bytes_to_decide(&self, whole: bool) -> usize
         requires { self.now.bytes ≤ 2 ^ 40 }
         ensures value { result ≡ enough_bytes (2 ^ 40) whole self.now.bytes }
         ensures some { 1 ≤ result }
-        ensures most { result ≤ 32769 }
+        ensures at_most { result ≤ 32769 }
     {
         if whole {
             return 1;
@@ -58,12 +58,12 @@ impl<J> InputReader<J> {
     /// The first limit that the next line breaks, whatever its text: no line may follow lines that are whole (`whole`), an input has at
     /// most 2^40 bytes, and a line at most 32,768. The line has `length` bytes, and `size` bytes with its line feed, if it has one.
     ///
-    /// If a line doesn't end within its first `enough_if` bytes, these decide.
+    /// If a line doesn't end within its first `bytes_to_decide` bytes, these decide.
     #[inline(always)]
-    pub fn broken(&self, whole: bool, length: usize, size: usize) -> Option<Reason>
+    pub fn broken_limit(&self, whole: bool, length: usize, size: usize) -> Option<Reason>
         requires { self.now.bytes ≤ 2 ^ 40 }
-        ensures is { result ≡ broken_limit (2 ^ 40) whole self.now.bytes length size }
-        ensures within { result ≡ None → size ≤ length + 1 → self.now.bytes + size ≤ 2 ^ 40 }
+        ensures value { result ≡ broken_limit (2 ^ 40) whole self.now.bytes length size }
+        ensures in_range { result ≡ None → size ≤ length + 1 → self.now.bytes + size ≤ 2 ^ 40 }
     {
         if whole {
             return Some(Reason::TextAfterEnd);
@@ -79,12 +79,12 @@ impl<J> InputReader<J> {
 
     /// Goes past a line of this many bytes.
     #[inline(always)]
-    pub fn passed(&mut self, size: usize)
-        requires place { IsPlace self.old }
-        requires some { 1 ≤ size }
-        requires within { self.old.bytes + size ≤ 2 ^ 40 }
-        ensures further { self.new ≡ further self.old size }
-        ensures place { IsPlace self.new }
+    pub fn advance(&mut self, size: usize)
+        requires sound { IsPlace self.old }
+        requires at_least { 1 ≤ size }
+        requires in_range { self.old.bytes + size ≤ 2 ^ 40 }
+        ensures after { self.new ≡ further self.old size }
+        ensures stays_sound { IsPlace self.new }
     {
         self.lines += 1;
         self.bytes += size as u64;
@@ -104,37 +104,37 @@ impl<J: LineJudge + Drop> InputReader<J> {
         requires { IsPlace self.now }
         ensures value { result ≡ enough J.rules self.now }
         ensures some { 1 ≤ result }
-        ensures most { result ≤ 32769 }
+        ensures at_most { result ≤ 32769 }
     {
-        self.enough_if(self.is_whole())
+        self.bytes_to_decide(self.is_whole())
     }
 
     /// Goes past the next line, which has this text and, including its line feed if it has one, this many bytes. If the line is
     /// refused, or memory runs out, this place must not be used again.
     pub fn line(&mut self, alloc: Global, text: &[u8], size: usize) -> Result<(), RunError>
-        requires place { IsPlace self.old }
-        requires some { 1 ≤ size }
-        requires close { size ≤ length text.now + 1 }
+        requires sound { IsPlace self.old }
+        requires at_least { 1 ≤ size }
+        requires at_most { size ≤ length text.now + 1 }
         ensures judged { Judged self.new result (judged_as J.rules self.old text.now size) }
-        ensures place { OnOk result (IsPlace self.new) }
+        ensures stays_sound { OnOk result (IsPlace self.new) }
     {
         let number = self.lines + 1;
         let whole = self.is_whole();
-        if let Some(reason) = self.broken(whole, text.len(), size) {
+        if let Some(reason) = self.broken_limit(whole, text.len(), size) {
             return Err(RunError::Line(number, reason));
         }
         match self.judge.line(alloc, number, text) {
             Ok(()) => {}
             Err(trouble) => return Err(trouble),
         }
-        self.passed(size);
+        self.advance(size);
         Ok(())
     }
 
     /// What the lines mean if they end here; or the trouble if they aren't whole.
     pub fn close(self) -> Result<J::Whole, RunError>
         requires { IsPlace self }
-        ensures is { result ≡ ended J.rules (Ok self) }
+        ensures value { result ≡ ended J.rules (Ok self) }
         ensures fits { IfOk result J.fits }
     {
         if self.is_whole() {

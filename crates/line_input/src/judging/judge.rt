@@ -29,7 +29,7 @@ pub trait LineJudge {
     /// What the lines mean.
     fn whole(self) -> Self::Whole
         requires { rules.is_whole self ≡ true }
-        ensures is { result ≡ rules.whole self }
+        ensures value { result ≡ rules.whole self }
         ensures fits { fits result };
 
     /// Why an input without a line is refused.

@@ -20,11 +20,11 @@ fn judge_lines<J: LineJudge + Drop, S: Source>(
 ) -> Result<J::Whole, RunError>
     requires bytes { reader.old.bytes ≡ [] }
     requires ended { reader.old.ended ≡ false }
-    ensures was_read { WasRead J.rules judge (S.left source.old) (S.left source.new) result }
+    ensures judged { WasRead J.rules judge (S.left source.old) (S.left source.new) result }
     ensures read { IfErr result (λ trouble. trouble ≡ Read → Rose (S.faults source.old) (S.faults source.new)) }
     ensures fits { IfOk result J.fits }
-    ensures later { S.faults source.old ≤ S.faults source.new }
-    ensures quiet { result ≢ Err Read → S.faults source.new ≡ S.faults source.old }
+    ensures never_falls { S.faults source.old ≤ S.faults source.new }
+    ensures no_fault { result ≢ Err Read → S.faults source.new ≡ S.faults source.old }
 {
     let mut place = InputReader::start(judge);
     loop {
@@ -49,11 +49,11 @@ pub fn read_lines<J: LineJudge + Drop, S: Source>(
     judge: J,
     source: &mut S,
 ) -> Result<J::Whole, RunError>
-    ensures was_read { WasRead J.rules judge (S.left source.old) (S.left source.new) result }
+    ensures judged { WasRead J.rules judge (S.left source.old) (S.left source.new) result }
     ensures read { IfErr result (λ trouble. trouble ≡ Read → Rose (S.faults source.old) (S.faults source.new)) }
     ensures fits { IfOk result J.fits }
-    ensures later { S.faults source.old ≤ S.faults source.new }
-    ensures quiet { result ≢ Err Read → S.faults source.new ≡ S.faults source.old }
+    ensures never_falls { S.faults source.old ≤ S.faults source.new }
+    ensures no_fault { result ≢ Err Read → S.faults source.new ≡ S.faults source.old }
 {
     let mut reader = match LineReader::new(alloc) {
         Ok(reader) => reader,

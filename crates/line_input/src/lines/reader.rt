@@ -4,7 +4,7 @@ ghost use Rattle.outer_ports.specs.Ports.{Gave, HasCause, IsAtEnd};
 ghost use Rattle.line_input.specs.Reader.{FitsIn, IsFound, IsNext, IsPart, no_feed, without_latest};
 
 use crate::lines::buffer::{feed_from, make_room, take_behind};
-use crate::lines::found::Found;
+use crate::lines::found::LineSpan;
 use outer_ports::{Source, SourceFault};
 use std::alloc::{AllocError, Global};
 use std::marker::Model;
@@ -51,7 +51,7 @@ impl LineReader {
     #[inline(always)]
     pub fn bytes(&self) -> &[u8]
         ensures value { result.now ≡ self.now.bytes }
-        ensures short { length result.now ≤ 32769 }
+        ensures at_most { length result.now ≤ 32769 }
     {
         &self.buffer[self.start..self.end]
     }
@@ -76,24 +76,24 @@ impl LineReader {
     /// The next line, if its end is buffered; or all buffered bytes, if they contain no line feed and are at least `enough`. The first `seen`
     /// buffered bytes contain no line feed. `enough` is at least 1.
     #[inline(always)]
-    pub fn buffered(&self, seen: usize, enough: usize) -> Option<Found>
-        requires within { seen ≤ length self.now.bytes }
+    pub fn find_line(&self, seen: usize, enough: usize) -> Option<LineSpan>
+        requires in_range { seen ≤ length self.now.bytes }
         requires none { no_feed (take seen self.now.bytes) ≡ true }
-        requires some { 1 ≤ enough }
+        requires at_least { 1 ≤ enough }
         ensures found { MatchOption result (IsPart self.now enough) (IsFound self.now enough) }
         ensures fits { IfSome result (FitsIn self.now) }
-        ensures short { length self.now.bytes ≤ 32769 }
+        ensures at_most { length self.now.bytes ≤ 32769 }
     {
         let bytes = self.bytes();
         let length = bytes.len();
         if let Some(at) = feed_from(bytes, seen) {
-            return Some(Found {
+            return Some(LineSpan {
                 length: at,
                 size: at + 1,
             });
         }
         if length >= enough || (self.ended && length > 0) {
-            return Some(Found {
+            return Some(LineSpan {
                 length,
                 size: length,
             });
@@ -108,10 +108,10 @@ impl LineReader {
             × (self.new.bytes ≡ self.old.bytes ++ piece) × (length piece ≡ S.last source.new)) }
         ensures end { OnOk result (self.new.ended ≡ true → IsAtEnd (S.left source.new)) }
         ensures goes_on { OnOk result (self.new.ended ≡ false → length self.old.bytes < length self.new.bytes) }
-        ensures short { length self.new.bytes ≤ 32769 }
-        ensures err_left { OnErr result (S.left source.new ≡ S.left source.old) }
-        ensures err_bytes { OnErr result (self.new.bytes ≡ self.old.bytes) }
-        ensures err_ended { OnErr result (self.new.ended ≡ self.old.ended) }
+        ensures at_most { length self.new.bytes ≤ 32769 }
+        ensures left { OnErr result (S.left source.new ≡ S.left source.old) }
+        ensures bytes { OnErr result (self.new.bytes ≡ self.old.bytes) }
+        ensures ended { OnErr result (self.new.ended ≡ self.old.ended) }
         ensures cause { HasCause (S.faults source.old) (S.faults source.new) result }
     {
         let (start, end) = make_room(&mut self.buffer, self.start, self.end);
@@ -129,26 +129,26 @@ impl LineReader {
         &mut self,
         source: &mut S,
         enough: usize,
-    ) -> Result<Option<Found>, SourceFault>
-        requires end { self.old.ended ≡ true → IsAtEnd (S.left source.old) }
-        requires some { 1 ≤ enough }
-        requires most { enough ≤ 32769 }
+    ) -> Result<Option<LineSpan>, SourceFault>
+        requires sound { self.old.ended ≡ true → IsAtEnd (S.left source.old) }
+        requires at_least { 1 ≤ enough }
+        requires in_range { enough ≤ 32769 }
         ensures given { (piece : List ℕ) × Gave (S.left source.old) (S.left source.new) piece
             × (self.new.bytes ≡ self.old.bytes ++ piece) × (self.old.ended ≡ true → piece ≡ []) }
-        ensures latest { ((self.new.bytes ≡ self.old.bytes) × (S.last source.new ≡ S.last source.old))
+        ensures last { ((self.new.bytes ≡ self.old.bytes) × (S.last source.new ≡ S.last source.old))
             ⊎ (no_feed (without_latest (S.last source.new) self.new.bytes) ≡ true) }
         ensures end { self.new.ended ≡ true → IsAtEnd (S.left source.new) }
-        ensures once { self.old.ended ≡ true → self.new.ended ≡ true }
-        ensures short { length self.new.bytes ≤ 32769 }
-        ensures next { IfOk result (IsNext self.new enough) }
+        ensures ended { self.old.ended ≡ true → self.new.ended ≡ true }
+        ensures at_most { length self.new.bytes ≤ 32769 }
+        ensures value { IfOk result (IsNext self.new enough) }
         ensures fits { IfOk result (λ next. IfSome next (FitsIn self.new)) }
         ensures err { OnErr result (IsPart self.new enough) }
-        ensures err_ended { OnErr result (self.new.ended ≡ false) }
+        ensures open { OnErr result (self.new.ended ≡ false) }
         ensures cause { HasCause (S.faults source.old) (S.faults source.new) result }
     {
         let mut seen = 0;
         loop {
-            if let Some(found) = self.buffered(seen, enough) {
+            if let Some(found) = self.find_line(seen, enough) {
                 return Ok(Some(found));
             }
             if self.is_ended() {

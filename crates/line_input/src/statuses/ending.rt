@@ -4,16 +4,16 @@ ghost use Rattle.outer_ports.specs.Ports.{FailedLast, Rose};
 ghost use Rattle.line_input.specs.Statuses.{Closed, Finished, error_line, status_of, trouble_line};
 
 use crate::statuses::reasons::{write_error, write_trouble};
-use crate::statuses::status::{RunError, Status, Stop};
+use crate::statuses::status::{RunError, RunStop, Status};
 use outer_ports::{Sink, SinkBuffer};
 
 /// Writes the error line of a trouble, and returns its status, or `WriteFailed` if the sink failed.
 pub fn report<K: Sink>(sink: &mut K, trouble: &RunError) -> Status
-    ensures wrote { Closed (K.stands sink.old) (K.stands sink.new) (trouble_line trouble.now) (status_of trouble.now) result }
+    ensures written { Closed (K.stands sink.old) (K.stands sink.new) (trouble_line trouble.now) (status_of trouble.now) result }
     ensures write { result ≡ Status.WriteFailed → Rose (K.faults sink.old) (K.faults sink.new) }
     ensures last { result ≡ Status.WriteFailed → FailedLast (K.faults sink.old) (K.faults sink.new) (K.failed sink.new) }
-    ensures later { K.faults sink.old ≤ K.faults sink.new }
-    ensures quiet { result ≢ Status.WriteFailed → K.faults sink.new ≡ K.faults sink.old }
+    ensures never_falls { K.faults sink.old ≤ K.faults sink.new }
+    ensures no_fault { result ≢ Status.WriteFailed → K.faults sink.new ≡ K.faults sink.old }
 {
     match write_trouble(sink, trouble) {
         Ok(()) => trouble.status(),
@@ -23,11 +23,11 @@ pub fn report<K: Sink>(sink: &mut K, trouble: &RunError) -> Status
 
 /// Writes the error line of a line that was refused with these words, and returns `Refused`, or `WriteFailed` if the sink failed.
 pub fn tell_line<K: Sink>(sink: &mut K, line: u64, words: &[u8]) -> Status
-    ensures wrote { Closed (K.stands sink.old) (K.stands sink.new) (error_line line words.now) Status.Refused result }
+    ensures written { Closed (K.stands sink.old) (K.stands sink.new) (error_line line words.now) Status.Refused result }
     ensures write { result ≡ Status.WriteFailed → Rose (K.faults sink.old) (K.faults sink.new) }
     ensures last { result ≡ Status.WriteFailed → FailedLast (K.faults sink.old) (K.faults sink.new) (K.failed sink.new) }
-    ensures later { K.faults sink.old ≤ K.faults sink.new }
-    ensures quiet { result ≢ Status.WriteFailed → K.faults sink.new ≡ K.faults sink.old }
+    ensures never_falls { K.faults sink.old ≤ K.faults sink.new }
+    ensures no_fault { result ≢ Status.WriteFailed → K.faults sink.new ≡ K.faults sink.old }
 {
     match write_error(sink, line, words) {
         Ok(()) => Status::Refused,
@@ -37,11 +37,11 @@ pub fn tell_line<K: Sink>(sink: &mut K, line: u64, words: &[u8]) -> Status
 
 /// Writes what is pending and then the error line of a trouble, and returns its status, or `WriteFailed` if the sink failed.
 fn report_behind<K: Sink>(buffer: &mut SinkBuffer, sink: &mut K, trouble: &RunError) -> Status
-    ensures wrote { Finished (K.stands sink.old) (K.stands sink.new) buffer.old.pending (Err (Stop.Tell trouble.now)) result }
+    ensures written { Finished (K.stands sink.old) (K.stands sink.new) buffer.old.pending (Err (RunStop.Tell trouble.now)) result }
     ensures write { result ≡ Status.WriteFailed → Rose (K.faults sink.old) (K.faults sink.new) }
     ensures last { result ≡ Status.WriteFailed → FailedLast (K.faults sink.old) (K.faults sink.new) (K.failed sink.new) }
-    ensures later { K.faults sink.old ≤ K.faults sink.new }
-    ensures quiet { result ≢ Status.WriteFailed → K.faults sink.new ≡ K.faults sink.old }
+    ensures never_falls { K.faults sink.old ≤ K.faults sink.new }
+    ensures no_fault { result ≢ Status.WriteFailed → K.faults sink.new ≡ K.faults sink.old }
 {
     match buffer.flush(sink) {
         Ok(()) => report(sink, trouble),
@@ -51,20 +51,24 @@ fn report_behind<K: Sink>(buffer: &mut SinkBuffer, sink: &mut K, trouble: &RunEr
 
 /// Writes what is pending, and then the error line, if the run stopped with a trouble. Returns the status: `Done` if the run reached
 /// the end of its input, the status of the trouble if there is one, and `WriteFailed` if the sink failed now or before.
-pub fn finish<K: Sink>(buffer: &mut SinkBuffer, sink: &mut K, outcome: Result<(), Stop>) -> Status
-    ensures wrote { Finished (K.stands sink.old) (K.stands sink.new) buffer.old.pending outcome result }
-    ensures write { result ≡ Status.WriteFailed → outcome ≢ Err Stop.Write → Rose (K.faults sink.old) (K.faults sink.new) }
-    ensures last { result ≡ Status.WriteFailed → outcome ≢ Err Stop.Write → FailedLast (K.faults sink.old) (K.faults sink.new) (K.failed sink.new) }
-    ensures still { outcome ≡ Err Stop.Write → sink.new ≡ sink.old }
-    ensures later { K.faults sink.old ≤ K.faults sink.new }
-    ensures quiet { result ≢ Status.WriteFailed → K.faults sink.new ≡ K.faults sink.old }
+pub fn finish<K: Sink>(
+    buffer: &mut SinkBuffer,
+    sink: &mut K,
+    outcome: Result<(), RunStop>,
+) -> Status
+    ensures written { Finished (K.stands sink.old) (K.stands sink.new) buffer.old.pending outcome result }
+    ensures write { result ≡ Status.WriteFailed → outcome ≢ Err RunStop.Write → Rose (K.faults sink.old) (K.faults sink.new) }
+    ensures last { result ≡ Status.WriteFailed → outcome ≢ Err RunStop.Write → FailedLast (K.faults sink.old) (K.faults sink.new) (K.failed sink.new) }
+    ensures unchanged { outcome ≡ Err RunStop.Write → sink.new ≡ sink.old }
+    ensures never_falls { K.faults sink.old ≤ K.faults sink.new }
+    ensures no_fault { result ≢ Status.WriteFailed → K.faults sink.new ≡ K.faults sink.old }
 {
     match outcome {
         Ok(()) => match buffer.flush(sink) {
             Ok(()) => Status::Done,
             Err(_) => Status::WriteFailed,
         },
-        Err(Stop::Write) => Status::WriteFailed,
-        Err(Stop::Tell(trouble)) => report_behind(buffer, sink, &trouble),
+        Err(RunStop::Write) => Status::WriteFailed,
+        Err(RunStop::Tell(trouble)) => report_behind(buffer, sink, &trouble),
     }
 }

@@ -43,7 +43,7 @@ fn fixed_words(reason: Reason) -> &'static [u8]
 
 /// Writes the error line with these words for the line of this number.
 pub fn write_error<K: Sink>(sink: &mut K, line: u64, words: &[u8]) -> Result<(), SinkFault>
-    ensures wrote { Wrote (K.stands sink.old) (K.stands sink.new) (error_line line words.now) result }
+    ensures written { Wrote (K.stands sink.old) (K.stands sink.new) (error_line line words.now) result }
     ensures cause { HasCause (K.faults sink.old) (K.faults sink.new) result }
     ensures last { OnErr result (FailedLast (K.faults sink.old) (K.faults sink.new) (K.failed sink.new)) }
 {
@@ -54,7 +54,7 @@ pub fn write_error<K: Sink>(sink: &mut K, line: u64, words: &[u8]) -> Result<(),
 
 /// Writes the error line for a line that names an object that doesn't exist.
 fn write_no_object<K: Sink>(sink: &mut K, line: u64, object: u32) -> Result<(), SinkFault>
-    ensures wrote { Wrote (K.stands sink.old) (K.stands sink.new) (error_line line (reason_words (Reason.NoObject object))) result }
+    ensures written { Wrote (K.stands sink.old) (K.stands sink.new) (error_line line (reason_words (Reason.NoObject object))) result }
     ensures cause { HasCause (K.faults sink.old) (K.faults sink.new) result }
     ensures last { OnErr result (FailedLast (K.faults sink.old) (K.faults sink.new) (K.failed sink.new)) }
 {
@@ -70,7 +70,7 @@ fn write_no_object<K: Sink>(sink: &mut K, line: u64, object: u32) -> Result<(), 
 
 /// Writes the error line with this reason for the line of this number.
 fn write_reason<K: Sink>(sink: &mut K, line: u64, reason: Reason) -> Result<(), SinkFault>
-    ensures wrote { Wrote (K.stands sink.old) (K.stands sink.new) (error_line line (reason_words reason)) result }
+    ensures written { Wrote (K.stands sink.old) (K.stands sink.new) (error_line line (reason_words reason)) result }
     ensures cause { HasCause (K.faults sink.old) (K.faults sink.new) result }
     ensures last { OnErr result (FailedLast (K.faults sink.old) (K.faults sink.new) (K.failed sink.new)) }
 {
@@ -89,7 +89,7 @@ fn write_exhausted<K: Sink>(
     wanted: u32,
     quota: u32,
 ) -> Result<(), SinkFault>
-    ensures wrote { Wrote (K.stands sink.old) (K.stands sink.new) (error_line line (exhausted_words area.now charged wanted quota)) result }
+    ensures written { Wrote (K.stands sink.old) (K.stands sink.new) (error_line line (exhausted_words area.now charged wanted quota)) result }
     ensures cause { HasCause (K.faults sink.old) (K.faults sink.new) result }
     ensures last { OnErr result (FailedLast (K.faults sink.old) (K.faults sink.new) (K.failed sink.new)) }
 {
@@ -117,7 +117,7 @@ fn write_exhausted<K: Sink>(
 
 /// Writes the error line for a requested object that doesn't exist.
 fn write_missing<K: Sink>(sink: &mut K, object: u32) -> Result<(), SinkFault>
-    ensures wrote { Wrote (K.stands sink.old) (K.stands sink.new) (trouble_line (RunError.NoObject object)) result }
+    ensures written { Wrote (K.stands sink.old) (K.stands sink.new) (trouble_line (RunError.NoObject object)) result }
     ensures cause { HasCause (K.faults sink.old) (K.faults sink.new) result }
     ensures last { OnErr result (FailedLast (K.faults sink.old) (K.faults sink.new) (K.failed sink.new)) }
 {
@@ -134,7 +134,7 @@ fn write_missing<K: Sink>(sink: &mut K, object: u32) -> Result<(), SinkFault>
 
 /// Writes the error line of a trouble.
 pub fn write_trouble<K: Sink>(sink: &mut K, trouble: &RunError) -> Result<(), SinkFault>
-    ensures wrote { Wrote (K.stands sink.old) (K.stands sink.new) (trouble_line trouble.now) result }
+    ensures written { Wrote (K.stands sink.old) (K.stands sink.new) (trouble_line trouble.now) result }
     ensures cause { HasCause (K.faults sink.old) (K.faults sink.new) result }
     ensures last { OnErr result (FailedLast (K.faults sink.old) (K.faults sink.new) (K.failed sink.new)) }
 {

@@ -94,7 +94,7 @@ impl RunError {
 
 /// Why a run stopped before the end of the input: a write failed, or there is a trouble to report.
 #[derive(Debug, Drop)]
-pub enum Stop {
+pub enum RunStop {
     Write,
     Tell(RunError),
 }

@@ -12,12 +12,12 @@ use store_word::NoMemory;
 impl Store {
     pub(crate) fn answer(&mut self, command: &Command) -> Result<Reply, NoMemory>
         requires graph { IsGraph (graph_of self.old) }
-        requires program { IsSome (effect (graph_of self.old) command.now) }
+        requires can { IsSome (effect (graph_of self.old) command.now) }
         requires registers { InRegisters (length self.old.registers) command.now }
-        requires limits { InLimits command.now }
+        requires in_range { InLimits command.now }
         ensures ok { IfOk result (λ reply. Answers (graph_of self.old) command.now reply (graph_of self.new)) }
         ensures err { OnErr result (graph_of self.new ≡ graph_of self.old) }
-        ensures allocates { OnErr result (Allocates (graph_of self.old) command.now) }
+        ensures cause { OnErr result (Allocates (graph_of self.old) command.now) }
     {
         match command {
             Command::Set { to, value } => Ok(self.set(*to, *value)),

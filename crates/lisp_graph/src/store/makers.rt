@@ -113,7 +113,7 @@ impl Store {
         requires registers { InRegisters (length self.old.registers) (Command.Grow target wanted) }
         ensures ok { IfOk result (λ reply. Answers (graph_of self.old) (Command.Grow target wanted) reply (graph_of self.new)) }
         ensures err { OnErr result (graph_of self.new ≡ graph_of self.old) }
-        ensures allocates { OnErr result (Allocates (graph_of self.old) (Command.Grow target wanted)) }
+        ensures cause { OnErr result (Allocates (graph_of self.old) (Command.Grow target wanted)) }
     {
         let Some((name, code, fields)) = self.find_block(self.register(target)) else {
             return Ok(Reply::WrongType);

@@ -145,10 +145,10 @@ impl Store {
     /// Shows a value, and writes it to a register.
     fn fetch(&mut self, to: u8, value: Value) -> Reply
         requires graph { IsGraph (graph_of self.old) }
-        requires register { to < length self.old.registers }
+        requires in_range { to < length self.old.registers }
         requires refers { RefersBelow (length self.old.objects) value }
-        ensures reply { result ≡ (fetched (graph_of self.old) to value).reply }
-        ensures graph { graph_of self.new ≡ (fetched (graph_of self.old) to value).graph }
+        ensures value { result ≡ (fetched (graph_of self.old) to value).reply }
+        ensures sound { graph_of self.new ≡ (fetched (graph_of self.old) to value).graph }
     {
         let reply = self.shown(value);
         self.registers.set(to as usize, value);

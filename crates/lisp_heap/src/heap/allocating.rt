@@ -3,22 +3,22 @@ ghost use Rattle.std.specs.Prelude.{◌<◌, length, IfErr, IfOk, OnOk};
 ghost use Rattle.area_space.specs.Table.{areas_of, levels_of};
 ghost use Rattle.area_space.specs.View.{view};
 ghost use Rattle.heap_collect.specs.Laws.{AdmittedIsStep};
-ghost use Rattle.heap_state.specs.Views.{IsConsistent};
+ghost use Rattle.heap_state.specs.Views.{RepresentsState};
 ghost use Rattle.lisp_heap.specs.Admits.{Admits, Refuses};
-ghost use Rattle.lisp_heap.specs.Contents.{contents_at};
+ghost use Rattle.lisp_heap.specs.HeapView.{contents_at};
 ghost use Rattle.lisp_heap.specs.Stands.{IsSound};
 
 use crate::heap::new_level;
 use area_space::Ground;
-use heap_collect::{admit, allocations_are_steps, prepare};
+use heap_collect::{admit, allocations_are_steps, take_silent_steps};
 use lisp_graph::Reply;
-use mem_port::{Memory, known};
+use mem_port::{Memory, assert_invariant};
 use scavenger::ScanSet;
 use std::sync::ledger::Ledger;
 use store_word::{Space, Steps, Word};
 
 // Takes the silent steps, tests the quota of an area and scans: the level of the new object, or a refusal.
-pub(super) fn admitted<M: Memory, L: Ledger>(
+pub(super) fn admit_allocation<M: Memory, L: Ledger>(
     ground: &mut Ground<M>,
     scan: &mut ScanSet,
     registers: &mut [Word],
@@ -31,22 +31,22 @@ pub(super) fn admitted<M: Memory, L: Ledger>(
     requires area { area < length ground.old.table.kinds }
 
     // what is admitted, and what is refused
-    ensures admits { IfOk result (λ level. Admits (view ground.old) (view ground.new) scan.old scan.new registers.old registers.new space.now (M.resident ground.old.mem) area charge steps.old steps.new level) }
-    ensures refuses { IfErr result (λ reply. Refuses (contents_at ground.old scan.old registers.old space.now) (contents_at ground.new scan.new registers.new space.now) area charge steps.old steps.new reply) }
+    ensures ok { IfOk result (λ level. Admits (view ground.old) (view ground.new) scan.old scan.new registers.old registers.new space.now (M.resident ground.old.mem) area charge steps.old steps.new level) }
+    ensures err { IfErr result (λ reply. Refuses (contents_at ground.old scan.old registers.old space.now) (contents_at ground.new scan.new registers.new space.now) area charge steps.old steps.new reply) }
 
     // where the new object may be placed, and that to make it is a transition
-    ensures consistent { OnOk result (IsConsistent (view ground.new) registers.new) }
-    ensures area { OnOk result (area < areas_of ground.new.table) }
+    ensures consistent { OnOk result (RepresentsState (view ground.new) registers.new) }
+    ensures areas { OnOk result (area < areas_of ground.new.table) }
     ensures level { IfOk result (λ level. level < levels_of ground.new.table) }
     ensures step { AdmittedIsStep }
 {
     let level = new_level(ground.table.kinds()[area as usize]);
-    prepare(ground, scan, space);
+    take_silent_steps(ground, scan, space);
     allocations_are_steps();
     match admit(ground, scan, registers, area, charge, space.rate, steps) {
         Ok(()) => Ok(level),
         Err(reply) => {
-            known(&ground.mem);
+            assert_invariant(&ground.mem);
             Err(reply)
         }
     }

@@ -7,8 +7,8 @@ ghost use Rattle.lisp_heap.specs.NewMarks.{MarksMade};
 ghost use Rattle.store_word.specs.Words.{null_word};
 ghost use Rattle.lisp_heap.specs.Stands.{Runs};
 
-use crate::heap::allocating::admitted;
-use crate::heap::{Heap, ended, replied};
+use crate::heap::allocating::admit_allocation;
+use crate::heap::{Heap, finish_reply, finish_step};
 use lisp_graph::{Command, Reply};
 use mem_port::Memory;
 use std::sync::ledger::Ledger;
@@ -27,14 +27,14 @@ impl<M: Memory> Heap<M> {
     ) -> Reply
         requires to { to < length self.old.registers }
         requires area { area < length self.old.table.kinds }
-        requires few { count ≤ 2047 }
+        requires at_most { count ≤ 2047 }
         ensures runs { Runs self.old self.new steps.old steps.new (Command.Make to area code count) result }
-        ensures makes { Makes self.old self.new steps.old steps.new (count + 1) (count + 1) 0 result }
+        ensures costs { Makes self.old self.new steps.old steps.new (count + 1) (count + 1) 0 result }
         ensures order { result ≡ Reply.Fine → ScansFirst self.old self.new (count + 1) (count + 1) 0 }
         ensures unmarked { result ≡ Reply.Fine → MarksMade (Command.Make to area code count) self.old self.new (get_or self.new.registers to null_word) (count + 1) }
     {
         let registers = self.registers.as_mut_slice();
-        match admitted(
+        match admit_allocation(
             &mut self.ground,
             &mut self.scan,
             registers,
@@ -54,7 +54,7 @@ impl<M: Memory> Heap<M> {
                     count,
                     steps,
                 );
-                replied(&self.ground.mem, answer)
+                finish_reply(&self.ground.mem, answer)
             }
             Err(reply) => reply,
         }
@@ -66,7 +66,7 @@ impl<M: Memory> Heap<M> {
         requires to { to < length self.old.registers }
         requires from { from < length self.old.registers }
         ensures runs { Runs self.old self.new steps.old steps.new (Command.Get to from index) result }
-        ensures takes { Takes self.old self.new steps.old steps.new 4096 120 result }
+        ensures costs { Takes self.old self.new steps.old steps.new 4096 120 result }
         ensures moves { MovesAtMost self.old self.new 2 }
     {
         let answer = heap_commands::get(
@@ -77,7 +77,7 @@ impl<M: Memory> Heap<M> {
             index,
             steps,
         );
-        ended(&self.ground.mem, answer)
+        finish_step(&self.ground.mem, answer)
     }
 
     /// `put`: a field of the block in a register gets the value of another. It places at most 4,096
@@ -92,7 +92,7 @@ impl<M: Memory> Heap<M> {
         requires target { target < length self.old.registers }
         requires from { from < length self.old.registers }
         ensures runs { Runs self.old self.new steps.old steps.new (Command.Put target index from) result }
-        ensures takes { Takes self.old self.new steps.old steps.new 4096 107 result }
+        ensures costs { Takes self.old self.new steps.old steps.new 4096 107 result }
         ensures moves { MovesAtMost self.old self.new 2 }
     {
         let answer = heap_commands::put(
@@ -103,18 +103,18 @@ impl<M: Memory> Heap<M> {
             from,
             steps,
         );
-        ended(&self.ground.mem, answer)
+        finish_step(&self.ground.mem, answer)
     }
 
     /// `size`: how many fields the block in a register has. It places at most 2,048 words. If no
     /// swap error occurs, it takes at most 59 memory accesses, and 4 for each word placed.
     pub fn size<L: Ledger>(&mut self, of: u8, steps: &mut Steps<L>) -> Reply
-        requires of { of < length self.old.registers }
+        requires in_range { of < length self.old.registers }
         ensures runs { Runs self.old self.new steps.old steps.new (Command.Size of) result }
-        ensures takes { Takes self.old self.new steps.old steps.new 2048 59 result }
+        ensures costs { Takes self.old self.new steps.old steps.new 2048 59 result }
         ensures moves { MovesAtMost self.old self.new 1 }
     {
         let answer = heap_commands::size(&mut self.ground, &mut self.registers, of, steps);
-        ended(&self.ground.mem, answer)
+        finish_step(&self.ground.mem, answer)
     }
 }

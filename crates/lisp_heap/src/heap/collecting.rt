@@ -5,7 +5,7 @@ ghost use Rattle.area_space.specs.Frees.{outside_old};
 ghost use Rattle.scavenger.specs.Starting.{Begins, base_pages};
 ghost use Rattle.heap_collect.specs.Amounts.{CountsPlaced};
 ghost use Rattle.word_graph.specs.lisp_meaning.State.{State};
-ghost use Rattle.lisp_heap.specs.Contents.{store_of};
+ghost use Rattle.lisp_heap.specs.HeapView.{store_of};
 ghost use Rattle.lisp_heap.specs.Costs.{ScansSome, left_in};
 ghost use Rattle.lisp_heap.specs.Freed.{Reclaimed};
 ghost use Rattle.lisp_heap.specs.Moves.{MovesAtMost};
@@ -15,7 +15,7 @@ ghost use Rattle.lisp_heap.specs.Units.{IsUnfinished, ScansInOrder};
 use crate::heap::Heap;
 use heap_collect::{flip, reclaim, scavenge};
 use lisp_graph::{Command, Condemn, Reply};
-use mem_port::{Memory, known};
+use mem_port::{Memory, assert_invariant};
 use std::sync::ledger::Ledger;
 use store_word::Steps;
 
@@ -29,11 +29,11 @@ impl<M: Memory> Heap<M> {
         ensures table { (count : ℕ) → result ≡ Reply.Flipped count → Condemns self.old.table (record self.new.table { pages = [] }) what }
         ensures pages { (count : ℕ) → result ≡ Reply.Flipped count → count ≡ base_pages (store_of self.old.memory) self.new.table what }
         ensures begins { (count : ℕ) → result ≡ Reply.Flipped count → Begins (store_of self.old.memory) self.new.table what self.old.scan self.new.scan }
-        ensures busy { result ≡ Reply.Busy → self.new.scan ≡ self.old.scan }
-        ensures faults { self.new.faults ≡ self.old.faults }
+        ensures refused { result ≡ Reply.Busy → self.new.scan ≡ self.old.scan }
+        ensures no_fault { self.new.faults ≡ self.old.faults }
     {
         let reply = flip(&mut self.ground, &mut self.scan, what);
-        known(&self.ground.mem);
+        assert_invariant(&self.ground.mem);
         reply
     }
 
@@ -51,9 +51,9 @@ impl<M: Memory> Heap<M> {
         ensures units { (self.new.scan.done - self.old.scan.done) + left_in self.new ≡ left_in self.old + (self.new.table.placed - self.old.table.placed) }
         ensures placed { CountsPlaced self.old.table self.new.table }
         ensures moves { MovesAtMost self.old self.new (self.new.scan.done - self.old.scan.done + 1) }
-        ensures more { result ≡ Reply.More → IsUnfinished self.new }
+        ensures going { result ≡ Reply.More → IsUnfinished self.new }
         ensures done { result ≡ Reply.Done → left_in self.new ≡ 0 }
-        ensures few { result ≢ Reply.Fault → self.new.table.placed ≤ self.old.table.placed + 2048 * (self.new.scan.done - self.old.scan.done) }
+        ensures at_most { result ≢ Reply.Fault → self.new.table.placed ≤ self.old.table.placed + 2048 * (self.new.scan.done - self.old.scan.done) }
         ensures cost { result ≢ Reply.Fault → steps.new ≤ steps.old + 4 * (self.new.table.placed - self.old.table.placed) + 48 * (self.new.scan.done - self.old.scan.done) }
     {
         let reply = scavenge(
@@ -63,7 +63,7 @@ impl<M: Memory> Heap<M> {
             count,
             steps,
         );
-        known(&self.ground.mem);
+        assert_invariant(&self.ground.mem);
         reply
     }
 
@@ -75,13 +75,13 @@ impl<M: Memory> Heap<M> {
         ensures runs { Runs self.old self.new 0 0 Command.Reclaim result }
         ensures left { result ≡ Reply.NotDone → IsUnfinished self.new }
         ensures none { result ≡ Reply.Reclaimed → left_in self.old ≡ 0 }
-        ensures freed { result ≡ Reply.Reclaimed → (s : State) → Stands self.old s → Reclaimed self.new s }
+        ensures free { result ≡ Reply.Reclaimed → (s : State) → Stands self.old s → Reclaimed self.new s }
         ensures resident { result ≡ Reply.Reclaimed → self.new.resident ≡ outside_old self.old.table self.old.resident }
         ensures unchanged { result ≢ Reply.Reclaimed → self.new.resident ≡ self.old.resident }
-        ensures faults { self.new.faults ≡ self.old.faults }
+        ensures no_fault { self.new.faults ≡ self.old.faults }
     {
         let reply = reclaim(&mut self.ground, &self.scan);
-        known(&self.ground.mem);
+        assert_invariant(&self.ground.mem);
         reply
     }
 }

@@ -9,8 +9,8 @@ ghost use Rattle.lisp_heap.specs.Moves.{MovesAtMost, MovesOrLays};
 ghost use Rattle.lisp_heap.specs.NewMarks.{MarksMade};
 ghost use Rattle.lisp_heap.specs.Stands.{Runs};
 
-use crate::heap::allocating::admitted;
-use crate::heap::{Heap, ended, replied};
+use crate::heap::allocating::admit_allocation;
+use crate::heap::{Heap, finish_reply, finish_step};
 use heap_commands::{CELL, PAIR};
 use lisp_graph::{Command, Items, Reply};
 use mem_port::Memory;
@@ -39,12 +39,12 @@ impl<M: Memory> Heap<M> {
         requires car { car < length self.old.registers }
         requires cdr { cdr < length self.old.registers }
         ensures runs { Runs self.old self.new steps.old steps.new (Command.Cons to area car cdr) result }
-        ensures makes { Makes self.old self.new steps.old steps.new 2 2 2 result }
+        ensures costs { Makes self.old self.new steps.old steps.new 2 2 2 result }
         ensures order { result ≡ Reply.Fine → ScansFirst self.old self.new 2 2 2 }
         ensures unmarked { result ≡ Reply.Fine → MarksMade (Command.Cons to area car cdr) self.old self.new (get_or self.new.registers to null_word) 2 }
     {
         let registers = self.registers.as_mut_slice();
-        match admitted(
+        match admit_allocation(
             &mut self.ground,
             &mut self.scan,
             registers,
@@ -64,7 +64,7 @@ impl<M: Memory> Heap<M> {
                     cdr,
                     steps,
                 );
-                replied(&self.ground.mem, answer)
+                finish_reply(&self.ground.mem, answer)
             }
             Err(reply) => reply,
         }
@@ -81,17 +81,17 @@ impl<M: Memory> Heap<M> {
     ) -> Reply
         requires to { to < length self.old.registers }
         requires area { area < length self.old.table.kinds }
-        requires some { 1 ≤ length items.now }
-        requires inside { All (λ item. item < length self.old.registers) items.now }
+        requires at_least { 1 ≤ length items.now }
+        requires in_range { All (λ item. item < length self.old.registers) items.now }
         ensures runs { Runs self.old self.new steps.old steps.new (Command.List to area items.now) result }
         ensures cells { result ≡ Reply.Fine → RefersToCells self.new.memory.words (get_or self.new.registers to null_word) (length items.now) }
-        ensures makes { Makes self.old self.new steps.old steps.new (3 * length items.now) (length items.now) (length items.now) result }
+        ensures costs { Makes self.old self.new steps.old steps.new (3 * length items.now) (length items.now) (length items.now) result }
         ensures order { result ≡ Reply.Fine → ScansFirst self.old self.new (3 * length items.now) (length items.now) (length items.now) }
         ensures unmarked { result ≡ Reply.Fine → MarksMade (Command.List to area items.now) self.old self.new (get_or self.new.registers to null_word) (length items.now) }
     {
         let charge = list_charge(items);
         let registers = self.registers.as_mut_slice();
-        match admitted(
+        match admit_allocation(
             &mut self.ground,
             &mut self.scan,
             registers,
@@ -110,7 +110,7 @@ impl<M: Memory> Heap<M> {
                     items,
                     steps,
                 );
-                replied(&self.ground.mem, answer)
+                finish_reply(&self.ground.mem, answer)
             }
             Err(reply) => reply,
         }
@@ -122,11 +122,11 @@ impl<M: Memory> Heap<M> {
         requires to { to < length self.old.registers }
         requires from { from < length self.old.registers }
         ensures runs { Runs self.old self.new steps.old steps.new (Command.Car to from) result }
-        ensures takes { Takes self.old self.new steps.old steps.new 4096 119 result }
+        ensures costs { Takes self.old self.new steps.old steps.new 4096 119 result }
         ensures moves { MovesAtMost self.old self.new 2 }
     {
         let answer = heap_commands::car(&mut self.ground, &mut self.registers, to, from, steps);
-        ended(&self.ground.mem, answer)
+        finish_step(&self.ground.mem, answer)
     }
 
     /// `cdr`: a register gets the cdr of the cons in another. It places at most 4,096 words. If no
@@ -135,11 +135,11 @@ impl<M: Memory> Heap<M> {
         requires to { to < length self.old.registers }
         requires from { from < length self.old.registers }
         ensures runs { Runs self.old self.new steps.old steps.new (Command.Cdr to from) result }
-        ensures takes { Takes self.old self.new steps.old steps.new 4096 120 result }
+        ensures costs { Takes self.old self.new steps.old steps.new 4096 120 result }
         ensures moves { MovesAtMost self.old self.new 2 }
     {
         let answer = heap_commands::cdr(&mut self.ground, &mut self.registers, to, from, steps);
-        ended(&self.ground.mem, answer)
+        finish_step(&self.ground.mem, answer)
     }
 
     /// `rplaca`: the car of the cons in a register gets the value of another. It places at most 4,096
@@ -148,7 +148,7 @@ impl<M: Memory> Heap<M> {
         requires target { target < length self.old.registers }
         requires from { from < length self.old.registers }
         ensures runs { Runs self.old self.new steps.old steps.new (Command.Rplaca target from) result }
-        ensures takes { Takes self.old self.new steps.old steps.new 4096 106 result }
+        ensures costs { Takes self.old self.new steps.old steps.new 4096 106 result }
         ensures moves { MovesAtMost self.old self.new 2 }
     {
         let answer = heap_commands::rplaca(
@@ -158,7 +158,7 @@ impl<M: Memory> Heap<M> {
             from,
             steps,
         );
-        ended(&self.ground.mem, answer)
+        finish_step(&self.ground.mem, answer)
     }
 
     /// `rplacd`: the cdr of the cons in a register gets the value of another. It places at most 6,146
@@ -168,7 +168,7 @@ impl<M: Memory> Heap<M> {
         requires target { target < length self.old.registers }
         requires from { from < length self.old.registers }
         ensures runs { Runs self.old self.new steps.old steps.new (Command.Rplacd target from) result }
-        ensures takes { Takes self.old self.new steps.old steps.new 6146 159 result }
+        ensures costs { Takes self.old self.new steps.old steps.new 6146 159 result }
         ensures moves { MovesOrLays self.old self.new (get_or self.new.registers target null_word) (get_or self.new.registers from null_word) }
     {
         let answer = heap_commands::rplacd(
@@ -178,7 +178,7 @@ impl<M: Memory> Heap<M> {
             from,
             steps,
         );
-        ended(&self.ground.mem, answer)
+        finish_step(&self.ground.mem, answer)
     }
 }
 

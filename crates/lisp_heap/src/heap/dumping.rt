@@ -4,7 +4,7 @@ ghost use Rattle.word_graph.specs.lisp_meaning.State.{State};
 ghost use Rattle.word_graph.specs.lisp_meaning.Step.{world_of};
 ghost use Rattle.world_text.specs.Dump.{HasSwapCause, IsDump};
 ghost use Rattle.word_graph.specs.dump_laws.Written.{dumped};
-ghost use Rattle.lisp_heap.specs.Contents.{Contents, SameWorld};
+ghost use Rattle.lisp_heap.specs.HeapView.{HeapView, SameWorld};
 ghost use Rattle.lisp_heap.specs.Stands.{Stands};
 ghost use Rattle.lisp_heap.specs.Walking.{StandsAsBefore, graph_in};
 
@@ -18,7 +18,7 @@ use world_text::{DumpFault, dump_text};
 
 // Which heap a walk began with.
 trait WalkStart {
-    ghost start: { Option Contents };
+    ghost start: { Option HeapView };
 }
 
 impl WalkStart for Brand {
@@ -27,16 +27,16 @@ impl WalkStart for Brand {
 
 // A heap that a walk visits. It represents the same states as the heap with which the walk began.
 #[derive(Drop)]
-struct Walked<M: Memory, O: WalkStart> {
+struct WalkedHeap<M: Memory, O: WalkStart> {
     heap: Heap<M>,
     origin: PhantomData<O>,
 }
 
-impl<M: Memory, O: WalkStart> Model for Walked<M, O> {
-    ghost use Rattle.lisp_heap.specs.Contents.{Contents};
+impl<M: Memory, O: WalkStart> Model for WalkedHeap<M, O> {
+    ghost use Rattle.lisp_heap.specs.HeapView.{HeapView};
     ghost use Rattle.lisp_heap.specs.Walking.{StandsSince};
 
-    ghost Value = { Contents };
+    ghost Value = { HeapView };
 
     ghost view = { λ w. w.heap };
 
@@ -44,7 +44,7 @@ impl<M: Memory, O: WalkStart> Model for Walked<M, O> {
 }
 
 // Each call is the heap's own.
-impl<M: Memory, O: WalkStart> Walk for Walked<M, O> {
+impl<M: Memory, O: WalkStart> Walk for WalkedHeap<M, O> {
     ghost graph = { graph_in };
 
     ghost faults = { λ h. h.faults };
@@ -72,7 +72,7 @@ impl<M: Memory> Heap<M> {
     pub fn dump(self, alloc: Global, areas: &Areas) -> (Heap<M>, Result<Text, DumpFault>)
         ensures text { IfOk result.1 (λ text. (s : State) → Stands self s → s.areas ≡ areas.now → text ≡ dumped (world_of s)) }
         ensures stands { (s : State) → Stands self s → Stands result.0 s }
-        ensures world { SameWorld self result.0 }
+        ensures unchanged { SameWorld self result.0 }
         ensures read { StandsAsBefore self result.0 }
         ensures cause { HasSwapCause self.faults result.0.faults result.1 }
     {
@@ -87,12 +87,12 @@ fn dump_from<M: Memory, O: WalkStart>(
     areas: &Areas,
 ) -> (Heap<M>, Result<Text, DumpFault>)
     requires { O.start ≡ Some heap }
-    ensures is { IfOk result.1 (λ text. IsDump (graph_in heap) heap.space areas.now text) }
+    ensures value { IfOk result.1 (λ text. IsDump (graph_in heap) heap.space areas.now text) }
     ensures stands { StandsAsBefore heap result.0 }
     ensures cause { HasSwapCause heap.faults result.0.faults result.1 }
 {
     let space = heap.space;
-    let mut walked = Walked::<M, O> {
+    let mut walked = WalkedHeap::<M, O> {
         heap,
         origin: PhantomData,
     };

@@ -1,8 +1,8 @@
 //! The command by which a block grows.
 ghost use Rattle.std.specs.Prelude.{◌≡◌, ◌≢◌, ℕ, ◌-◌, ◌*◌, ◌<◌, ◌≤◌, get_or, length, IsTrue, None, Some};
-ghost use Rattle.mem_port.specs.View.{TellsIf};
+ghost use Rattle.mem_port.specs.View.{AccountsForFaultsIf};
 ghost use Rattle.area_space.specs.View.{view};
-ghost use Rattle.heap_collect.specs.Views.{IsStanding};
+ghost use Rattle.heap_collect.specs.Views.{RepresentsMachineState};
 ghost use Rattle.heap_commands.specs.Views.{MarksMade as MarksOnGround, WantsGrowth};
 ghost use Rattle.heap_state.specs.Views.{RepresentsAll, StepsTo};
 ghost use Rattle.mem_port.specs.Store.{MarksHold};
@@ -17,16 +17,16 @@ ghost use Rattle.store_word.specs.Words.{null_word};
 ghost use Rattle.lisp_heap.specs.Growth.{LooksAndWidens, ScansAndWidens};
 ghost use Rattle.lisp_heap.specs.Making.{ScansBeforeGrowth};
 ghost use Rattle.lisp_heap.specs.NewMarks.{MarksMade};
-ghost use Rattle.heap_state.specs.transporter.LiveSame.{OnlyGrows};
+ghost use Rattle.heap_state.specs.transporter.LiveWordsUnchanged.{OnlyGrows};
 ghost use Rattle.heap_state.specs.transporter.Views.{MarksFollow};
 ghost use Rattle.lisp_heap.specs.Stands.{Runs, Stands};
 
 use crate::heap::{Heap, reply_of};
 use area_space::Ground;
-use heap_collect::{admit, looks_are_steps, prepare};
+use heap_collect::{admit, looks_are_steps, take_silent_steps};
 use heap_commands::{Growing, find_growing};
 use lisp_graph::{Command, Reply};
-use mem_port::{Memory, known};
+use mem_port::{Memory, assert_invariant};
 use scavenger::ScanSet;
 use std::sync::ledger::Ledger;
 use store_word::{Steps, Word};
@@ -42,7 +42,7 @@ impl<M: Memory> Heap<M> {
     /// took at most the memory accesses of a `cons` with that charge.
     pub fn grow<L: Ledger>(&mut self, target: u8, wanted: u16, steps: &mut Steps<L>) -> Reply
         requires target { target < length self.old.registers }
-        requires few { wanted ≤ 2047 }
+        requires at_most { wanted ≤ 2047 }
         ensures runs { Runs self.old self.new steps.old steps.new (Command.Grow target wanted) result }
         ensures costs { result ≡ Reply.Fine → (s : State) → Stands self.old s → (area charge : ℕ) → wants_in s (Command.Grow target wanted) ≡ Some (record { area = area; charge = charge })
             → Costs self.old self.new steps.old steps.new charge charge 1 }
@@ -50,11 +50,11 @@ impl<M: Memory> Heap<M> {
             → ScansBeforeGrowth self.old self.new charge }
         ensures unmarked { result ≡ Reply.Fine → (s : State) → Stands self.old s → (area charge : ℕ) → wants_in s (Command.Grow target wanted) ≡ Some (record { area = area; charge = charge })
             → MarksMade (Command.Grow target wanted) self.old self.new (get_or self.new.registers target null_word) charge }
-        ensures looks { result ≢ Reply.Fault → (s : State) → Stands self.old s → wants_in s (Command.Grow target wanted) ≡ None → CostsLook self.old self.new steps.old steps.new }
+        ensures found { result ≢ Reply.Fault → (s : State) → Stands self.old s → wants_in s (Command.Grow target wanted) ≡ None → CostsLook self.old self.new steps.old steps.new }
         ensures refused { IsRefused result → CostsLook self.old self.new steps.old steps.new }
     {
         let registers = self.registers.as_mut_slice();
-        prepare(&mut self.ground, &mut self.scan, &self.space);
+        take_silent_steps(&mut self.ground, &mut self.scan, &self.space);
         let reply = grow_register(
             &mut self.ground,
             &mut self.scan,
@@ -64,7 +64,7 @@ impl<M: Memory> Heap<M> {
             self.space.rate,
             steps,
         );
-        known(&self.ground.mem);
+        assert_invariant(&self.ground.mem);
         reply
     }
 }
@@ -79,17 +79,17 @@ fn grow_register<M: Memory, L: Ledger>(
     rate: u32,
     steps: &mut Steps<L>,
 ) -> Reply
-    requires standing { IsStanding (view ground.old) scan.old registers.old }
-    requires some { 0 < areas_of ground.old.table }
+    requires represented { RepresentsMachineState (view ground.old) scan.old registers.old }
+    requires at_least { 0 < areas_of ground.old.table }
     requires target { target < length registers.old }
-    requires few { wanted ≤ 2047 }
-    ensures steps { (k : RoleMap) (s : State) → RepresentsAll (view ground.old) scan.old registers.old k s → s.space.rate ≡ rate
+    requires at_most { wanted ≤ 2047 }
+    ensures step { (k : RoleMap) (s : State) → RepresentsAll (view ground.old) scan.old registers.old k s → s.space.rate ≡ rate
         → StepsTo (view ground.new) scan.new registers.new s (Command.Grow target wanted) result }
     ensures settled { IsDone result → (i : ℕ) → IsTrue (reads (Command.Grow target wanted) i) → IsSettled ground.new.table registers.new i }
     ensures registers { length registers.new ≡ length registers.old }
     ensures table { OnlyGrows ground.old.table ground.new.table }
     ensures marks { MarksFollow (view ground.old) (view ground.new) }
-    ensures spends { result ≡ Reply.Fine → (k : RoleMap) (s : State) → RepresentsAll (view ground.old) scan.old registers.old k s
+    ensures costs { result ≡ Reply.Fine → (k : RoleMap) (s : State) → RepresentsAll (view ground.old) scan.old registers.old k s
         → (area charge : ℕ) → wants_in s (Command.Grow target wanted) ≡ Some (record { area = area; charge = charge })
         → Spends scan.old scan.new ground.old.table ground.new.table rate charge 99 1 steps.old steps.new }
     ensures order { result ≡ Reply.Fine → (k : RoleMap) (s : State) → RepresentsAll (view ground.old) scan.old registers.old k s
@@ -98,11 +98,11 @@ fn grow_register<M: Memory, L: Ledger>(
     ensures unmarked { result ≡ Reply.Fine → (k : RoleMap) (s : State) → RepresentsAll (view ground.old) scan.old registers.old k s
         → (area charge : ℕ) → wants_in s (Command.Grow target wanted) ≡ Some (record { area = area; charge = charge })
         → MarksOnGround (view ground.old) (view ground.new) (get_or registers.new target null_word) charge }
-    ensures looks { result ≢ Reply.Fault → (k : RoleMap) (s : State) → RepresentsAll (view ground.old) scan.old registers.old k s
+    ensures found { result ≢ Reply.Fault → (k : RoleMap) (s : State) → RepresentsAll (view ground.old) scan.old registers.old k s
         → wants_in s (Command.Grow target wanted) ≡ None → LookCosts scan.old scan.new ground.old.table ground.new.table steps.old steps.new }
     ensures refused { IsRefused result → LookCosts scan.old scan.new ground.old.table ground.new.table steps.old steps.new }
-    ensures scan { ScanGoesOn scan.old scan.new ground.old.table ground.new.table result }
-    ensures tells { TellsIf (view ground.old).mem (view ground.new).mem steps.old steps.new (is_fault result) }
+    ensures goes_on { ScanGoesOn scan.old scan.new ground.old.table ground.new.table result }
+    ensures accounted { AccountsForFaultsIf (view ground.old).mem (view ground.new).mem steps.old steps.new (is_fault result) }
 {
     let found = find_growing(ground, registers, target, wanted, steps);
     look_laws(&ground.mem);
@@ -126,22 +126,22 @@ fn grow_charged<M: Memory, L: Ledger>(
     rate: u32,
     steps: &mut Steps<L>,
 ) -> Reply
-    requires standing { IsStanding (view ground.old) scan.old registers.old }
-    requires wants { WantsGrowth (view ground.old) registers.old target wanted area charge }
+    requires represented { RepresentsMachineState (view ground.old) scan.old registers.old }
+    requires can { WantsGrowth (view ground.old) registers.old target wanted area charge }
     requires target { target < length registers.old }
-    requires few { wanted ≤ 2047 }
-    ensures steps { (k : RoleMap) (s : State) → RepresentsAll (view ground.old) scan.old registers.old k s → s.space.rate ≡ rate
+    requires at_most { wanted ≤ 2047 }
+    ensures step { (k : RoleMap) (s : State) → RepresentsAll (view ground.old) scan.old registers.old k s → s.space.rate ≡ rate
         → StepsTo (view ground.new) scan.new registers.new s (Command.Grow target wanted) result }
     ensures settled { IsDone result → (i : ℕ) → IsTrue (reads (Command.Grow target wanted) i) → IsSettled ground.new.table registers.new i }
     ensures registers { length registers.new ≡ length registers.old }
     ensures table { OnlyGrows ground.old.table ground.new.table }
     ensures marks { MarksFollow (view ground.old) (view ground.new) }
-    ensures spends { result ≡ Reply.Fine → Spends scan.old scan.new ground.old.table ground.new.table rate charge 40 0 steps.old steps.new }
+    ensures costs { result ≡ Reply.Fine → Spends scan.old scan.new ground.old.table ground.new.table rate charge 40 0 steps.old steps.new }
     ensures order { result ≡ Reply.Fine → ScansAndWidens (view ground.old) (view ground.new) scan.old scan.new registers.old registers.new charge (rate * charge) }
     ensures unmarked { result ≡ Reply.Fine → MarksOnGround (view ground.old) (view ground.new) (get_or registers.new target null_word) charge }
     ensures refused { IsRefused result → (scan.new ≡ scan.old) × (ground.new.table ≡ ground.old.table) × (steps.new ≡ steps.old) }
-    ensures scan { ScanGoesOn scan.old scan.new ground.old.table ground.new.table result }
-    ensures tells { TellsIf (view ground.old).mem (view ground.new).mem steps.old steps.new (is_fault result) }
+    ensures goes_on { ScanGoesOn scan.old scan.new ground.old.table ground.new.table result }
+    ensures accounted { AccountsForFaultsIf (view ground.old).mem (view ground.new).mem steps.old steps.new (is_fault result) }
 {
     looks_are_steps();
     match admit(ground, scan, registers, area, charge, rate, steps) {
@@ -155,8 +155,8 @@ fn grow_charged<M: Memory, L: Ledger>(
 fn look_laws<M: Memory>(mem: &M)
     ensures marks { MarksHold (M.seen mem.now) }
     ensures stands { StandsAfterLook }
-    ensures unasked { UnaskedIsStep }
+    ensures idle { UnaskedIsStep }
 {
-    known(mem);
+    assert_invariant(mem);
     looks_are_steps();
 }

@@ -4,7 +4,7 @@ ghost use Rattle.lisp_graph.specs.World.{IsWorld};
 ghost use Rattle.word_graph.specs.lisp_meaning.Opening.{opening};
 ghost use Rattle.heap_load.specs.Faults.{is_fault};
 ghost use Rattle.heap_load.specs.Loading.{FitsQuotas};
-ghost use Rattle.lisp_heap.specs.Contents.{SameWorld};
+ghost use Rattle.lisp_heap.specs.HeapView.{SameWorld};
 ghost use Rattle.lisp_heap.specs.Form.{world_with};
 ghost use Rattle.lisp_heap.specs.Loaded.{StandsGrouped};
 ghost use Rattle.lisp_heap.specs.Stands.{Stands};
@@ -12,7 +12,7 @@ ghost use Rattle.lisp_heap.specs.Stands.{Stands};
 use crate::heap::Heap;
 use heap_load::{LoadFault, load};
 use lisp_graph::World;
-use mem_port::{Memory, known};
+use mem_port::{Memory, assert_invariant};
 use std::alloc::Global;
 use std::sync::ledger::Ledger;
 use store_word::Steps;
@@ -32,23 +32,23 @@ impl<M: Memory> Heap<M> {
         steps: &mut Steps<L>,
     ) -> Result<(), LoadFault>
         requires empty { Stands self.old (opening (world_with world.now.space world.now.areas)) }
-        requires world { IsWorld world.now }
-        requires quotas { FitsQuotas world.now }
+        requires accepted { IsWorld world.now }
+        requires fits { FitsQuotas world.now }
         ensures stands { OnOk result (Stands self.new (opening world.now)) }
         ensures groups { OnOk result (StandsGrouped self.new world.now) }
-        ensures world { SameWorld self.old self.new }
+        ensures unchanged { SameWorld self.old self.new }
 
         // the counts of the memory
-        ensures later { self.old.faults ≤ self.new.faults }
+        ensures never_falls { self.old.faults ≤ self.new.faults }
         ensures swap { is_fault result ≡ true → self.old.faults < self.new.faults }
-        ensures quiet { is_fault result ≡ false → self.new.faults ≡ self.old.faults }
-        ensures bare { world.now.objects ≡ [] → is_fault result ≡ false }
-        ensures honest { self.new.counts.taken + steps.old ≡ self.old.counts.taken + steps.new }
+        ensures no_fault { is_fault result ≡ false → self.new.faults ≡ self.old.faults }
+        ensures succeeds { world.now.objects ≡ [] → is_fault result ≡ false }
+        ensures taken { self.new.counts.taken + steps.old ≡ self.old.counts.taken + steps.new }
         ensures room { is_fault result ≡ false → length self.old.resident ≤ length self.new.resident }
-        ensures gone { length self.old.resident ≤ length self.new.resident + 1 }
+        ensures resident { length self.old.resident ≤ length self.new.resident + 1 }
     {
         let loaded = load(alloc, &mut self.ground, &mut self.registers, world, steps);
-        known(&self.ground.mem);
+        assert_invariant(&self.ground.mem);
         loaded
     }
 }

@@ -5,7 +5,7 @@ ghost use Rattle.area_space.specs.Views.{IsGround};
 ghost use Rattle.lisp_graph.specs.World.{IsSpace};
 ghost use Rattle.area_space.specs.Table.{areas_of};
 ghost use Rattle.scavenger.specs.Left.{next_of};
-ghost use Rattle.lisp_heap.specs.Contents.{lists_of};
+ghost use Rattle.lisp_heap.specs.HeapView.{lists_of};
 ghost use Rattle.lisp_heap.specs.Costs.{left_in};
 
 use crate::heap::Heap;
@@ -21,15 +21,15 @@ impl<M: Memory> Heap<M> {
         ensures table { result.now.table ≡ self.now.table }
         ensures memory { lists_of (view result.now).mem.store ≡ self.now.memory }
         ensures resident { M.resident result.now.mem ≡ self.now.resident }
-        ensures swaps { M.swaps result.now.mem ≡ self.now.counts.swaps }
-        ensures sizes { IsGround (view result.now) }
+        ensures swap { M.swaps result.now.mem ≡ self.now.counts.swaps }
+        ensures sound { IsGround (view result.now) }
     {
         &self.ground
     }
 
     /// What remains to be scanned. It has one number for each page.
     pub fn scan(&self) -> &ScanSet
-        ensures scan { result.now ≡ self.now.scan }
+        ensures value { result.now ≡ self.now.scan }
         ensures pages { length self.now.scan.pages ≡ 16 * self.now.table.regions }
     {
         &self.scan
@@ -38,7 +38,7 @@ impl<M: Memory> Heap<M> {
     /// The words of its registers, of which there are at most 256.
     pub fn register_words(&self) -> &[Word]
         ensures registers { result.now ≡ self.now.registers }
-        ensures few { length self.now.registers ≤ 256 }
+        ensures at_most { length self.now.registers ≤ 256 }
     {
         &self.registers
     }
@@ -46,16 +46,16 @@ impl<M: Memory> Heap<M> {
     /// Its sizes.
     pub fn space(&self) -> &Space
         ensures space { result.now ≡ self.now.space }
-        ensures sizes { IsSpace self.now.space }
+        ensures sound { IsSpace self.now.space }
     {
         &self.space
     }
 
     /// The kind of each area, of which there are at most 16.
     pub fn kinds(&self) -> &[AreaKind]
-        ensures kinds { result.now ≡ self.now.table.kinds }
-        ensures areas { length self.now.table.kinds ≡ areas_of self.now.table }
-        ensures few { length self.now.table.kinds ≤ 16 }
+        ensures value { result.now ≡ self.now.table.kinds }
+        ensures size { length self.now.table.kinds ≡ areas_of self.now.table }
+        ensures at_most { length self.now.table.kinds ≤ 16 }
     {
         self.ground.table.kinds()
     }

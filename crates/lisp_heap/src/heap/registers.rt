@@ -7,10 +7,10 @@ ghost use Rattle.lisp_heap.specs.Moves.{MovesAtMost};
 ghost use Rattle.lisp_heap.specs.Stands.{Runs};
 ghost use Rattle.lisp_heap.specs.Words.{content_of};
 
-use crate::heap::{Heap, ended};
+use crate::heap::{Heap, finish_step};
 use heap_state::commands_are_steps;
 use lisp_graph::{Command, Reply, Value};
-use mem_port::{Memory, known};
+use mem_port::{Memory, assert_invariant};
 use std::sync::ledger::Ledger;
 use store_word::{Steps, Word};
 
@@ -18,13 +18,13 @@ impl<M: Memory> Heap<M> {
     /// `set`: a register gets a value that isn't a reference.
     pub fn set(&mut self, to: u8, value: Value) -> Reply
         requires to { to < length self.old.registers }
-        requires plain { IsPlain value }
+        requires can { IsPlain value }
         ensures runs { Runs self.old self.new 0 0 (Command.Set to value) result }
-        ensures fine { result ≡ Reply.Fine }
-        ensures faults { self.new.faults ≡ self.old.faults }
+        ensures value { result ≡ Reply.Fine }
+        ensures no_fault { self.new.faults ≡ self.old.faults }
     {
         self.registers[to as usize] = word_of(value);
-        known(&self.ground.mem);
+        assert_invariant(&self.ground.mem);
         commands_are_steps();
         Reply::Fine
     }
@@ -35,7 +35,7 @@ impl<M: Memory> Heap<M> {
         requires to { to < length self.old.registers }
         requires from { from < length self.old.registers }
         ensures runs { Runs self.old self.new steps.old steps.new (Command.Move to from) result }
-        ensures takes { Takes self.old self.new steps.old steps.new 2048 46 result }
+        ensures costs { Takes self.old self.new steps.old steps.new 2048 46 result }
         ensures moves { MovesAtMost self.old self.new 1 }
     {
         let answer = heap_commands::copy_register(
@@ -45,7 +45,7 @@ impl<M: Memory> Heap<M> {
             from,
             steps,
         );
-        ended(&self.ground.mem, answer)
+        finish_step(&self.ground.mem, answer)
     }
 
     /// `eq`: whether the values of two registers are equal; references are if they lead to the same object.
@@ -55,11 +55,11 @@ impl<M: Memory> Heap<M> {
         requires left { left < length self.old.registers }
         requires right { right < length self.old.registers }
         ensures runs { Runs self.old self.new steps.old steps.new (Command.Eq left right) result }
-        ensures takes { Takes self.old self.new steps.old steps.new 4096 116 result }
+        ensures costs { Takes self.old self.new steps.old steps.new 4096 116 result }
         ensures moves { MovesAtMost self.old self.new 2 }
     {
         let answer = heap_commands::eq(&mut self.ground, &mut self.registers, left, right, steps);
-        ended(&self.ground.mem, answer)
+        finish_step(&self.ground.mem, answer)
     }
 }
 

@@ -6,7 +6,7 @@ ghost use Rattle.lisp_heap.specs.Walking.{StandsAsBefore, graph_in};
 
 use crate::heap::Heap;
 use lisp_graph::{Form, Seen, Walk};
-use mem_port::{Memory, known};
+use mem_port::{Memory, assert_invariant};
 use store_word::SwapFault;
 use word_graph::{read_field, read_form, read_word};
 
@@ -23,41 +23,41 @@ impl<M: Memory> Walk for Heap<M> {
 
     fn value_of_register(&mut self, register: u32) -> Result<Seen, SwapFault>
         requires { register < length (graph_in self.old).registers }
-        ensures is { IfOk result (λ seen. slice_get (graph_in self.old).registers register ≡ Some seen) }
+        ensures value { IfOk result (λ seen. slice_get (graph_in self.old).registers register ≡ Some seen) }
         ensures shows { IfOk result (λ seen. Shows (graph_in self.old) seen) }
-        ensures same { graph_in self.new ≡ graph_in self.old }
+        ensures unchanged { graph_in self.new ≡ graph_in self.old }
         ensures cause { HasCause self.old.faults self.new.faults result }
         ensures stands { StandsAsBefore self.old self.new }
     {
         let word = self.registers[register as usize];
         let seen = read_word(&mut self.ground, word);
-        known(&self.ground.mem);
+        assert_invariant(&self.ground.mem);
         seen
     }
 
     fn form_of(&mut self, key: u64) -> Result<Form, SwapFault>
         requires { (graph_in self.old).has key ≡ true }
-        ensures is { IfOk result (λ form. form ≡ (graph_in self.old).form key) }
-        ensures same { graph_in self.new ≡ graph_in self.old }
+        ensures value { IfOk result (λ form. form ≡ (graph_in self.old).form key) }
+        ensures unchanged { graph_in self.new ≡ graph_in self.old }
         ensures cause { HasCause self.old.faults self.new.faults result }
         ensures stands { StandsAsBefore self.old self.new }
     {
         let form = read_form(&mut self.ground, key);
-        known(&self.ground.mem);
+        assert_invariant(&self.ground.mem);
         form
     }
 
     fn field_of(&mut self, key: u64, index: u32) -> Result<Seen, SwapFault>
-        requires has { (graph_in self.old).has key ≡ true }
-        requires within { index < ((graph_in self.old).form key).length }
-        ensures is { IfOk result (λ seen. seen ≡ (graph_in self.old).field key index) }
+        requires object { (graph_in self.old).has key ≡ true }
+        requires in_range { index < ((graph_in self.old).form key).length }
+        ensures value { IfOk result (λ seen. seen ≡ (graph_in self.old).field key index) }
         ensures shows { IfOk result (λ seen. Shows (graph_in self.old) seen) }
-        ensures same { graph_in self.new ≡ graph_in self.old }
+        ensures unchanged { graph_in self.new ≡ graph_in self.old }
         ensures cause { HasCause self.old.faults self.new.faults result }
         ensures stands { StandsAsBefore self.old self.new }
     {
         let seen = read_field(&mut self.ground, key, index);
-        known(&self.ground.mem);
+        assert_invariant(&self.ground.mem);
         seen
     }
 }

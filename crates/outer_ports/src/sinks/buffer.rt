@@ -59,7 +59,7 @@ impl SinkBuffer {
     pub fn gather<K: Sink>(&mut self, sink: &mut K, bytes: &[u8]) -> Result<(), SinkFault>
         ensures gathers { Gathers (K.stands sink.old) (K.stands sink.new)
             self.old.pending self.new.pending bytes.now result }
-        ensures quiet { length self.old.pending + length bytes.now ≤ self.old.room → sink.new ≡ sink.old }
+        ensures no_fault { length self.old.pending + length bytes.now ≤ self.old.room → sink.new ≡ sink.old }
         ensures room { self.new.room ≡ self.old.room }
         ensures cause { HasCause (K.faults sink.old) (K.faults sink.new) result }
         ensures last { OnErr result (FailedLast (K.faults sink.old) (K.faults sink.new) (K.failed sink.new)) }
@@ -91,8 +91,8 @@ impl SinkBuffer {
 
     /// Gives the sink what is pending. If the sink fails, what it didn't take remains pending.
     pub fn flush<K: Sink>(&mut self, sink: &mut K) -> Result<(), SinkFault>
-        ensures wrote { Wrote (K.stands sink.old) (K.stands sink.new) self.old.pending result }
-        ensures gathered { Gathered (K.stands sink.old) (K.stands sink.new) self.new.pending self.old.pending }
+        ensures written { Wrote (K.stands sink.old) (K.stands sink.new) self.old.pending result }
+        ensures gathers { Gathered (K.stands sink.old) (K.stands sink.new) self.new.pending self.old.pending }
         ensures ok { OnOk result (self.new.pending ≡ []) }
         ensures err { OnErr result (0 < length self.new.pending) }
         ensures room { self.new.room ≡ self.old.room }

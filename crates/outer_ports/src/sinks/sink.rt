@@ -25,7 +25,7 @@ pub trait Sink {
         requires { 0 < length piece.now }
         ensures some { IfOk result (λ n. 0 < n) }
         ensures fits { IfOk result (λ n. n ≤ length piece.now) }
-        ensures gained { IfOk result (λ n. Gained (stands self.old) (stands self.new) (take n piece.now)) }
+        ensures written { IfOk result (λ n. Gained (stands self.old) (stands self.new) (take n piece.now)) }
         ensures err { OnErr result (Gained (stands self.old) (stands self.new) []) }
         ensures cause { HasCause (faults self.old) (faults self.new) result }
         ensures failed { failed self.new ≡ is_err result }

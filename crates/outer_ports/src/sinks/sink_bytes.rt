@@ -71,7 +71,7 @@ impl Sink for SinkBytes {
         requires { 0 < length piece.now }
         ensures some { IfOk result (λ n. 0 < n) }
         ensures fits { IfOk result (λ n. n ≤ length piece.now) }
-        ensures gained { IfOk result (λ n. Gained (Holds self.old) (Holds self.new) (take n piece.now)) }
+        ensures written { IfOk result (λ n. Gained (Holds self.old) (Holds self.new) (take n piece.now)) }
         ensures err { OnErr result (Gained (Holds self.old) (Holds self.new) []) }
         ensures cause { HasCause self.old.plan.faults self.new.plan.faults result }
         ensures failed { self.new.plan.failed ≡ is_err result }
@@ -81,8 +81,8 @@ impl Sink for SinkBytes {
         ensures size { IfOk result (λ n. n ≡ min self.old.piece
             (min (length piece.now) (self.old.room - length self.old.bytes))) }
         ensures fails { IsErr result ↔ (FailsNext self.old.plan ⊎ (length self.old.bytes ≡ self.old.room)) }
-        ensures plan { self.new.plan ≡ after_call self.old.plan (is_err result) }
-        ensures rest { (self.new.piece ≡ self.old.piece) × (self.new.room ≡ self.old.room) }
+        ensures after { self.new.plan ≡ after_call self.old.plan (is_err result) }
+        ensures unchanged { (self.new.piece ≡ self.old.piece) × (self.new.room ≡ self.old.room) }
     {
         let free = self.room.len() - self.len;
         if free == 0 || self.plan.fails_next() {

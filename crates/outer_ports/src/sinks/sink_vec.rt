@@ -20,7 +20,7 @@ impl SinkVec {
     /// A sink without bytes. It allocates no memory yet.
     pub fn new(alloc: Global) -> SinkVec
         ensures bytes { result.bytes.items ≡ [] }
-        ensures faults { result.faults ≡ 0 }
+        ensures no_fault { result.faults ≡ 0 }
         ensures failed { result.failed ≡ false }
     {
         SinkVec {
@@ -42,7 +42,7 @@ impl Sink for SinkVec {
         requires { 0 < length piece.now }
         ensures some { IfOk result (λ n. 0 < n) }
         ensures fits { IfOk result (λ n. n ≤ length piece.now) }
-        ensures gained { IfOk result (λ n. Gained (λ had. self.old.bytes.items ≡ had) (λ had. self.new.bytes.items ≡ had) (take n piece.now)) }
+        ensures written { IfOk result (λ n. Gained (λ had. self.old.bytes.items ≡ had) (λ had. self.new.bytes.items ≡ had) (take n piece.now)) }
         ensures err { OnErr result (Gained (λ had. self.old.bytes.items ≡ had) (λ had. self.new.bytes.items ≡ had) []) }
         ensures cause { HasCause self.old.faults self.new.faults result }
         ensures failed { self.new.failed ≡ is_err result }

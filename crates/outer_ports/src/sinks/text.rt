@@ -7,7 +7,7 @@ use crate::sinks::sink::{Sink, SinkFault};
 /// Gives these bytes until all are given or the sink fails, and returns how many the sink took.
 pub(crate) fn give_front<K: Sink>(sink: &mut K, bytes: &[u8]) -> (usize, Result<(), SinkFault>)
     ensures fits { result.0 ≤ length bytes.now }
-    ensures gained { Gained (K.stands sink.old) (K.stands sink.new) (take result.0 bytes.now) }
+    ensures written { Gained (K.stands sink.old) (K.stands sink.new) (take result.0 bytes.now) }
     ensures ok { OnOk result.1 (result.0 ≡ length bytes.now) }
     ensures err { OnErr result.1 (result.0 < length bytes.now) }
     ensures cause { HasCause (K.faults sink.old) (K.faults sink.new) result.1 }
@@ -25,7 +25,7 @@ pub(crate) fn give_front<K: Sink>(sink: &mut K, bytes: &[u8]) -> (usize, Result<
 
 /// Gives all of these bytes. If the sink fails, it has gained a prefix of them, and not all.
 pub fn give_all<K: Sink>(sink: &mut K, bytes: &[u8]) -> Result<(), SinkFault>
-    ensures wrote { Wrote (K.stands sink.old) (K.stands sink.new) bytes.now result }
+    ensures written { Wrote (K.stands sink.old) (K.stands sink.new) bytes.now result }
     ensures cause { HasCause (K.faults sink.old) (K.faults sink.new) result }
     ensures last { OnErr result (FailedLast (K.faults sink.old) (K.faults sink.new) (K.failed sink.new)) }
 {
@@ -36,7 +36,7 @@ pub fn give_all<K: Sink>(sink: &mut K, bytes: &[u8]) -> Result<(), SinkFault>
 /// Gives all of these parts, one after another, so that a line needn't be put together first. If
 /// the sink fails, it has gained a prefix of their bytes, and not all.
 pub fn give_parts<K: Sink>(sink: &mut K, parts: &[&[u8]]) -> Result<(), SinkFault>
-    ensures wrote { Wrote (K.stands sink.old) (K.stands sink.new)
+    ensures written { Wrote (K.stands sink.old) (K.stands sink.new)
         (flat_map (λ part. part.now) parts.now) result }
     ensures cause { HasCause (K.faults sink.old) (K.faults sink.new) result }
     ensures last { OnErr result (FailedLast (K.faults sink.old) (K.faults sink.new) (K.failed sink.new)) }

@@ -65,8 +65,8 @@ impl Source for SourceBytes {
         ensures size { IfOk result (λ n. n ≡ min self.old.piece
             (min (length into.old) (length self.old.left))) }
         ensures fails { IsErr result ↔ FailsNext self.old.plan }
-        ensures plan { self.new.plan ≡ after_call self.old.plan (is_err result) }
-        ensures piece { self.new.piece ≡ self.old.piece }
+        ensures after { self.new.plan ≡ after_call self.old.plan (is_err result) }
+        ensures unchanged { self.new.piece ≡ self.old.piece }
     {
         if self.plan.fails_next() {
             self.plan.fail();

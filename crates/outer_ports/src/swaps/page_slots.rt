@@ -60,7 +60,7 @@ impl PageSlots {
 
     /// Copies the words of a page to `into`.
     pub(crate) fn read(&self, page: u32, into: &mut [Word])
-        requires inside { 256 * page + 256 ≤ length self.now }
+        requires in_range { 256 * page + 256 ≤ length self.now }
         requires room { length into.old ≡ 256 }
         ensures { (k : ℕ) → k < 256 → slice_get into.new k ≡ slice_get self.now (256 * page + k) }
     {
@@ -72,7 +72,7 @@ impl PageSlots {
 
     /// Writes these words to a page: to its slot, or to the next free slot if it has none.
     pub(crate) fn write(&mut self, page: u32, from: &[Word])
-        requires inside { 256 * page + 256 ≤ length self.old }
+        requires in_range { 256 * page + 256 ≤ length self.old }
         requires size { length from.now ≡ 256 }
         ensures { Fills self.old self.new page from.now }
     {
@@ -89,7 +89,7 @@ impl PageSlots {
 
 // Copies the words of one slot to `into`.
 fn read_words(words: &[Word], slot: u32, into: &mut [Word])
-    requires inside { 256 * slot + 256 ≤ length words.now }
+    requires in_range { 256 * slot + 256 ≤ length words.now }
     requires room { length into.old ≡ 256 }
     ensures { (k : ℕ) → k < 256 → slice_get into.new k ≡ slice_get words.now (256 * slot + k) }
 {
@@ -99,7 +99,7 @@ fn read_words(words: &[Word], slot: u32, into: &mut [Word])
 
 // Writes these words to one slot.
 fn write_words(words: &mut [Word], slot: u32, from: &[Word])
-    requires inside { 256 * slot + 256 ≤ length words.old }
+    requires in_range { 256 * slot + 256 ≤ length words.old }
     requires size { length from.now ≡ 256 }
     ensures { Fills words.old words.new slot from.now }
 {

@@ -23,24 +23,24 @@ pub trait Swap {
     fn prepare(&mut self, alloc: Global, pages: u32) -> Result<(), NoMemory>
         ensures ok { OnOk result (stored self.new ≡ replicate (256 * pages) null_word) }
         ensures err { OnErr result (self.new ≡ self.old) }
-        ensures faults { faults self.new ≡ faults self.old }
+        ensures no_fault { faults self.new ≡ faults self.old }
         ensures calls { calls self.new ≡ calls self.old };
 
     /// Reads a page, as last written, into a slice of 256 words. The count of failed calls rises
     /// if and only if the call fails; the slice may then hold any words.
     fn read_page(&mut self, page: u32, into: &mut [Word]) -> Result<(), SwapFault>
-        requires inside { 256 * page + 256 ≤ length (stored self.old) }
+        requires in_range { 256 * page + 256 ≤ length (stored self.old) }
         requires room { length into.old ≡ 256 }
         ensures words { OnOk result ((k : ℕ) → k < 256 →
             slice_get into.new k ≡ slice_get (stored self.old) (256 * page + k)) }
-        ensures stays { stored self.new ≡ stored self.old }
+        ensures unchanged { stored self.new ≡ stored self.old }
         ensures cause { TellsFaults (faults self.old) (faults self.new) result }
         ensures calls { calls self.new ≡ with_read (calls self.old) };
 
     /// Writes a page of 256 words. If the call fails, no page has changed. The count of failed calls
     /// rises if and only if the call fails.
     fn write_page(&mut self, page: u32, from: &[Word]) -> Result<(), SwapFault>
-        requires inside { 256 * page + 256 ≤ length (stored self.old) }
+        requires in_range { 256 * page + 256 ≤ length (stored self.old) }
         requires size { length from.now ≡ 256 }
         ensures ok { OnOk result (Fills (stored self.old) (stored self.new) page from.now) }
         ensures err { OnErr result (stored self.new ≡ stored self.old) }

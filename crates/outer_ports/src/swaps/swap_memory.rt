@@ -70,7 +70,7 @@ impl SwapMemory {
 
     // Counts a page call, and fails if this is the call that has to fail.
     fn call(&mut self) -> Result<(), SwapFault>
-        ensures counted { self.new ≡ after_page_call self.old }
+        ensures after { self.new ≡ after_page_call self.old }
         ensures fails { IsErr result ↔ (self.old.calls + 1 ≡ self.old.fail) }
         ensures cause { TellsFaults (faults_of self.old) (faults_of self.new) result }
     {
@@ -99,11 +99,11 @@ impl Swap for SwapMemory {
     }
 
     fn read_page(&mut self, page: u32, into: &mut [Word]) -> Result<(), SwapFault>
-        requires inside { 256 * page + 256 ≤ length self.old.stored }
+        requires in_range { 256 * page + 256 ≤ length self.old.stored }
         requires room { length into.old ≡ 256 }
         ensures words { OnOk result ((k : ℕ) → k < 256 →
             slice_get into.new k ≡ slice_get self.old.stored (256 * page + k)) }
-        ensures counted { self.new ≡ after_read self.old }
+        ensures after { self.new ≡ after_read self.old }
         ensures fails { IsErr result ↔ (self.old.calls + 1 ≡ self.old.fail) }
         ensures cause { TellsFaults (faults_of self.old) (faults_of self.new) result }
     {
@@ -114,11 +114,11 @@ impl Swap for SwapMemory {
     }
 
     fn write_page(&mut self, page: u32, from: &[Word]) -> Result<(), SwapFault>
-        requires inside { 256 * page + 256 ≤ length self.old.stored }
+        requires in_range { 256 * page + 256 ≤ length self.old.stored }
         requires size { length from.now ≡ 256 }
         ensures ok { OnOk result (Fills self.old.stored self.new.stored page from.now) }
         ensures err { OnErr result (self.new.stored ≡ self.old.stored) }
-        ensures counted { self.new ≡ record (after_write self.old) { stored = self.new.stored } }
+        ensures after { self.new ≡ record (after_write self.old) { stored = self.new.stored } }
         ensures fails { IsErr result ↔ (self.old.calls + 1 ≡ self.old.fail) }
         ensures cause { TellsFaults (faults_of self.old) (faults_of self.new) result }
     {

@@ -68,7 +68,7 @@ impl AnswerRoom {
     /// A room without bytes.
     pub fn new(alloc: Global) -> Result<AnswerRoom, NoMemory>
         ensures bytes { IfOk result (λ room. room.bytes.items ≡ []) }
-        ensures faults { IfOk result (λ room. room.faults ≡ 0) }
+        ensures no_fault { IfOk result (λ room. room.faults ≡ 0) }
     {
         let bytes = Vec::with_capacity(alloc, ROOM)?;
         Ok(AnswerRoom {
@@ -81,7 +81,7 @@ impl AnswerRoom {
     /// Drops its bytes, and resets its count of failed calls.
     pub fn clear(&mut self)
         ensures bytes { self.new.bytes.items ≡ [] }
-        ensures faults { self.new.faults ≡ 0 }
+        ensures no_fault { self.new.faults ≡ 0 }
     {
         self.bytes.clear();
         self.faults = 0;
@@ -90,9 +90,9 @@ impl AnswerRoom {
 
     /// Writes the error line of a trouble into the empty room, and returns its status.
     pub fn tell(&mut self, trouble: RunError) -> Status
-        requires bytes { self.old.bytes.items ≡ [] }
-        requires faults { self.old.faults ≡ 0 }
-        ensures status { result ≡ status_of trouble }
+        requires empty { self.old.bytes.items ≡ [] }
+        requires no_fault { self.old.faults ≡ 0 }
+        ensures value { result ≡ status_of trouble }
         ensures bytes { self.new.bytes.items ≡ trouble_line trouble }
     {
         error_lines_are_short(&trouble);
@@ -111,7 +111,7 @@ impl Sink for AnswerRoom {
         requires { 0 < length piece.now }
         ensures some { IfOk result (λ n. 0 < n) }
         ensures fits { IfOk result (λ n. n ≤ length piece.now) }
-        ensures gained { IfOk result (λ n. Gained (λ had. self.old.bytes.items ≡ had) (λ had. self.new.bytes.items ≡ had) (take n piece.now)) }
+        ensures written { IfOk result (λ n. Gained (λ had. self.old.bytes.items ≡ had) (λ had. self.new.bytes.items ≡ had) (take n piece.now)) }
         ensures err { OnErr result (Gained (λ had. self.old.bytes.items ≡ had) (λ had. self.new.bytes.items ≡ had) []) }
         ensures cause { HasCause self.old.faults self.new.faults result }
         ensures failed { self.new.failed ≡ is_err result }

@@ -57,7 +57,7 @@ fn value(word: &[u8], index: usize) -> Value
 
 fn items(word: &[u8]) -> Items
     requires { length word.now ≤ 1024 }
-    ensures length { length result ≡ length word.now }
+    ensures size { length result ≡ length word.now }
     ensures registers { All (λ item. item < 8) result }
 {
     let mut items = Items::new();

@@ -26,9 +26,9 @@ impl Trial {
     /// An empty ground of this many regions with this area, which is dynamic and for which there is room: a region for each 1,024
     /// words of its quota, rounded up, and four more.
     pub fn new(alloc: Global, regions: u32, rule: AreaRule) -> Result<Trial, NoMemory>
-        requires few { regions ≤ 1024 }
+        requires at_most { regions ≤ 1024 }
         requires dynamic { rule.kind ≡ OneKind.Dynamic }
-        requires small { rule.quota ≤ 1048576 }
+        requires size { rule.quota ≤ 1048576 }
         requires room { (rule.quota + 1023) / 1024 + 4 ≤ regions }
         ensures { IfOk result (λ t. IsTrial (plain_store t.ground.mem) t.ground.table t.live_words t.old_words t.moving) }
     {
@@ -61,10 +61,10 @@ impl Trial {
         ensures moving { self.new.moving ≡ self.old.moving }
         ensures end { IfSome result (λ placed. IsEnd self.new.ground.table 0 placed.at words) }
         ensures some { IfSome result (λ _. 0 < words) }
-        ensures few { IfSome result (λ _. words ≤ 2048) }
-        ensures within { IfSome result (λ _. self.old.live_words + self.old.old_words + words ≤ 2 * quota_of self.new.ground.table 0) }
+        ensures at_most { IfSome result (λ _. words ≤ 2048) }
+        ensures in_range { IfSome result (λ _. self.old.live_words + self.old.old_words + words ≤ 2 * quota_of self.new.ground.table 0) }
     {
-        self.ground.table.known();
+        self.ground.table.assert_invariant();
         let quota = self.ground.table.quota(0);
         if words == 0 || words > 2048 || self.live_words + self.old_words + words > 2 * quota {
             return None;
@@ -78,7 +78,7 @@ impl Trial {
         ensures { IsTrial (plain_store self.new.ground.mem) self.new.ground.table self.new.live_words self.new.old_words self.new.moving }
     {
         let placed = self.place(words)?;
-        self.ground.table.known();
+        self.ground.table.assert_invariant();
         if self.ground.table.account(0) + words > self.ground.table.quota(0) {
             return None;
         }
@@ -93,7 +93,7 @@ impl Trial {
         ensures { IsTrial (plain_store self.new.ground.mem) self.new.ground.table self.new.live_words self.new.old_words self.new.moving }
     {
         let placed = self.place(words)?;
-        self.ground.table.known();
+        self.ground.table.assert_invariant();
         if words > self.moving {
             return None;
         }
@@ -114,7 +114,7 @@ impl Trial {
         requires { IsTrial (plain_store self.old.ground.mem) self.old.ground.table self.old.live_words self.old.old_words self.old.moving }
         ensures { IsTrial (plain_store self.new.ground.mem) self.new.ground.table self.new.live_words self.new.old_words self.new.moving }
     {
-        self.ground.table.known();
+        self.ground.table.assert_invariant();
         if has_no_old(&self.ground.table) {
             self.ground.condemn(Condemn::Full);
             self.old_words = self.live_words;
@@ -131,7 +131,7 @@ impl Trial {
         requires { IsTrial (plain_store self.old.ground.mem) self.old.ground.table self.old.live_words self.old.old_words self.old.moving }
         ensures { IsTrial (plain_store self.new.ground.mem) self.new.ground.table self.new.live_words self.new.old_words self.new.moving }
     {
-        self.ground.table.known();
+        self.ground.table.assert_invariant();
         self.ground.free_old();
         self.old_words = 0;
         self.moving = 0;

@@ -10,7 +10,7 @@ ghost use Rattle.transporter.specs.Writes.{Writes};
 ghost use Rattle.test_ground.specs.Written.{IsMade, pair_of, cell_of, block_of};
 
 use area_space::{Ground, Origin};
-use mem_port::{Memory, known};
+use mem_port::{Memory, assert_invariant};
 use std::sync::ledger::Ledger;
 use store_word::{CdrCode, Steps, SwapFault, Word};
 
@@ -22,11 +22,11 @@ pub(crate) fn reserve<M: Memory>(
     charge: u32,
     origin: Origin,
 ) -> u32
-    requires some { 0 < words }
-    requires few { words ≤ 2048 }
+    requires at_least { 0 < words }
+    requires at_most { words ≤ 2048 }
     requires area { 0 < areas_of ground.old.table }
     requires room { RoomRule ground.old.table }
-    requires within { words_of_area ground.old.table 0 + words ≤ 2 * quota_of ground.old.table 0 }
+    requires in_range { words_of_area ground.old.table 0 + words ≤ 2 * quota_of ground.old.table 0 }
     requires fits { account_of ground.old.table 0 + charge ≤ quota_of ground.old.table 0 }
     requires made { IsMade charge origin }
     requires ground { IsGround (view ground.old) }
@@ -34,9 +34,9 @@ pub(crate) fn reserve<M: Memory>(
     ensures { Reserves (view ground.old) (view ground.new) result words charge origin }
 {
     let placed = ground.place(0, 0, words);
-    ground.table.known();
+    ground.table.assert_invariant();
     ground.commit(&placed, words, charge, origin);
-    ground.table.known();
+    ground.table.assert_invariant();
     placed.at
 }
 
@@ -54,7 +54,7 @@ pub(crate) fn write_pair<M: Memory, L: Ledger>(
     ensures written { OnOk result (Writes (M.seen mem.old) (M.seen mem.new) at 2 (pair_of code car cdr)) }
 {
     // No address of a memory overflows, as this call's contract says.
-    known(mem);
+    assert_invariant(mem);
     mem.write(at, car.with_cdr(CdrCode::Normal), steps)?;
     mem.write(at + 1, cdr.with_cdr(code), steps)?;
     Ok(())
@@ -72,7 +72,7 @@ pub(crate) fn write_cells<M: Memory, L: Ledger>(
     ensures written { OnOk result (Writes (M.seen mem.old) (M.seen mem.new) at count (cell_of count)) }
 {
     // No address of a memory overflows, as this call's contract says.
-    known(mem);
+    assert_invariant(mem);
     for i in 0..count {
         mem.write(at + i as u32, cell(count, i), steps)?;
     }
@@ -99,13 +99,13 @@ pub(crate) fn write_block<M: Memory, L: Ledger>(
     fields: u16,
     steps: &mut Steps<L>,
 ) -> Result<(), SwapFault>
-    requires few { fields ≤ 2047 }
-    requires inside { at + fields + 1 ≤ length (M.seen mem.old).words }
+    requires at_most { fields ≤ 2047 }
+    requires in_range { at + fields + 1 ≤ length (M.seen mem.old).words }
     ensures size { length (M.seen mem.new).words ≡ length (M.seen mem.old).words }
     ensures written { OnOk result (Writes (M.seen mem.old) (M.seen mem.new) at (fields + 1) (block_of fields)) }
 {
     // No address of a memory overflows, as this call's contract says.
-    known(mem);
+    assert_invariant(mem);
     mem.write(at, Word::header(0, fields), steps)?;
     for i in 0..fields as u32 {
         mem.write(at + 1 + i, Word::nil(), steps)?;

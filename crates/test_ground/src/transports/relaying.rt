@@ -7,7 +7,7 @@ ghost use Rattle.transporter.specs.Writes.{Writes};
 ghost use Rattle.test_ground.specs.Written.{field_or_nil, wider_of, husk_of};
 
 use area_space::RegionTable;
-use mem_port::{Memory, known};
+use mem_port::{Memory, assert_invariant};
 use std::sync::ledger::Ledger;
 use store_word::{CdrCode, Content, Steps, SwapFault, Word};
 
@@ -42,15 +42,15 @@ pub(crate) fn write_wider<M: Memory, L: Ledger>(
     to: u32,
     steps: &mut Steps<L>,
 ) -> Result<(), SwapFault>
-    requires few { fields ≤ 1023 }
-    requires from_inside { at + fields < length (M.seen mem.old).words }
-    requires to_inside { to + 2 * fields + 2 ≤ length (M.seen mem.old).words }
+    requires at_most { fields ≤ 1023 }
+    requires from { at + fields < length (M.seen mem.old).words }
+    requires to { to + 2 * fields + 2 ≤ length (M.seen mem.old).words }
     requires apart { (at + fields < to) ⊎ (to + 2 * fields + 2 ≤ at) }
     ensures size { length (M.seen mem.new).words ≡ length (M.seen mem.old).words }
     ensures written { OnOk result (Writes (M.seen mem.old) (M.seen mem.new) to (2 * fields + 2) (wider_of (M.seen mem.old).words at code fields)) }
 {
     // No address of a memory overflows, as this call's contract says.
-    known(mem);
+    assert_invariant(mem);
     let wide = 2 * fields + 1;
     mem.write(to, Word::header(code, wide), steps)?;
     for i in 0..wide {
@@ -70,10 +70,10 @@ fn field<M: Memory, L: Ledger>(
 ) -> Result<Word, SwapFault>
     requires { at + fields < length (M.seen mem.old).words }
     ensures value { IfOk result (λ word. word ≡ field_or_nil (M.seen mem.old).words at fields i) }
-    ensures stays { StoresNothing (M.seen mem.old) (M.seen mem.new) }
+    ensures unchanged { StoresNothing (M.seen mem.old) (M.seen mem.new) }
 {
     // No address of a memory overflows, as this call's contract says.
-    known(mem);
+    assert_invariant(mem);
     if i < fields {
         mem.read(at + 1 + i as u32, steps)
     } else {
@@ -89,13 +89,13 @@ pub(crate) fn leave_husk<M: Memory, L: Ledger>(
     blank: u16,
     steps: &mut Steps<L>,
 ) -> Result<(), SwapFault>
-    requires inside { at + blank < length (M.seen mem.old).words }
-    requires to_inside { to < length (M.seen mem.old).words }
+    requires in_range { at + blank < length (M.seen mem.old).words }
+    requires to { to < length (M.seen mem.old).words }
     ensures size { length (M.seen mem.new).words ≡ length (M.seen mem.old).words }
     ensures written { OnOk result (Writes (M.seen mem.old) (M.seen mem.new) at (blank + 1) (husk_of to)) }
 {
     // No address of a memory overflows, as this call's contract says.
-    known(mem);
+    assert_invariant(mem);
     mem.write(at, Word::header_forward(to), steps)?;
     for i in 0..blank {
         mem.write(at + 1 + i as u32, Word::null(), steps)?;

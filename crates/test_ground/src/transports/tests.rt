@@ -290,7 +290,7 @@ fn check_pair<M: Memory + Drop, L: Ledger>(
 ) -> Result<(), SwapFault>
     requires old { old < 131072 }
     requires new { new < 65536 }
-    requires running { IsRunning (view trial.old.ground) trial.old.front trial.old.middle }
+    requires collecting { IsRunning (view trial.old.ground) trial.old.front trial.old.middle }
     ensures { IsRunning (view trial.new.ground) trial.new.front trial.new.middle }
 {
     let car = Word::fixnum(number as i32).with_cdr(CdrCode::Normal);
@@ -310,10 +310,10 @@ fn check_block<M: Memory + Drop, L: Ledger>(
     steps: &mut Steps<L>,
     met: &mut bool,
 ) -> Result<(), SwapFault>
-    requires few { fields ≤ 2047 }
+    requires at_most { fields ≤ 2047 }
     requires old { old < 131072 }
     requires new { new < 65536 }
-    requires running { IsRunning (view trial.old.ground) trial.old.front trial.old.middle }
+    requires collecting { IsRunning (view trial.old.ground) trial.old.front trial.old.middle }
 {
     expect(rt, trial, old, Word::gc_forward(new), steps, met)?;
     expect(rt, trial, new, Word::header(0, fields), steps, met)?;
@@ -342,7 +342,7 @@ fn check_grown<M: Memory + Drop, L: Ledger>(
 ) -> Result<(), SwapFault>
     requires old { old < 65536 }
     requires new { new < 65536 }
-    requires running { IsRunning (view trial.old.ground) trial.old.front trial.old.middle }
+    requires collecting { IsRunning (view trial.old.ground) trial.old.front trial.old.middle }
 {
     for i in 0..11usize {
         let here = old + PLACES[i] as u32;
@@ -387,7 +387,7 @@ fn check_cells<M: Memory + Drop, L: Ledger>(
 ) -> Result<(), SwapFault>
     requires old { cells.old < 131072 }
     requires new { cells.new < 65536 }
-    requires running { IsRunning (view trial.old.ground) trial.old.front trial.old.middle }
+    requires collecting { IsRunning (view trial.old.ground) trial.old.front trial.old.middle }
     ensures { IsRunning (view trial.new.ground) trial.new.front trial.new.middle }
 {
     for i in 0..cells.count {
@@ -434,11 +434,11 @@ fn check_list<M: Memory + Drop, L: Ledger>(
     steps: &mut Steps<L>,
     met: &mut bool,
 ) -> Result<(), SwapFault>
-    requires index { list.index < list.count }
+    requires in_range { list.index < list.count }
     requires old { list.old < 65536 }
-    requires front { list.front < 65536 }
+    requires order { list.front < 65536 }
     requires middle { list.middle < 65536 }
-    requires running { IsRunning (view trial.old.ground) trial.old.front trial.old.middle }
+    requires collecting { IsRunning (view trial.old.ground) trial.old.front trial.old.middle }
 {
     let rest = Cells {
         old: list.old + list.index as u32,
@@ -466,11 +466,11 @@ fn check_cut<M: Memory + Drop, L: Ledger>(
     steps: &mut Steps<L>,
     met: &mut bool,
 ) -> Result<(), SwapFault>
-    requires index { list.index < list.count }
+    requires in_range { list.index < list.count }
     requires old { list.old < 65536 }
-    requires front { list.front < 65536 }
+    requires order { list.front < 65536 }
     requires middle { list.middle < 65536 }
-    requires running { IsRunning (view trial.old.ground) trial.old.front trial.old.middle }
+    requires collecting { IsRunning (view trial.old.ground) trial.old.front trial.old.middle }
 {
     let cell = list.old + list.index as u32;
     let pair = list.old + list.count as u32;
@@ -515,7 +515,7 @@ fn run<M: Memory + Drop, L: Ledger>(
     requires fresh { IsFresh (M.seen mem) 16 1 }
     requires name { blank.name ≡ L.name }
     requires parts { blank.parts ≡ L.parts }
-    requires one { blank.parts ≡ 1 }
+    requires at_least { blank.parts ≡ 1 }
 {
     let mut steps = Steps::<L>::new(blank);
     let areas = areas(alloc)?;
@@ -551,7 +551,7 @@ fn check<M: Memory + Drop, L: Ledger>(
     met: &mut bool,
 ) -> Result<(), SwapFault>
     requires old { old < 65536 }
-    requires running { IsRunning (view trial.old.ground) trial.old.front trial.old.middle }
+    requires collecting { IsRunning (view trial.old.ground) trial.old.front trial.old.middle }
 {
     let front = address(rt, trial.front);
     let middle = address(rt, trial.middle);

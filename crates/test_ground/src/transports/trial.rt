@@ -10,7 +10,7 @@ use crate::transports::making::{reserve, write_block, write_cells, write_pair};
 use crate::transports::relaying::{is_cell, is_first_class, leave_husk, write_wider};
 use area_space::{Ground, Origin, RegionTable};
 use lisp_graph::{Areas, Condemn};
-use mem_port::{Memory, known};
+use mem_port::{Memory, assert_invariant};
 use obj_layout::resolve;
 use std::alloc::Global;
 use std::sync::ledger::Ledger;
@@ -43,7 +43,7 @@ impl<M: Memory + Drop> Trial<M> {
         ensures { IfOk result (λ trial. IsOpen (view trial.ground) trial.front trial.middle) }
     {
         let table = RegionTable::new(alloc, space, areas)?;
-        table.known();
+        table.assert_invariant();
         Ok(Trial {
             ground: Ground { mem, table },
             front: Word::nil(),
@@ -81,8 +81,8 @@ impl<M: Memory + Drop> Trial<M> {
         index: u16,
         steps: &mut Steps<L>,
     ) -> Result<bool, SwapFault>
-        requires few { count ≤ 1024 }
-        requires index { index < count }
+        requires at_most { count ≤ 1024 }
+        requires in_range { index < count }
         requires open { IsOpen (view self.old.ground) self.old.front self.old.middle }
         ensures { OnOk result (IsOpen (view self.new.ground) self.new.front self.new.middle) }
     {
@@ -99,7 +99,7 @@ impl<M: Memory + Drop> Trial<M> {
 
     /// The front register becomes a new block of this many fields, if the quota allows it.
     pub fn block<L: Ledger>(&mut self, fields: u16, steps: &mut Steps<L>) -> Result<bool, SwapFault>
-        requires few { fields ≤ 2047 }
+        requires at_most { fields ≤ 2047 }
         requires open { IsOpen (view self.old.ground) self.old.front self.old.middle }
         ensures { OnOk result (IsOpen (view self.new.ground) self.new.front self.new.middle) }
     {
@@ -163,7 +163,7 @@ impl<M: Memory + Drop> Trial<M> {
         write_wider(mem, at, code, length, to, steps)?;
         leave_husk(mem, at, to, length, steps)?;
         self.ground.note_husk(at, length as u32 + 1);
-        self.ground.table.known();
+        self.ground.table.assert_invariant();
         Ok(true)
     }
 
@@ -181,8 +181,8 @@ impl<M: Memory + Drop> Trial<M> {
         ensures { IsRunning (view self.new.ground) self.new.front self.new.middle }
     {
         self.ground.condemn(Condemn::Full);
-        self.ground.table.known();
-        known(&self.ground.mem);
+        self.ground.table.assert_invariant();
+        assert_invariant(&self.ground.mem);
     }
 
     /// Settles a register.

@@ -6,8 +6,8 @@ use Rattle.world_text.specs.declared.fault.WorldStep.{WorldStep}
 use Rattle.world_text.specs.declared.fault.WorldStep.TheVariants.{Next}
 use Rattle.world_text.specs.declared.fault.WorldFault.TheVariants.{Bad}
 use Rattle.world_text.specs.declared.reading.reason.Reason.TheVariants.{RegisterTwice, WrongCount}
-use Rattle.world_text.specs.declared.reading.reader.Part.{Part}
-use Rattle.world_text.specs.declared.reading.reader.Part.TheVariants.{Opening, Sizing, FirstArea, Areas, Objects, Roots, Closed}
+use Rattle.world_text.specs.declared.reading.reader.Section.{Section}
+use Rattle.world_text.specs.declared.reading.reader.Section.TheVariants.{Opening, Sizing, FirstArea, Areas, Objects, Roots, Closed}
 use Rattle.world_text.specs.declared.reading.reader.WorldReader.{WorldReader}
 use Rattle.world_text.specs.reading.Next.{a_register, a_value}
 use Rattle.world_text.specs.reading.Reader.{Said}
@@ -61,7 +61,7 @@ root_all place register value few new =
 
 -- The objects are tested once.
 
-pub missing_ok : (place : WorldReader) (part : Part) → (if are_roots part then None else missing place.world.objects) ≡ None → (part ≡ Roots) ⊎ AllRefer place.world.objects
+pub missing_ok : (place : WorldReader) (part : Section) → (if are_roots part then None else missing place.world.objects) ≡ None → (part ≡ Roots) ⊎ AllRefer place.world.objects
 missing_ok place Opening is = inr (missing_none place.world.objects is)
 missing_ok place Sizing is = inr (missing_none place.world.objects is)
 missing_ok place FirstArea is = inr (missing_none place.world.objects is)

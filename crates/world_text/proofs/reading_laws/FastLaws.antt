@@ -8,7 +8,7 @@ use Rattle.lisp_graph.specs.Effect.{list_from, pair_of}
 use Rattle.lisp_graph.specs.declared.object.Value.{Value}
 use Rattle.world_text.specs.declared.reading.reason.Reason.{Reason}
 use Rattle.world_text.specs.declared.reading.reason.Reason.TheVariants.{NoArea}
-use Rattle.world_text.specs.declared.reading.reader.Part.TheVariants.{Objects}
+use Rattle.world_text.specs.declared.reading.reader.Section.TheVariants.{Objects}
 use Rattle.world_text.specs.declared.reading.reader.WorldReader.{WorldReader}
 use Rattle.world_text.specs.reading.Words.{is_word}
 use Rattle.world_text.specs.reading.Next.{◌>>=◌, a_number, a_value, an_area, found, next}

@@ -13,7 +13,7 @@ use Rattle.world_text.specs.declared.fault.WorldStep.TheVariants.{Next}
 use Rattle.world_text.specs.declared.fault.WorldFault.TheVariants.{Bad, TooSmall}
 use Rattle.world_text.specs.declared.reading.reason.Reason.{Reason}
 use Rattle.world_text.specs.declared.reading.reason.Reason.TheVariants.{TooManyAreas, WrongCount}
-use Rattle.world_text.specs.declared.reading.reader.Part.TheVariants.{FirstArea, Areas, Objects}
+use Rattle.world_text.specs.declared.reading.reader.Section.TheVariants.{FirstArea, Areas, Objects}
 use Rattle.world_text.specs.declared.reading.reader.WorldReader.{WorldReader}
 use Rattle.world_text.specs.reading.Next.{a_number, each}
 use Rattle.world_text.specs.reading.Reader.{bad}

@@ -10,8 +10,8 @@ use Rattle.world_text.specs.declared.fault.WorldStep.{WorldStep}
 use Rattle.world_text.specs.declared.fault.WorldStep.TheVariants.{TraceBegins, WorldEnds}
 use Rattle.world_text.specs.declared.fault.WorldFault.TheVariants.{Bad}
 use Rattle.world_text.specs.declared.reading.reason.Reason.TheVariants.{AreaExpected, BadLine, NotAWorld, SpaceExpected, WrongCount}
-use Rattle.world_text.specs.declared.reading.reader.Part.{Part}
-use Rattle.world_text.specs.declared.reading.reader.Part.TheVariants.{Opening, Sizing, FirstArea, Areas, Objects, Roots, Closed}
+use Rattle.world_text.specs.declared.reading.reader.Section.{Section}
+use Rattle.world_text.specs.declared.reading.reader.Section.TheVariants.{Opening, Sizing, FirstArea, Areas, Objects, Roots, Closed}
 use Rattle.world_text.specs.declared.reading.reader.WorldReader.{WorldReader}
 use Rattle.world_text.specs.reading.Words.{first_word, is_well_formed, is_word, words_of}
 use Rattle.world_text.specs.reading.Reader.{Said}
@@ -82,7 +82,7 @@ last_only place head count words y known part counted is =
     ]
 
 -- a place in which an object line is allowed also allows a root line
-object_root : (second : Bool) (part : Part) → takes_object second part ≡ true → takes_root second part ≡ true
+object_root : (second : Bool) (part : Section) → takes_object second part ≡ true → takes_root second part ≡ true
 object_root second Opening is = absurd (cc (is))
 object_root second Sizing is = absurd (cc (is))
 object_root second FirstArea is = absurd (cc (is))
@@ -143,7 +143,7 @@ areas_only place head count words y known part counted is =
       ]
     ]
 
-in_only : (part : Part) (place : WorldReader) (head : List ℕ) (count : ℕ) (words : List (List ℕ)) (y : WorldStep × WorldReader) → Known place → place.part ≡ part → count ≡ length words + 1
+in_only : (part : Section) (place : WorldReader) (head : List ℕ) (count : ℕ) (words : List (List ℕ)) (y : WorldStep × WorldReader) → Known place → place.part ≡ part → count ≡ length words + 1
     → line_in part place head count words ≡ Ok y → LineOf place head words y
 unfolding line_in
 in_only Opening place head count words y known part counted is = absurd (cc (is))
@@ -160,7 +160,7 @@ in_only Objects place head count words y known part counted is = objects_only pl
 in_only Roots place head count words y known part counted is = last_only place head count words y known (ap (takes_root place.second) part) counted is
 in_only Closed place head count words y known part counted is = absurd (cc (is))
 
-opening_part : (part : Part) → is_opening part ≡ true → part ≡ Opening
+opening_part : (part : Section) → is_opening part ≡ true → part ≡ Opening
 opening_part Opening is = refl
 opening_part Sizing is = absurd (cc (is))
 opening_part FirstArea is = absurd (cc (is))
@@ -211,7 +211,7 @@ formed_all place head words y later good is =
     let e : suc (length words) ≡ length words + 1 = omega arith in
     rw (later, f.0, f.1, e) is
 
-not_opening : (second : Bool) (part : Part) → takes_root second part ≡ true → is_opening part ≡ false
+not_opening : (second : Bool) (part : Section) → takes_root second part ≡ true → is_opening part ≡ false
 not_opening second Opening is = absurd (cc (is))
 not_opening second Sizing is = refl
 not_opening second FirstArea is = refl
@@ -237,7 +237,7 @@ not_true true is = absurd (cc (is))
 not_true false is = refl
 
 -- a line after the area lines
-in_objects : (part : Part) (place : WorldReader) (head : List ℕ) (count : ℕ) (words : List (List ℕ)) (y : WorldStep × WorldReader) → takes_object place.second part ≡ true
+in_objects : (part : Section) (place : WorldReader) (head : List ℕ) (count : ℕ) (words : List (List ℕ)) (y : WorldStep × WorldReader) → takes_object place.second part ≡ true
     → bytes_eq head (codes "area") ≡ false → object_lines place head count words ≡ Ok y → line_in part place head count words ≡ Ok y
 unfolding line_in area_lines
 in_objects Opening place head count words y part other is = absurd (cc (part))
@@ -249,7 +249,7 @@ in_objects Objects place head count words y part other is = is
 in_objects Roots place head count words y part other is = absurd (cc (part))
 in_objects Closed place head count words y part other is = absurd (cc (part))
 
-in_roots : (part : Part) (place : WorldReader) (head : List ℕ) (count : ℕ) (words : List (List ℕ)) (y : WorldStep × WorldReader) → takes_root place.second part ≡ true
+in_roots : (part : Section) (place : WorldReader) (head : List ℕ) (count : ℕ) (words : List (List ℕ)) (y : WorldStep × WorldReader) → takes_root place.second part ≡ true
     → bytes_eq head (codes "area") ≡ false → object_lines place head count words ≡ Ok y → last_lines place head count words ≡ Ok y → line_in part place head count words ≡ Ok y
 unfolding line_in
 in_roots Opening place head count words y part other is last = absurd (cc (part))
@@ -342,7 +342,7 @@ closing_back place false may =
     formed_all place (codes "trace") [] y (not_opening place.second place.part may.0.part) refl
     (in_roots place.part place (codes "trace") 1 [] y may.0.part refl (else_goes (place.second && false) _ _ y (and_false place.second) goes) goes)
 
-in_area : (part : Part) (place : WorldReader) (count : ℕ) (words : List (List ℕ)) (y : WorldStep × WorldReader) → takes_area part ≡ true → area_line place count words ≡ Ok y
+in_area : (part : Section) (place : WorldReader) (count : ℕ) (words : List (List ℕ)) (y : WorldStep × WorldReader) → takes_area part ≡ true → area_line place count words ≡ Ok y
     → line_in part place (codes "area") count words ≡ Ok y
 unfolding line_in area_lines
 in_area Opening place count words y part is = absurd (cc (part))
@@ -353,7 +353,7 @@ in_area Objects place count words y part is = absurd (cc (part))
 in_area Roots place count words y part is = absurd (cc (part))
 in_area Closed place count words y part is = absurd (cc (part))
 
-area_later : (part : Part) → takes_area part ≡ true → is_opening part ≡ false
+area_later : (part : Section) → takes_area part ≡ true → is_opening part ≡ false
 area_later Opening is = absurd (cc (is))
 area_later Sizing is = refl
 area_later FirstArea is = refl

@@ -10,7 +10,7 @@ use Rattle.world_text.specs.declared.fault.WorldStep.{WorldStep}
 use Rattle.world_text.specs.declared.fault.WorldStep.TheVariants.{Next}
 use Rattle.world_text.specs.declared.fault.WorldFault.TheVariants.{Bad, Exhausted}
 use Rattle.world_text.specs.declared.reading.reason.Reason.TheVariants.{TooManyFields, TooManyItems, WrongCount}
-use Rattle.world_text.specs.declared.reading.reader.Part.TheVariants.{Objects}
+use Rattle.world_text.specs.declared.reading.reader.Section.TheVariants.{Objects}
 use Rattle.world_text.specs.declared.reading.reader.WorldReader.{WorldReader}
 use Rattle.world_text.specs.reading.Next.{a_number, a_value, an_area}
 use Rattle.lisp_graph.specs.Effect.{list_from, pair_of}

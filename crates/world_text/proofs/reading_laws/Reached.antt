@@ -16,8 +16,8 @@ use Rattle.lisp_graph.specs.declared.object.Object.{Object}
 use Rattle.lisp_graph.specs.declared.world.AreaRule.{AreaRule}
 use Rattle.world_text.specs.declared.fault.WorldStep.{WorldStep}
 use Rattle.world_text.specs.declared.fault.WorldStep.TheVariants.{TraceBegins, WorldEnds}
-use Rattle.world_text.specs.declared.reading.reader.Part.{Part}
-use Rattle.world_text.specs.declared.reading.reader.Part.TheVariants.{Opening, Sizing, FirstArea, Areas, Objects, Roots, Closed}
+use Rattle.world_text.specs.declared.reading.reader.Section.{Section}
+use Rattle.world_text.specs.declared.reading.reader.Section.TheVariants.{Opening, Sizing, FirstArea, Areas, Objects, Roots, Closed}
 use Rattle.world_text.specs.declared.reading.reader.WorldReader.{WorldReader}
 use Rattle.world_text.specs.declared.fault.WorldFault.{WorldFault}
 use Rattle.world_text.specs.reading.Reader.{Judged, is_closed, opening_place, step_to}
@@ -91,7 +91,7 @@ space_keeps place space old may = record {
 
 -- Areas
 
-area_part : (part : Part) → takes_area part ≡ true → (has_space part ≡ true) × (has_objects part ≡ false)
+area_part : (part : Section) → takes_area part ≡ true → (has_space part ≡ true) × (has_objects part ≡ false)
 area_part Opening takes = absurd (cc (takes))
 area_part Sizing takes = absurd (cc (takes))
 area_part FirstArea takes = (refl, refl)
@@ -177,7 +177,7 @@ refers_more count more (Fix number) below = tt
 refers_more count more Nil below = tt
 refers_more count more (Ref name) below = omega arith
 
-object_part : (second : Bool) (part : Part) → takes_object second part ≡ true → (has_space part ≡ true) × (has_areas part ≡ true)
+object_part : (second : Bool) (part : Section) → takes_object second part ≡ true → (has_space part ≡ true) × (has_areas part ≡ true)
 object_part second Opening takes = absurd (cc (takes))
 object_part second Sizing takes = absurd (cc (takes))
 object_part second FirstArea takes = absurd (cc (takes))
@@ -295,7 +295,7 @@ run_new areas area number (car ∷ cars) within =
 
 -- The last lines
 
-root_part : (second : Bool) (part : Part) → takes_root second part ≡ true → (has_space part ≡ true) × (has_areas part ≡ true)
+root_part : (second : Bool) (part : Section) → takes_root second part ≡ true → (has_space part ≡ true) × (has_areas part ≡ true)
 root_part second Opening takes = absurd (cc (takes))
 root_part second Sizing takes = absurd (cc (takes))
 root_part second FirstArea takes = absurd (cc (takes))
@@ -415,7 +415,7 @@ judged_step old new text (Ok step) reached judged =
     let P : WorldStep × WorldReader → Type 0 = λ y. y.0 ≡ step_to y.1 in
     subst P says.brings (step_of old says.line says.allowed)
 
-closed_part : (part : Part) → is_closed part ≡ true → (has_space part ≡ true) × (has_areas part ≡ true) × (has_roots part ≡ true)
+closed_part : (part : Section) → is_closed part ≡ true → (has_space part ≡ true) × (has_areas part ≡ true) × (has_roots part ≡ true)
 closed_part Opening closed = absurd (cc (closed))
 closed_part Sizing closed = absurd (cc (closed))
 closed_part FirstArea closed = absurd (cc (closed))

@@ -9,8 +9,8 @@ use Rattle.world_text.specs.declared.reading.reason.Reason.TheVariants.{AreaExpe
 use Rattle.world_text.specs.declared.fault.WorldFault.{WorldFault}
 use Rattle.world_text.specs.declared.fault.WorldFault.TheVariants.{Bad, TooSmall, Exhausted, NoMemory}
 use Rattle.world_text.specs.declared.fault.WorldStep.{WorldStep}
-use Rattle.world_text.specs.declared.reading.reader.Part.{Part}
-use Rattle.world_text.specs.declared.reading.reader.Part.TheVariants.{Opening, Sizing, FirstArea, Areas, Objects, Roots, Closed}
+use Rattle.world_text.specs.declared.reading.reader.Section.{Section}
+use Rattle.world_text.specs.declared.reading.reader.Section.TheVariants.{Opening, Sizing, FirstArea, Areas, Objects, Roots, Closed}
 use Rattle.world_text.specs.declared.reading.reader.WorldReader.{WorldReader}
 use Rattle.world_text.specs.reading.Words.{first_word, is_well_formed, words_of}
 use Rattle.world_text.specs.reading.Numbers.{area_of}
@@ -168,7 +168,7 @@ module _ (place : WorldReader) (fault : WorldFault) where
       (λ f. either place.world.areas fault (bytes_eq head (codes "capacity")) _ _ f (capacity_fits count words) (why place.world.areas fault CapacityExpected))
       (object_fits head count words))
 
-  in_fits : (part : Part) (head : List ℕ) (count : ℕ) (words : List (List ℕ)) → Fits (line_in part place head count words)
+  in_fits : (part : Section) (head : List ℕ) (count : ℕ) (words : List (List ℕ)) → Fits (line_in part place head count words)
   unfolding line_in
   in_fits Opening head count words is = why place.world.areas fault NotAWorld is
   in_fits Sizing head count words is = either place.world.areas fault (bytes_eq head (codes "space")) _ _ is (space_fits count words) (why place.world.areas fault SpaceExpected)

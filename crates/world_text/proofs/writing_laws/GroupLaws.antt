@@ -3,7 +3,7 @@ use Rattle.std.proofs.Common.{◌≡◌, ℕ, ◌+◌, ◌≤◌, List, [], ◌�
 use Rattle.std.specs.Prelude.{if◌then◌else◌, option_map}
 use Rattle.lisp_graph.specs.Graph.{is_ref}
 use Rattle.lisp_graph.specs.declared.object.Object.{Object}
-use Rattle.world_text.specs.declared.writing.groups.Tail.{Tail}
+use Rattle.world_text.specs.declared.writing.groups.ListEnd.{ListEnd}
 use Rattle.lisp_graph.specs.Groups.{is_cell, is_nil, to_tail}
 use Rattle.world_text.specs.writing.Tails.{HasTail, counted}
 
@@ -21,5 +21,5 @@ tail_within area number (object ∷ objects) count is =
     of_tests false false rest is later = absurd (cc)
 
 -- the count of a tail is at most the number of objects
-pub counted_within : (area number : ℕ) (objects : List Object) (tail : Option Tail) (count : ℕ) → HasTail number objects tail → counted tail area ≡ Some count → count ≤ length objects
+pub counted_within : (area number : ℕ) (objects : List Object) (tail : Option ListEnd) (count : ℕ) → HasTail number objects tail → counted tail area ≡ Some count → count ≤ length objects
 counted_within area number objects tail count has is = tail_within area number objects count (has area ∙ is)

@@ -15,7 +15,7 @@ use Rattle.lisp_graph.specs.declared.object.Object.{Object}
 use Rattle.lisp_graph.specs.declared.walk.Form.{Form}
 use Rattle.lisp_graph.specs.declared.walk.Seen.{Seen}
 use Rattle.lisp_graph.specs.declared.walk.Seen.TheVariants.{Nil, Cons, Block}
-use Rattle.world_text.specs.declared.writing.visit.Visits.{Visits}
+use Rattle.world_text.specs.declared.writing.visit.VisitedObjects.{VisitedObjects}
 use Rattle.world_text.specs.writing.Dump.{dumped_body, dumped_object, dumped_value, reference}
 use Rattle.world_text.specs.writing.Numbering.{AllVisited, Chained, Visited, Walked, done, fields_from, fields_of, is_numbered, more, none, seen_as, step}
 use Rattle.world_text.specs.writing.Visits.{AreDumped, AreVisited, AreVisits, Grows, IsBody, IsDumped, IsVisit, IsWalk, cdr_of}
@@ -28,7 +28,7 @@ use Rattle.world_text.proofs.writing_laws.Numbers.{all_grow, grows_none, grows_t
 -- An object gets a number
 
 -- one more object, with its cdr
-pub visits_more : (graph : KeyedGraph) (old new : Visits) (key : ℕ) (cons : Bool) (cdr : Seen) → AreVisits graph old → Shows graph (seen_as cons key) → Shows graph cdr → cdr ≡ cdr_of graph key
+pub visits_more : (graph : KeyedGraph) (old new : VisitedObjects) (key : ℕ) (cons : Bool) (cdr : Seen) → AreVisits graph old → Shows graph (seen_as cons key) → Shows graph cdr → cdr ≡ cdr_of graph key
     → new.numbering.keys ≡ old.numbering.keys ++ key ∷ [] → new.numbering.conses ≡ old.numbering.conses ++ cons ∷ [] → new.cdrs ≡ old.cdrs ++ cdr ∷ [] → AreVisits graph new
 visits_more graph old new key cons cdr visits shows shown is keys conses cdrs = record {
   known = known_more graph old.numbering new.numbering key cons visits.known shows keys conses;
@@ -45,7 +45,7 @@ pub cdr_of_block : (graph : KeyedGraph) (key : ℕ) → graph.cons key ≡ false
 cdr_of_block graph key block = ap (λ (b : Bool). if b then graph.field key 1 else Nil) block
 
 -- the cdr that is kept for the cons with this number
-pub cdr_kept : (graph : KeyedGraph) (visits : Visits) (number key : ℕ) (cdrs : List Seen) (default : Seen) → AreVisits graph visits → slice_get visits.numbering.keys number ≡ Some key
+pub cdr_kept : (graph : KeyedGraph) (visits : VisitedObjects) (number key : ℕ) (cdrs : List Seen) (default : Seen) → AreVisits graph visits → slice_get visits.numbering.keys number ≡ Some key
     → graph.cons key ≡ true → cdrs ≡ visits.cdrs → get_or cdrs number default ≡ graph.field key 1
 cdr_kept graph visits number key cdrs default are at cons is =
     get_or_from_slice_get cdrs number (graph.field key 1) default
@@ -56,7 +56,7 @@ cdr_kept graph visits number key cdrs default are at cons is =
     mapped f (x ∷ items) zero item is = let e : x ≡ item = cc (is) in ap (λ o. Some (f o)) e
     mapped f (x ∷ items) (suc number) item is = mapped f items number item is
 
-pub cdr_shown : (graph : KeyedGraph) (visits : Visits) (number key : ℕ) (cdrs : List Seen) (default : Seen) → AreVisits graph visits → slice_get visits.numbering.keys number ≡ Some key
+pub cdr_shown : (graph : KeyedGraph) (visits : VisitedObjects) (number key : ℕ) (cdrs : List Seen) (default : Seen) → AreVisits graph visits → slice_get visits.numbering.keys number ≡ Some key
     → cdrs ≡ visits.cdrs → Shows graph (get_or cdrs number default)
 cdr_shown graph visits number key cdrs default are at is =
     let within : number < length cdrs =
@@ -65,14 +65,14 @@ cdr_shown graph visits number key cdrs default are at is =
 
 -- A value is visited
 
-pub cons_before : (graph : KeyedGraph) (visits : Visits) (key number : ℕ) → AreVisits graph visits → number_of visits.numbering.keys key ≡ Some number → IsVisit graph (Cons key) visits visits (Ref number)
+pub cons_before : (graph : KeyedGraph) (visits : VisitedObjects) (key number : ℕ) → AreVisits graph visits → number_of visits.numbering.keys key ≡ Some number → IsVisit graph (Cons key) visits visits (Ref number)
 cons_before graph visits key number are is = record {
   visited = inl (numbered_some visits.numbering.keys key number is, refl);
   visits = are;
   is = λ all grows. sym (ap reference (number_stays key number grows is));
 }
 
-pub cons_now : (graph : KeyedGraph) (old new : Visits) (key : ℕ) → is_numbered old.numbering.keys key ≡ false → Chained graph old.numbering.keys key new.numbering.keys → AreVisits graph new
+pub cons_now : (graph : KeyedGraph) (old new : VisitedObjects) (key : ℕ) → is_numbered old.numbering.keys key ≡ false → Chained graph old.numbering.keys key new.numbering.keys → AreVisits graph new
     → IsVisit graph (Cons key) old new (Ref (length old.numbering.keys))
 cons_now graph old new key fresh chained are = record {
   visited = inr (fresh, chained);
@@ -80,14 +80,14 @@ cons_now graph old new key fresh chained are = record {
   is = λ all grows. sym (ap reference (number_chained old.numbering.keys key chained grows fresh));
 }
 
-pub block_before : (graph : KeyedGraph) (visits : Visits) (key number : ℕ) → AreVisits graph visits → number_of visits.numbering.keys key ≡ Some number → IsVisit graph (Block key) visits visits (Ref number)
+pub block_before : (graph : KeyedGraph) (visits : VisitedObjects) (key number : ℕ) → AreVisits graph visits → number_of visits.numbering.keys key ≡ Some number → IsVisit graph (Block key) visits visits (Ref number)
 block_before graph visits key number are is = record {
   visited = inl (numbered_some visits.numbering.keys key number is, refl);
   visits = are;
   is = λ all grows. sym (ap reference (number_stays key number grows is));
 }
 
-pub block_now : (graph : KeyedGraph) (old new : Visits) (key : ℕ) → is_numbered old.numbering.keys key ≡ false → AreVisits graph old → Shows graph (Block key)
+pub block_now : (graph : KeyedGraph) (old new : VisitedObjects) (key : ℕ) → is_numbered old.numbering.keys key ≡ false → AreVisits graph old → Shows graph (Block key)
     → new.numbering.keys ≡ old.numbering.keys ++ key ∷ [] → new.numbering.conses ≡ old.numbering.conses ++ false ∷ [] → new.cdrs ≡ old.cdrs ++ Nil ∷ []
     → IsVisit graph (Block key) old new (Ref (length old.numbering.keys))
 block_now graph old new key fresh are shows keys conses cdrs = record {
@@ -96,7 +96,7 @@ block_now graph old new key fresh are shows keys conses cdrs = record {
   is = λ all grows. sym (ap reference (number_next old.numbering.keys key (subst (λ (l : List ℕ). Grows l all) keys grows) fresh));
 }
 
-pub visit_same : {now graph : KeyedGraph} {seen : Seen} {old new : Visits} {value : Value} → now ≡ graph → IsVisit now seen old new value → IsVisit graph seen old new value
+pub visit_same : {now graph : KeyedGraph} {seen : Seen} {old new : VisitedObjects} {value : Value} → now ≡ graph → IsVisit now seen old new value → IsVisit graph seen old new value
 visit_same {now} {graph} {seen} {old} {new} {value} same visit = subst (λ (g : KeyedGraph). IsVisit g seen old new value) same visit
 
 -- Values are visited
@@ -105,7 +105,7 @@ visited_last : {graph : KeyedGraph} {keys middle : List ℕ} {values : List Seen
 visited_last last value (none keys) visited = more keys last last value [] visited (none last)
 visited_last last value (more keys next middle first values one rest) visited = more keys next last first (values ++ value ∷ []) one (visited_last last value rest visited)
 
-pub visited_none : (graph : KeyedGraph) (visits : Visits) → AreVisits graph visits → AreVisited graph [] visits visits []
+pub visited_none : (graph : KeyedGraph) (visits : VisitedObjects) → AreVisits graph visits → AreVisited graph [] visits visits []
 visited_none graph visits are = record {
   visited = none visits.numbering.keys;
   visits = are;
@@ -113,7 +113,7 @@ visited_none graph visits are = record {
   is = λ all grows. refl;
 }
 
-pub visited_more : (graph : KeyedGraph) (seen : List Seen) (old middle new : Visits) (values : List Value) (one : Seen) (value : Value) → AreVisited graph seen old middle values
+pub visited_more : (graph : KeyedGraph) (seen : List Seen) (old middle new : VisitedObjects) (values : List Value) (one : Seen) (value : Value) → AreVisited graph seen old middle values
     → IsVisit graph one middle new value → Shows graph one → AreVisited graph (seen ++ one ∷ []) old new (values ++ value ∷ [])
 visited_more graph seen old middle new values one value before now shows = record {
   visited = visited_last new.numbering.keys one before.visited now.visited;
@@ -125,7 +125,7 @@ visited_more graph seen old middle new values one value before now shows = recor
 }
 
 -- one more of these
-pub visited_next : (first second graph : KeyedGraph) (items : List Seen) (old middle new : Visits) (values pushed : List Value) (count : ℕ) (one : Seen) (value : Value)
+pub visited_next : (first second graph : KeyedGraph) (items : List Seen) (old middle new : VisitedObjects) (values pushed : List Value) (count : ℕ) (one : Seen) (value : Value)
     → first ≡ graph → second ≡ graph → slice_get items count ≡ Some one → AreVisited graph (take count items) old middle values
     → IsVisit second one middle new value → Shows first one → pushed ≡ values ++ value ∷ [] → AreVisited graph (take (count + 1) items) old new pushed
 visited_next first second graph items old middle new values pushed count one value same_first same_second at before visit shows is =
@@ -137,11 +137,11 @@ visited_next first second graph items old middle new values pushed count one val
     subst (λ (l : List Value). AreVisited graph (take (count + 1) items) old new l) (sym is) (subst (λ (l : List Seen). AreVisited graph l old new (values ++ value ∷ [])) (sym front) all)
 
 -- all of them
-pub visited_whole : (graph : KeyedGraph) (items : List Seen) (old new : Visits) (values : List Value) (count : ℕ) → length items ≤ count
+pub visited_whole : (graph : KeyedGraph) (items : List Seen) (old new : VisitedObjects) (values : List Value) (count : ℕ) → length items ≤ count
     → AreVisited graph (take count items) old new values → AreVisited graph items old new values
 visited_whole graph items old new values count long visited = subst (λ (l : List Seen). AreVisited graph l old new values) (take_all count items long) visited
 
-pub visited_long : {graph : KeyedGraph} {seen : List Seen} {old new : Visits} {values : List Value} → AreVisited graph seen old new values → length values ≡ length seen
+pub visited_long : {graph : KeyedGraph} {seen : List Seen} {old new : VisitedObjects} {values : List Value} → AreVisited graph seen old new values → length values ≡ length seen
 visited_long {graph} {seen} {old} {new} visited =
     ap length (visited.is new.numbering.keys (grows_none new.numbering.keys)) ∙ length-map seen (dumped_value new.numbering.keys)
 
@@ -173,7 +173,7 @@ cons_fields graph key two = ap (fields_from graph key 0) two
 
 -- An object is visited
 
-pub is_block : (graph : KeyedGraph) (key : ℕ) (form : Form) (old new : Visits) (fields : List Value) → graph.cons key ≡ false → form ≡ graph.form key
+pub is_block : (graph : KeyedGraph) (key : ℕ) (form : Form) (old new : VisitedObjects) (fields : List Value) → graph.cons key ≡ false → form ≡ graph.form key
     → AreVisited graph (fields_of graph key) old new fields → IsBody graph key old new (B.Block form.code fields)
 is_block graph key form old new fields block same visited = record {
   visited = visited.visited;
@@ -184,7 +184,7 @@ is_block graph key form old new fields block same visited = record {
       ∙ sym (ap (λ (b : Bool). dumped_body b (graph.form key).code (map (dumped_value all) (fields_of graph key))) block);
 }
 
-pub is_cons : (graph : KeyedGraph) (key : ℕ) (old middle new : Visits) (car cdr : Seen) (first second : Value) → AreVisits graph old → Shows graph (Cons key)
+pub is_cons : (graph : KeyedGraph) (key : ℕ) (old middle new : VisitedObjects) (car cdr : Seen) (first second : Value) → AreVisits graph old → Shows graph (Cons key)
     → car ≡ graph.field key 0 → cdr ≡ graph.field key 1 → Shows graph car → IsVisit graph car old middle first → IsVisit graph cdr middle new second
     → Shows graph cdr → IsBody graph key old new (B.Cons first second)
 is_cons graph key old middle new car cdr first second are shows is_car is_cdr car_shows one two cdr_shows =
@@ -199,7 +199,7 @@ is_cons graph key old middle new car cdr first second are shows is_car is_cdr ca
           ∙ sym (ap (λ (b : Bool). dumped_body b (graph.form key).code (map (dumped_value all) (fields_of graph key))) shows.3);
     }
 
-pub is_object : (now graph : KeyedGraph) (key : ℕ) (form : Form) (old new : Visits) (body : Body) → now ≡ graph → form ≡ graph.form key → IsBody now key old new body
+pub is_object : (now graph : KeyedGraph) (key : ℕ) (form : Form) (old new : VisitedObjects) (body : Body) → now ≡ graph → form ≡ graph.form key → IsBody now key old new body
     → IsDumped graph key old new (record { area = form.area; charge = form.charge; body = body })
 is_object now graph key form old new body same is visit =
     let visited = subst (λ (g : KeyedGraph). IsBody g key old new body) same visit in record {
@@ -214,13 +214,13 @@ is_object now graph key form old new body same is visit =
 -- Objects are visited
 
 -- the first `number` of the objects that have numbers are visited
-pub record AreFirst (graph : KeyedGraph) (old now : Visits) (number : ℕ) (objects : List Object) : Type 0 where
+pub record AreFirst (graph : KeyedGraph) (old now : VisitedObjects) (number : ℕ) (objects : List Object) : Type 0 where
   pub visits : AreVisits graph now
   pub shown : All (λ key. All (Shows graph) (fields_of graph key)) (take number now.numbering.keys)
   pub is : (all : List ℕ) → Grows now.numbering.keys all → objects ≡ map (dumped_object graph all) (take number now.numbering.keys)
   pub goes : (all : List ℕ) → Walked graph now.numbering.keys number all → Walked graph old.numbering.keys 0 all
 
-pub first_none : (graph : KeyedGraph) (visits : Visits) → AreVisits graph visits → AreFirst graph visits visits 0 []
+pub first_none : (graph : KeyedGraph) (visits : VisitedObjects) → AreVisits graph visits → AreFirst graph visits visits 0 []
 first_none graph visits are = record {
   visits = are;
   shown = All-nil (λ key. All (Shows graph) (fields_of graph key));
@@ -228,7 +228,7 @@ first_none graph visits are = record {
   goes = λ all rest. rest;
 }
 
-pub first_next : (walked graph : KeyedGraph) (start old new : Visits) (number key : ℕ) (objects pushed : List Object) (object : Object) → walked ≡ graph → slice_get old.numbering.keys number ≡ Some key
+pub first_next : (walked graph : KeyedGraph) (start old new : VisitedObjects) (number key : ℕ) (objects pushed : List Object) (object : Object) → walked ≡ graph → slice_get old.numbering.keys number ≡ Some key
     → AreFirst graph start old number objects → IsDumped walked key old new object → pushed ≡ objects ++ object ∷ [] → AreFirst graph start new (number + 1) pushed
 first_next walked graph start old new number key objects pushed object same at before visited is =
     let now = subst (λ (g : KeyedGraph). IsDumped g key old new object) same visited in
@@ -247,7 +247,7 @@ first_next walked graph start old new number key objects pushed object same at b
       goes = λ all rest. before.goes all (step old.numbering.keys new.numbering.keys all number key at now.visited rest);
     }
 
-pub first_whole : (graph : KeyedGraph) (old now : Visits) (number : ℕ) (objects : List Object) → length now.numbering.keys ≤ number → AreFirst graph old now number objects → AreDumped graph old now objects
+pub first_whole : (graph : KeyedGraph) (old now : VisitedObjects) (number : ℕ) (objects : List Object) → length now.numbering.keys ≤ number → AreFirst graph old now number objects → AreDumped graph old now objects
 first_whole graph old now number objects past first =
     let whole = take_all number now.numbering.keys past in record {
       visited = first.goes now.numbering.keys (done now.numbering.keys number past);
@@ -256,12 +256,12 @@ first_whole graph old now number objects past first =
       is = first.is now.numbering.keys (grows_none now.numbering.keys) ∙ ap (map (dumped_object graph now.numbering.keys)) whole;
     }
 
-pub dumped_long : {graph : KeyedGraph} {old new : Visits} {objects : List Object} → AreDumped graph old new objects → length objects ≡ length new.numbering.keys
+pub dumped_long : {graph : KeyedGraph} {old new : VisitedObjects} {objects : List Object} → AreDumped graph old new objects → length objects ≡ length new.numbering.keys
 dumped_long {graph} {old} {new} dumped = ap length dumped.is ∙ length-map new.numbering.keys (dumped_object graph new.numbering.keys)
 
 -- The registers are visited, and then the objects
 
-pub is_walk : (walked graph : KeyedGraph) (empty middle last : Visits) (registers : List Value) (objects : List Object) → walked ≡ graph → empty.numbering.keys ≡ []
+pub is_walk : (walked graph : KeyedGraph) (empty middle last : VisitedObjects) (registers : List Value) (objects : List Object) → walked ≡ graph → empty.numbering.keys ≡ []
     → AreVisited graph graph.registers empty middle registers → AreDumped walked middle last objects
     → IsWalk graph (record { numbering = last.numbering; objects = objects; registers = registers })
 is_walk walked graph empty middle last registers objects same none_yet visited dumped =

@@ -10,8 +10,8 @@ use Rattle.lisp_graph.specs.declared.object.Object.{Object}
 use Rattle.lisp_graph.specs.declared.world.AreaRule.{AreaRule}
 use Rattle.world_text.specs.declared.fault.WorldStep.{WorldStep}
 use Rattle.world_text.specs.declared.fault.WorldStep.TheVariants.{Next, TraceBegins, WorldEnds}
-use Rattle.world_text.specs.declared.reading.reader.Part.{Part}
-use Rattle.world_text.specs.declared.reading.reader.Part.TheVariants.{Opening, Sizing, FirstArea, Areas, Objects, Roots, Closed}
+use Rattle.world_text.specs.declared.reading.reader.Section.{Section}
+use Rattle.world_text.specs.declared.reading.reader.Section.TheVariants.{Opening, Sizing, FirstArea, Areas, Objects, Roots, Closed}
 use Rattle.world_text.specs.declared.reading.reader.WorldReader.{WorldReader}
 use Rattle.world_text.specs.reading.Numbers.{area_of}
 use Rattle.world_text.specs.reading.Header.{room, rule_room}
@@ -25,19 +25,19 @@ use Rattle.world_text.specs.reading.Limits.{AllRefer}
 -- What may be next
 
 -- an area line may be next
-abbrev pub takes_area : Part → Bool
+abbrev pub takes_area : Section → Bool
 takes_area FirstArea = true
 takes_area Areas = true
 takes_area _ = false
 
 -- an object line may be next: after the area lines in format 1, and after the capacity line in format 2
-abbrev pub takes_object : Bool → Part → Bool
+abbrev pub takes_object : Bool → Section → Bool
 takes_object second Areas = not second
 takes_object second Objects = true
 takes_object second _ = false
 
 -- a root line or the line that closes the world may be next
-abbrev pub takes_root : Bool → Part → Bool
+abbrev pub takes_root : Bool → Section → Bool
 takes_root second Roots = true
 takes_root second part = takes_object second part
 

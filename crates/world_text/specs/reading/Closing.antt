@@ -9,8 +9,8 @@ use Rattle.world_text.specs.declared.reading.reason.Reason.TheVariants.{NoObject
 use Rattle.world_text.specs.declared.fault.WorldFault.{WorldFault}
 use Rattle.world_text.specs.declared.fault.WorldFault.TheVariants.{Bad}
 use Rattle.world_text.specs.declared.fault.WorldStep.TheVariants.{Next, TraceBegins, WorldEnds}
-use Rattle.world_text.specs.declared.reading.reader.Part.{Part}
-use Rattle.world_text.specs.declared.reading.reader.Part.TheVariants.{Roots, Closed}
+use Rattle.world_text.specs.declared.reading.reader.Section.{Section}
+use Rattle.world_text.specs.declared.reading.reader.Section.TheVariants.{Roots, Closed}
 use Rattle.world_text.specs.declared.reading.reader.WorldReader.{WorldReader}
 use Rattle.world_text.specs.reading.Next.{◌>>=◌, a_register, a_value, next}
 use Rattle.world_text.specs.reading.Reader.{Said, bad}
@@ -35,7 +35,7 @@ missing_body objects found (Block code fields) = fold (missing_value objects) fo
 abbrev pub missing : List Object → Option ℕ
 missing objects = fold (λ found object. missing_body (length objects) found object.body) None objects
 
-abbrev pub are_roots : Part → Bool
+abbrev pub are_roots : Section → Bool
 are_roots Roots = true
 are_roots _ = false
 

@@ -10,7 +10,7 @@ use Rattle.world_text.specs.declared.reading.reason.Reason.{Reason}
 use Rattle.world_text.specs.declared.reading.reason.Reason.TheVariants.{NotAWorld, TooManyAreas, WrongCount, BadName, AreaTwice, BadKind}
 use Rattle.world_text.specs.declared.fault.WorldFault.TheVariants.{Bad, TooSmall}
 use Rattle.world_text.specs.declared.fault.WorldStep.TheVariants.{Next}
-use Rattle.world_text.specs.declared.reading.reader.Part.TheVariants.{Sizing, FirstArea, Areas, Objects}
+use Rattle.world_text.specs.declared.reading.reader.Section.TheVariants.{Sizing, FirstArea, Areas, Objects}
 use Rattle.world_text.specs.declared.reading.reader.WorldReader.{WorldReader}
 use Rattle.world_text.specs.reading.Numbers.{area_of}
 use Rattle.world_text.specs.reading.Next.{◌>>=◌, a_number, each, next}

@@ -7,8 +7,8 @@ use Rattle.lisp_graph.specs.World.{IsCharge, IsSpace, IsWorld}
 use Rattle.lisp_graph.specs.declared.object.Object.{Object}
 use Rattle.lisp_graph.specs.declared.world.AreaRule.{AreaRule}
 use Rattle.lisp_graph.specs.declared.world.World.{World}
-use Rattle.world_text.specs.declared.reading.reader.Part.{Part}
-use Rattle.world_text.specs.declared.reading.reader.Part.TheVariants.{Opening, Sizing, FirstArea, Objects, Roots, Closed}
+use Rattle.world_text.specs.declared.reading.reader.Section.{Section}
+use Rattle.world_text.specs.declared.reading.reader.Section.TheVariants.{Opening, Sizing, FirstArea, Objects, Roots, Closed}
 use Rattle.world_text.specs.declared.reading.reader.WorldReader.{WorldReader}
 use Rattle.world_text.specs.reading.Numbers.{area_of}
 use Rattle.world_text.specs.reading.Reader.{IsReader}
@@ -37,25 +37,25 @@ AllRefer objects = All (λ object. PartsReferBelow (length objects) object.body)
 
 -- What was read, in each part
 
-abbrev pub has_space : Part → Bool
+abbrev pub has_space : Section → Bool
 has_space Opening = false
 has_space Sizing = false
 has_space _ = true
 
-abbrev pub has_areas : Part → Bool
+abbrev pub has_areas : Section → Bool
 has_areas Opening = false
 has_areas Sizing = false
 has_areas FirstArea = false
 has_areas _ = true
 
-abbrev pub has_objects : Part → Bool
+abbrev pub has_objects : Section → Bool
 has_objects Objects = true
 has_objects Roots = true
 has_objects Closed = true
 has_objects _ = false
 
 -- the objects were tested for references to missing ones
-abbrev pub has_roots : Part → Bool
+abbrev pub has_roots : Section → Bool
 has_roots Roots = true
 has_roots Closed = true
 has_roots _ = false

@@ -2,8 +2,8 @@
 use Rattle.std.specs.Prelude.{ℕ, List, length, drop, Bool, true, false, ◌&&◌, if◌then◌else◌, bytes_eq, codes, Err}
 use Rattle.world_text.specs.declared.reading.reason.Reason.TheVariants.{NotAWorld, BadLine, SpaceExpected, AreaExpected, CapacityExpected, UnexpectedLine}
 use Rattle.world_text.specs.declared.fault.WorldFault.TheVariants.{Bad}
-use Rattle.world_text.specs.declared.reading.reader.Part.{Part}
-use Rattle.world_text.specs.declared.reading.reader.Part.TheVariants.{Opening, Sizing, FirstArea, Areas, Objects, Roots, Closed}
+use Rattle.world_text.specs.declared.reading.reader.Section.{Section}
+use Rattle.world_text.specs.declared.reading.reader.Section.TheVariants.{Opening, Sizing, FirstArea, Areas, Objects, Roots, Closed}
 use Rattle.world_text.specs.declared.reading.reader.WorldReader.{WorldReader}
 use Rattle.world_text.specs.reading.Words.{first_word, is_well_formed, words_of}
 use Rattle.world_text.specs.reading.Reader.{Said}
@@ -35,7 +35,7 @@ area_lines place head count words =
     else if place.second then (if bytes_eq head (codes "capacity") then capacity_line place count words else Err (Bad CapacityExpected))
     else object_lines place head count words
 
-unfoldable pub line_in : Part → WorldReader → List ℕ → ℕ → List (List ℕ) → Said
+unfoldable pub line_in : Section → WorldReader → List ℕ → ℕ → List (List ℕ) → Said
 line_in Opening place head count words = Err (Bad NotAWorld)
 line_in Sizing place head count words = if bytes_eq head (codes "space") then space_line place count words else Err (Bad SpaceExpected)
 line_in FirstArea place head count words = if bytes_eq head (codes "area") then area_line place count words else Err (Bad AreaExpected)
@@ -44,7 +44,7 @@ line_in Objects place head count words = object_lines place head count words
 line_in Roots place head count words = last_lines place head count words
 line_in Closed place head count words = Err (Bad UnexpectedLine)
 
-abbrev pub is_opening : Part → Bool
+abbrev pub is_opening : Section → Bool
 is_opening Opening = true
 is_opening _ = false
 

@@ -10,7 +10,7 @@ use Rattle.world_text.specs.declared.reading.reason.Reason.TheVariants.{TooManyF
 use Rattle.world_text.specs.declared.fault.WorldFault.{WorldFault}
 use Rattle.world_text.specs.declared.fault.WorldFault.TheVariants.{Bad, Exhausted}
 use Rattle.world_text.specs.declared.fault.WorldStep.TheVariants.{Next}
-use Rattle.world_text.specs.declared.reading.reader.Part.TheVariants.{Objects}
+use Rattle.world_text.specs.declared.reading.reader.Section.TheVariants.{Objects}
 use Rattle.world_text.specs.declared.reading.reader.WorldReader.{WorldReader}
 use Rattle.world_text.specs.reading.Next.{◌>>=◌, a_number, a_value, an_area, each, next}
 use Rattle.world_text.specs.reading.Reader.{Said, bad}

@@ -7,8 +7,8 @@ use Rattle.world_text.specs.declared.fault.WorldFault.{WorldFault}
 use Rattle.world_text.specs.declared.fault.WorldFault.TheVariants.{Bad, TooSmall, Exhausted, NoMemory}
 use Rattle.world_text.specs.declared.fault.WorldStep.{WorldStep}
 use Rattle.world_text.specs.declared.fault.WorldStep.TheVariants.{Next, TraceBegins, WorldEnds}
-use Rattle.world_text.specs.declared.reading.reader.Part.{Part}
-use Rattle.world_text.specs.declared.reading.reader.Part.TheVariants.{Opening, Closed}
+use Rattle.world_text.specs.declared.reading.reader.Section.{Section}
+use Rattle.world_text.specs.declared.reading.reader.Section.TheVariants.{Opening, Closed}
 use Rattle.world_text.specs.declared.reading.reader.WorldReader.{WorldReader}
 
 -- the world before the first line
@@ -32,7 +32,7 @@ opening_place file = record {
 }
 
 -- the line that closes a world was taken
-abbrev pub is_closed : Part → Bool
+abbrev pub is_closed : Section → Bool
 is_closed Closed = true
 is_closed _ = false
 

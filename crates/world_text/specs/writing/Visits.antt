@@ -7,8 +7,8 @@ use Rattle.lisp_graph.specs.declared.object.Body.{Body}
 use Rattle.lisp_graph.specs.declared.object.Object.{Object}
 use Rattle.lisp_graph.specs.declared.walk.Seen.{Seen}
 use Rattle.lisp_graph.specs.declared.walk.Seen.TheVariants.{Nil}
-use Rattle.world_text.specs.declared.writing.visit.Visits.{Visits}
-use Rattle.world_text.specs.declared.writing.dumped.Contents.{Contents}
+use Rattle.world_text.specs.declared.writing.visit.VisitedObjects.{VisitedObjects}
+use Rattle.world_text.specs.declared.writing.dumped.DumpContents.{DumpContents}
 use Rattle.world_text.specs.writing.Numbering.{AllVisited, IsKnown, IsNumbering, Visited, Walked, fields_of}
 use Rattle.world_text.specs.writing.Dump.{dumped_body, dumped_object, dumped_value}
 
@@ -17,7 +17,7 @@ abbrev pub cdr_of : KeyedGraph → ℕ → Seen
 cdr_of graph key = if graph.cons key then graph.field key 1 else Nil
 
 -- the objects that have numbers are known, and so are the cdrs of the conses among them
-pub record AreVisits (graph : KeyedGraph) (visits : Visits) : Type 0 where
+pub record AreVisits (graph : KeyedGraph) (visits : VisitedObjects) : Type 0 where
   pub known : IsKnown graph visits.numbering
   pub cdrs : visits.cdrs ≡ map (cdr_of graph) visits.numbering.keys
   pub shown : All (Shows graph) visits.cdrs
@@ -28,41 +28,41 @@ pub record Grows (keys all : List ℕ) : Type 0 where
   pub is : all ≡ keys ++ later
 
 -- a value is visited: it has its number, and keeps it when others get one
-pub record IsVisit (graph : KeyedGraph) (seen : Seen) (old new : Visits) (value : Value) : Type 0 where
+pub record IsVisit (graph : KeyedGraph) (seen : Seen) (old new : VisitedObjects) (value : Value) : Type 0 where
   pub visited : Visited graph old.numbering.keys seen new.numbering.keys
   pub visits : AreVisits graph new
   pub is : (all : List ℕ) → Grows new.numbering.keys all → value ≡ dumped_value all seen
 
 -- values are visited, one after another
-pub record AreVisited (graph : KeyedGraph) (seen : List Seen) (old new : Visits) (values : List Value) : Type 0 where
+pub record AreVisited (graph : KeyedGraph) (seen : List Seen) (old new : VisitedObjects) (values : List Value) : Type 0 where
   pub visited : AllVisited graph old.numbering.keys seen new.numbering.keys
   pub visits : AreVisits graph new
   pub shown : All (Shows graph) seen
   pub is : (all : List ℕ) → Grows new.numbering.keys all → values ≡ map (dumped_value all) seen
 
 -- the fields of an object are visited, and are its body
-pub record IsBody (graph : KeyedGraph) (key : ℕ) (old new : Visits) (body : Body) : Type 0 where
+pub record IsBody (graph : KeyedGraph) (key : ℕ) (old new : VisitedObjects) (body : Body) : Type 0 where
   pub visited : AllVisited graph old.numbering.keys (fields_of graph key) new.numbering.keys
   pub visits : AreVisits graph new
   pub shown : All (Shows graph) (fields_of graph key)
   pub is : (all : List ℕ) → Grows new.numbering.keys all → body ≡ dumped_body (graph.cons key) (graph.form key).code (map (dumped_value all) (fields_of graph key))
 
 -- an object is visited
-pub record IsDumped (graph : KeyedGraph) (key : ℕ) (old new : Visits) (object : Object) : Type 0 where
+pub record IsDumped (graph : KeyedGraph) (key : ℕ) (old new : VisitedObjects) (object : Object) : Type 0 where
   pub visited : AllVisited graph old.numbering.keys (fields_of graph key) new.numbering.keys
   pub visits : AreVisits graph new
   pub shown : All (Shows graph) (fields_of graph key)
   pub is : (all : List ℕ) → Grows new.numbering.keys all → object ≡ dumped_object graph all key
 
 -- the objects that have numbers are visited, until all that are reached have one
-pub record AreDumped (graph : KeyedGraph) (old new : Visits) (objects : List Object) : Type 0 where
+pub record AreDumped (graph : KeyedGraph) (old new : VisitedObjects) (objects : List Object) : Type 0 where
   pub visited : Walked graph old.numbering.keys 0 new.numbering.keys
   pub visits : AreVisits graph new
   pub shown : All (λ key. All (Shows graph) (fields_of graph key)) new.numbering.keys
   pub is : objects ≡ map (dumped_object graph new.numbering.keys) new.numbering.keys
 
 -- what a dump writes of the graph: its objects in the order of their numbers, and its registers
-pub record IsWalk (graph : KeyedGraph) (contents : Contents) : Type 0 where
+pub record IsWalk (graph : KeyedGraph) (contents : DumpContents) : Type 0 where
   pub numbering : IsNumbering graph contents.numbering.keys
   pub known : IsKnown graph contents.numbering
   pub objects : contents.objects ≡ map (dumped_object graph contents.numbering.keys) contents.numbering.keys

@@ -6,7 +6,7 @@ ghost use Rattle.world_text.specs.reading.Limits.{IsAccepted, IsReached};
 ghost use Rattle.world_text.specs.reading.Accepts.{AcceptsSpellings};
 
 use crate::reading::line::line_at;
-use crate::{Part, WorldFault, WorldReader, WorldStep};
+use crate::{Section, WorldFault, WorldReader, WorldStep};
 use lisp_graph::{Areas, Fields, Objects, World};
 use std::alloc::Global;
 use std::marker::Model;
@@ -52,7 +52,7 @@ impl WorldBuilder {
             alloc,
             place: WorldReader {
                 file,
-                part: Part::Opening,
+                part: Section::Opening,
                 second: false,
                 world,
                 charged: [0; 16],
@@ -86,9 +86,9 @@ impl WorldBuilder {
 
     /// The world that the lines so far mean: the whole world once they are closed.
     pub fn world(&self) -> &World
-        ensures is { result.now ≡ self.now.world }
+        ensures value { result.now ≡ self.now.world }
         ensures accepted { is_closed self.now.part ≡ true → IsAccepted result.now }
-        ensures limits { IsReader self.now }
+        ensures sound { IsReader self.now }
     {
         &self.place.world
     }
@@ -97,11 +97,11 @@ impl WorldBuilder {
     pub fn is_closed(&self) -> bool
         ensures { result ≡ is_closed self.now.part }
     {
-        self.place.part == Part::Closed
+        self.place.part == Section::Closed
     }
 
     /// Which lines may be next.
-    pub fn part(&self) -> Part
+    pub fn part(&self) -> Section
         ensures { result ≡ self.now.part }
     {
         self.place.part
@@ -109,8 +109,8 @@ impl WorldBuilder {
 
     /// The world that the lines so far mean.
     pub fn so_far(self) -> World
-        ensures is { result ≡ self.world }
-        ensures reached { IsReached self }
+        ensures value { result ≡ self.world }
+        ensures sound { IsReached self }
     {
         self.place.world
     }
@@ -118,7 +118,7 @@ impl WorldBuilder {
     /// The world, once its lines are closed.
     pub fn finish(self) -> World
         requires { is_closed self.part ≡ true }
-        ensures is { result ≡ self.world }
+        ensures value { result ≡ self.world }
         ensures accepted { IsAccepted result }
     {
         self.place.world
@@ -127,8 +127,8 @@ impl WorldBuilder {
     /// A line is accepted if and only if it is the spelling of what it means, and that is allowed in its place. What an area is
     /// charged is the sum of the charges of its objects so far.
     pub fn accepts_spellings(&self)
-        ensures spellings { AcceptsSpellings self.now }
-        ensures reached { IsReached self.now }
+        ensures accepted { AcceptsSpellings self.now }
+        ensures sound { IsReached self.now }
     {
         let _ = &self.place;
     }

@@ -6,7 +6,7 @@ ghost use Rattle.world_text.specs.reading.Closing.{closing_line, closing_word, h
 
 use crate::reading::missing::{missing_value, no_object};
 use crate::reading::next::{next_register, next_value};
-use crate::{Part, Reason, WorldFault, WorldReader, WorldStep};
+use crate::{Reason, Section, WorldFault, WorldReader, WorldStep};
 
 fn has_root(place: &WorldReader, register: usize) -> bool
     ensures { result ≡ has_root place.now register }
@@ -25,7 +25,7 @@ pub fn root_line(
 ) -> Result<WorldStep, WorldFault>
     requires { IsReader place.old }
     ensures judged { Judged place.old place.new result (root_line place.old count (words_of text.now)) }
-    ensures keeps { IsReader place.new }
+    ensures stays_sound { IsReader place.new }
 {
     if count != 3 {
         return Err(WorldFault::Bad(Reason::WrongCount));
@@ -41,7 +41,7 @@ pub fn root_line(
     }
     place.world.roots.set(register, value);
     place.rooted[register] = true;
-    place.part = Part::Roots;
+    place.part = Section::Roots;
     Ok(WorldStep::Next)
 }
 
@@ -56,12 +56,12 @@ pub fn closing_word(file: bool) -> &'static [u8]
 pub fn closing_line(place: &mut WorldReader, count: usize) -> Result<WorldStep, WorldFault>
     requires { IsReader place.old }
     ensures judged { Judged place.old place.new result (closing_line place.old count) }
-    ensures keeps { IsReader place.new }
+    ensures stays_sound { IsReader place.new }
 {
     if count != 1 {
         return Err(WorldFault::Bad(Reason::WrongCount));
     }
-    place.part = Part::Closed;
+    place.part = Section::Closed;
     if place.file {
         Ok(WorldStep::WorldEnds)
     } else {

@@ -1,7 +1,7 @@
 //! Reads object lines with one look at each byte. A line for which this returns None is read by `objects`, which accepts it or
 //! gives the reason for its refusal.
 ghost use Rattle.std.specs.Prelude.{◌≡◌, ◌<◌, ◌≤◌, ◌++◌, ◌∷◌, None, true, decimal, length, IfOk, IfSome};
-ghost use Rattle.world_text.specs.declared.reading.reader.Part.TheVariants.{Objects as AtObjects};
+ghost use Rattle.world_text.specs.declared.reading.reader.Section.TheVariants.{Objects as AtObjects};
 ghost use Rattle.world_text.specs.reading.Reader.{IsReader, Judged};
 ghost use Rattle.world_text.specs.reading.Line.{line_at};
 ghost use Rattle.world_text.specs.reading.Fast.{AreSpaced, BeginsBlock, BeginsRun, SaysCons};
@@ -54,8 +54,8 @@ fn spaced_values(alloc: Global, most: u64, text: &[u8]) -> Result<Option<Fields>
 /// The area and the values of `cons AREA V V`
 #[inline(always)]
 fn cons_words(areas: &Areas, line: &[u8]) -> Option<(usize, Value, Value)>
-    ensures is { IfSome result (λ x. SaysCons areas.now line.now x.0 x.1 x.2) }
-    ensures within { IfSome result (λ x. x.0 < length areas.now) }
+    ensures value { IfSome result (λ x. SaysCons areas.now line.now x.0 x.1 x.2) }
+    ensures in_range { IfSome result (λ x. x.0 < length areas.now) }
 {
     let text = behind(b"cons ", line)?;
     let (area, values) = leading_area(areas, text)?;
@@ -66,11 +66,11 @@ fn cons_words(areas: &Areas, line: &[u8]) -> Option<(usize, Value, Value)>
 
 /// `cons AREA V V`
 fn cons_at(place: &mut WorldReader, line: &[u8]) -> Option<Result<WorldStep, WorldFault>>
-    requires keeps { IsReader place.old }
-    requires part { place.old.part ≡ AtObjects }
+    requires sound { IsReader place.old }
+    requires place { place.old.part ≡ AtObjects }
     ensures judged { IfSome result (λ said. Judged place.old place.new said (line_at place.old line.now)) }
     ensures none { result ≡ None → place.new ≡ place.old }
-    ensures keeps { IsReader place.new }
+    ensures stays_sound { IsReader place.new }
 {
     let (area, car, cdr) = cons_words(&place.world.areas, line)?;
     let object = Object {
@@ -97,8 +97,8 @@ fn spaced_code(text: &[u8]) -> Option<(u16, &[u8])>
 /// What precedes the fields of `block AREA CODE V ..`
 #[inline(always)]
 fn block_front<'a>(areas: &Areas, line: &'a [u8]) -> Option<(usize, u16, &'a [u8])>
-    ensures is { IfSome result (λ x. BeginsBlock areas.now line.now x.0 x.1 x.2.now) }
-    ensures within { IfSome result (λ x. x.0 < length areas.now) }
+    ensures value { IfSome result (λ x. BeginsBlock areas.now line.now x.0 x.1 x.2.now) }
+    ensures in_range { IfSome result (λ x. x.0 < length areas.now) }
 {
     let text = behind(b"block ", line)?;
     let (area, last) = leading_area(areas, text)?;
@@ -112,11 +112,11 @@ fn block_at(
     place: &mut WorldReader,
     line: &[u8],
 ) -> Option<Result<WorldStep, WorldFault>>
-    requires keeps { IsReader place.old }
-    requires part { place.old.part ≡ AtObjects }
+    requires sound { IsReader place.old }
+    requires place { place.old.part ≡ AtObjects }
     ensures judged { IfSome result (λ said. Judged place.old place.new said (line_at place.old line.now)) }
     ensures none { result ≡ None → place.new ≡ place.old }
-    ensures keeps { IsReader place.new }
+    ensures stays_sound { IsReader place.new }
 {
     let (area, code, values) = block_front(&place.world.areas, line)?;
     match spaced_values(alloc, 2_047, values) {
@@ -137,8 +137,8 @@ fn block_at(
 /// What precedes the cars of `run AREA V ..`
 #[inline(always)]
 fn run_front<'a>(areas: &Areas, line: &'a [u8]) -> Option<(usize, &'a [u8])>
-    ensures is { IfSome result (λ x. BeginsRun areas.now line.now x.0 x.1.now) }
-    ensures within { IfSome result (λ x. x.0 < length areas.now) }
+    ensures value { IfSome result (λ x. BeginsRun areas.now line.now x.0 x.1.now) }
+    ensures in_range { IfSome result (λ x. x.0 < length areas.now) }
 {
     let text = behind(b"run ", line)?;
     let (area, values) = leading_area(areas, text)?;
@@ -154,12 +154,12 @@ fn run_at(
     place: &mut WorldReader,
     line: &[u8],
 ) -> Option<Result<WorldStep, WorldFault>>
-    requires keeps { IsReader place.old }
-    requires part { place.old.part ≡ AtObjects }
+    requires sound { IsReader place.old }
+    requires place { place.old.part ≡ AtObjects }
     requires second { place.old.second ≡ true }
     ensures judged { IfSome result (λ said. Judged place.old place.new said (line_at place.old line.now)) }
     ensures none { result ≡ None → place.new ≡ place.old }
-    ensures keeps { IsReader place.new }
+    ensures stays_sound { IsReader place.new }
 {
     let (area, values) = run_front(&place.world.areas, line)?;
     match spaced_values(alloc, 1_024, values) {
@@ -175,11 +175,11 @@ pub fn object_at(
     place: &mut WorldReader,
     line: &[u8],
 ) -> Option<Result<WorldStep, WorldFault>>
-    requires keeps { IsReader place.old }
-    requires part { place.old.part ≡ AtObjects }
+    requires sound { IsReader place.old }
+    requires place { place.old.part ≡ AtObjects }
     ensures judged { IfSome result (λ said. Judged place.old place.new said (line_at place.old line.now)) }
     ensures none { result ≡ None → place.new ≡ place.old }
-    ensures keeps { IsReader place.new }
+    ensures stays_sound { IsReader place.new }
 {
     if line.is_empty() {
         return None;

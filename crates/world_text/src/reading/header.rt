@@ -6,7 +6,7 @@ ghost use Rattle.world_text.specs.reading.Reader.{IsReader, Judged};
 ghost use Rattle.world_text.specs.reading.Header.{area_line, capacity_line, opening_line, space_line};
 
 use crate::reading::header_words::{capacity_in, room, rule_in, rule_room, space_in};
-use crate::{Part, Reason, WorldFault, WorldReader, WorldStep};
+use crate::{Reason, Section, WorldFault, WorldReader, WorldStep};
 use lisp_graph::{Fields, Value};
 use std::alloc::Global;
 use store_word::NoMemory;
@@ -15,7 +15,7 @@ use store_word::NoMemory;
 pub fn opening_line(place: &mut WorldReader, text: &[u8]) -> Result<WorldStep, WorldFault>
     requires { IsReader place.old }
     ensures judged { Judged place.old place.new result (opening_line place.old text.now) }
-    ensures keeps { IsReader place.new }
+    ensures stays_sound { IsReader place.new }
 {
     if text == b"lispm-world 1".as_slice() {
         place.second = false;
@@ -24,7 +24,7 @@ pub fn opening_line(place: &mut WorldReader, text: &[u8]) -> Result<WorldStep, W
     } else {
         return Err(WorldFault::Bad(Reason::NotAWorld));
     }
-    place.part = Part::Sizing;
+    place.part = Section::Sizing;
     Ok(WorldStep::Next)
 }
 
@@ -47,7 +47,7 @@ pub fn space_line(
 ) -> Result<WorldStep, WorldFault>
     requires { IsReader place.old }
     ensures judged { Judged place.old place.new result (space_line place.old count (words_of text.now)) }
-    ensures keeps { IsReader place.new }
+    ensures stays_sound { IsReader place.new }
 {
     if count != 6 {
         return Err(WorldFault::Bad(Reason::WrongCount));
@@ -56,7 +56,7 @@ pub fn space_line(
     let roots = nils(alloc, space.registers)?;
     place.world.roots = roots;
     place.world.space = space;
-    place.part = Part::FirstArea;
+    place.part = Section::FirstArea;
     Ok(WorldStep::Next)
 }
 
@@ -69,7 +69,7 @@ pub fn area_line(
 ) -> Result<WorldStep, WorldFault>
     requires { IsReader place.old }
     ensures judged { Judged place.old place.new result (area_line place.old count (words_of text.now)) }
-    ensures keeps { IsReader place.new }
+    ensures stays_sound { IsReader place.new }
 {
     if place.world.areas.len() >= 16 {
         return Err(WorldFault::Bad(Reason::TooManyAreas));
@@ -85,7 +85,7 @@ pub fn area_line(
         return Err(WorldFault::TooSmall);
     }
     place.world.areas.push(rule)?;
-    place.part = Part::Areas;
+    place.part = Section::Areas;
     Ok(WorldStep::Next)
 }
 
@@ -96,16 +96,16 @@ pub fn capacity_line(
     count: usize,
     text: &[u8],
 ) -> Result<WorldStep, WorldFault>
-    requires keeps { IsReader place.old }
-    requires counted { count ≡ length (words_of text.now) + 1 }
+    requires sound { IsReader place.old }
+    requires count { count ≡ length (words_of text.now) + 1 }
     ensures judged { Judged place.old place.new result (capacity_line place.old count (words_of text.now)) }
-    ensures keeps { IsReader place.new }
+    ensures stays_sound { IsReader place.new }
 {
     if count != usize::from(place.world.space.levels) + 1 {
         return Err(WorldFault::Bad(Reason::WrongCount));
     }
     let capacity = capacity_in(text)?;
     place.world.space.capacity = capacity;
-    place.part = Part::Objects;
+    place.part = Section::Objects;
     Ok(WorldStep::Next)
 }

@@ -14,7 +14,7 @@ use store_word::Space;
 /// The sizes of a store.
 #[tactic(auto, unfolding(crate::specs::reading::Header::space_in))]
 pub fn space_in(text: &[u8]) -> Result<Space, Reason>
-    ensures is { Gives (λ x. x) result (space_in (words_of text.now)) }
+    ensures value { Gives (λ x. x) result (space_in (words_of text.now)) }
     ensures registers { IfOk result (λ space. space.registers ≤ 256) }
     ensures levels { IfOk result (λ space. space.levels ≤ 6) }
 {

@@ -35,9 +35,9 @@ pub fn behind_space(text: &[u8]) -> Option<&[u8]>
 /// The number that the first digits make, ten at most, and how many digits it has.
 #[inline(always)]
 fn leading_digits(text: &[u8]) -> (u64, usize)
-    ensures few { result.1 ≤ 10 }
-    ensures within { result.1 ≤ length text.now }
-    ensures digits { are_digits (take result.1 text.now) ≡ true }
+    ensures at_most { result.1 ≤ 10 }
+    ensures in_range { result.1 ≤ length text.now }
+    ensures sound { are_digits (take result.1 text.now) ≡ true }
     ensures value { result.0 ≡ number_value (take result.1 text.now) }
 {
     let mut value = 0u64;
@@ -99,8 +99,8 @@ pub fn leading_word(text: &[u8]) -> Option<(&[u8], &[u8])>
 /// The name of one of the areas at the front, and the text after it.
 #[inline(always)]
 pub fn leading_area<'a>(areas: &Areas, text: &'a [u8]) -> Option<(usize, &'a [u8])>
-    ensures is { IfSome result (λ x. LeadsArea areas.now text.now x.0 x.1.now) }
-    ensures within { IfSome result (λ x. x.0 < length areas.now) }
+    ensures value { IfSome result (λ x. LeadsArea areas.now text.now x.0 x.1.now) }
+    ensures in_range { IfSome result (λ x. x.0 < length areas.now) }
 {
     let (name, rest) = leading_word(text)?;
     let area = area_of(areas, name)?;

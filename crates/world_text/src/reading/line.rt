@@ -10,7 +10,7 @@ use crate::reading::header::{area_line, capacity_line, opening_line, space_line}
 use crate::reading::missing::{missing_at, no_object};
 use crate::reading::objects::{block_line, cons_line, run_line};
 use crate::reading::words::split_line;
-use crate::{Part, Reason, WorldFault, WorldReader, WorldStep};
+use crate::{Reason, Section, WorldFault, WorldReader, WorldStep};
 use std::alloc::Global;
 
 #[tactic(auto, unfolding(crate::specs::reading::Line::last_lines))]
@@ -22,7 +22,7 @@ fn last_lines(
 ) -> Result<WorldStep, WorldFault>
     requires { IsReader place.old }
     ensures judged { Judged place.old place.new result (last_lines place.old head.now count (words_of text.now)) }
-    ensures keeps { IsReader place.new }
+    ensures stays_sound { IsReader place.new }
 {
     if head == b"root".as_slice() {
         if let Some(number) = missing_at(place) {
@@ -47,10 +47,10 @@ fn object_lines(
     count: usize,
     text: &[u8],
 ) -> Result<WorldStep, WorldFault>
-    requires keeps { IsReader place.old }
-    requires counted { count ≡ length (words_of text.now) + 1 }
+    requires sound { IsReader place.old }
+    requires count { count ≡ length (words_of text.now) + 1 }
     ensures judged { Judged place.old place.new result (object_lines place.old head.now count (words_of text.now)) }
-    ensures keeps { IsReader place.new }
+    ensures stays_sound { IsReader place.new }
 {
     if head == b"cons".as_slice() {
         return cons_line(place, count, text);
@@ -72,10 +72,10 @@ fn area_lines(
     count: usize,
     text: &[u8],
 ) -> Result<WorldStep, WorldFault>
-    requires keeps { IsReader place.old }
-    requires counted { count ≡ length (words_of text.now) + 1 }
+    requires sound { IsReader place.old }
+    requires count { count ≡ length (words_of text.now) + 1 }
     ensures judged { Judged place.old place.new result (area_lines place.old head.now count (words_of text.now)) }
-    ensures keeps { IsReader place.new }
+    ensures stays_sound { IsReader place.new }
 {
     if head == b"area".as_slice() {
         return area_line(place, count, text);
@@ -97,31 +97,31 @@ fn line_in(
     count: usize,
     text: &[u8],
 ) -> Result<WorldStep, WorldFault>
-    requires keeps { IsReader place.old }
-    requires counted { count ≡ length (words_of text.now) + 1 }
+    requires sound { IsReader place.old }
+    requires count { count ≡ length (words_of text.now) + 1 }
     ensures judged { Judged place.old place.new result (line_in place.old.part place.old head.now count (words_of text.now)) }
-    ensures keeps { IsReader place.new }
+    ensures stays_sound { IsReader place.new }
 {
     match place.part {
-        Part::Opening => Err(WorldFault::Bad(Reason::NotAWorld)),
-        Part::Sizing => {
+        Section::Opening => Err(WorldFault::Bad(Reason::NotAWorld)),
+        Section::Sizing => {
             if head == b"space".as_slice() {
                 space_line(alloc, place, count, text)
             } else {
                 Err(WorldFault::Bad(Reason::SpaceExpected))
             }
         }
-        Part::FirstArea => {
+        Section::FirstArea => {
             if head == b"area".as_slice() {
                 area_line(place, count, text)
             } else {
                 Err(WorldFault::Bad(Reason::AreaExpected))
             }
         }
-        Part::Areas => area_lines(alloc, place, head, count, text),
-        Part::Objects => object_lines(alloc, place, head, count, text),
-        Part::Roots => last_lines(place, head, count, text),
-        Part::Closed => Err(WorldFault::Bad(Reason::UnexpectedLine)),
+        Section::Areas => area_lines(alloc, place, head, count, text),
+        Section::Objects => object_lines(alloc, place, head, count, text),
+        Section::Roots => last_lines(place, head, count, text),
+        Section::Closed => Err(WorldFault::Bad(Reason::UnexpectedLine)),
     }
 }
 
@@ -129,12 +129,12 @@ fn line_in(
 pub fn line_at(alloc: Global, place: &mut WorldReader, text: &[u8]) -> Result<WorldStep, WorldFault>
     requires { IsReader place.old }
     ensures judged { Judged place.old place.new result (line_at place.old text.now) }
-    ensures keeps { IsReader place.new }
+    ensures stays_sound { IsReader place.new }
 {
-    if place.part == Part::Opening {
+    if place.part == Section::Opening {
         return opening_line(place, text);
     }
-    if place.part == Part::Objects {
+    if place.part == Section::Objects {
         if let Some(said) = object_at(alloc, place, text) {
             return said;
         }

@@ -2,7 +2,7 @@
 ghost use Rattle.std.specs.Prelude.{◌≡◌, ◌-◌, min, fold};
 ghost use Rattle.world_text.specs.reading.Closing.{lesser, missing, missing_at, missing_body, missing_value, no_object};
 
-use crate::{Part, Reason, WorldFault, WorldReader};
+use crate::{Reason, Section, WorldFault, WorldReader};
 use lisp_graph::{Body, Object, Value};
 
 fn lesser(found: Option<u64>, number: u64) -> Option<u64>
@@ -66,7 +66,7 @@ fn missing(objects: &[Object]) -> Option<u64>
 pub fn missing_at(place: &WorldReader) -> Option<u64>
     ensures { result ≡ missing_at place.now }
 {
-    if place.part == Part::Roots {
+    if place.part == Section::Roots {
         None
     } else {
         missing(place.world.objects.as_slice())

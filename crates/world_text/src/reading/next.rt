@@ -12,9 +12,9 @@ use std::alloc::Global;
 /// A number from `low` to `high`.
 #[tactic(auto, unfolding(crate::specs::reading::Next::next))]
 pub fn next_number(low: u32, high: u32, text: &[u8]) -> Result<(u32, &[u8]), Reason>
-    ensures is { Gives (λ x. (x.0, words_of x.1.now)) result (next (a_number low high) (words_of text.now)) }
-    ensures within { IfOk result (λ x. (low ≤ x.0) × (x.0 ≤ high)) }
-    ensures fewer { IfOk result (λ x. length (words_of x.1.now) ≡ length (words_of text.now) - 1) }
+    ensures value { Gives (λ x. (x.0, words_of x.1.now)) result (next (a_number low high) (words_of text.now)) }
+    ensures in_range { IfOk result (λ x. (low ≤ x.0) × (x.0 ≤ high)) }
+    ensures left { IfOk result (λ x. length (words_of x.1.now) ≡ length (words_of text.now) - 1) }
 {
     let (word, rest) = next_word(text);
     match number_in(low, high, word) {
@@ -26,9 +26,9 @@ pub fn next_number(low: u32, high: u32, text: &[u8]) -> Result<(u32, &[u8]), Rea
 /// A register, below the number of registers.
 #[tactic(auto, unfolding(crate::specs::reading::Next::next))]
 pub fn next_register(registers: u32, text: &[u8]) -> Result<(u32, &[u8]), Reason>
-    ensures is { Gives (λ x. (x.0, words_of x.1.now)) result (next (a_register registers) (words_of text.now)) }
-    ensures within { IfOk result (λ x. x.0 < registers) }
-    ensures fewer { IfOk result (λ x. length (words_of x.1.now) ≡ length (words_of text.now) - 1) }
+    ensures value { Gives (λ x. (x.0, words_of x.1.now)) result (next (a_register registers) (words_of text.now)) }
+    ensures in_range { IfOk result (λ x. x.0 < registers) }
+    ensures left { IfOk result (λ x. length (words_of x.1.now) ≡ length (words_of text.now) - 1) }
 {
     let (word, rest) = next_word(text);
     match register_of(registers, word) {
@@ -40,9 +40,9 @@ pub fn next_register(registers: u32, text: &[u8]) -> Result<(u32, &[u8]), Reason
 /// The name of one of the areas; the result is the area's place among them.
 #[tactic(auto, unfolding(crate::specs::reading::Next::next))]
 pub fn next_area<'a>(areas: &Areas, text: &'a [u8]) -> Result<(usize, &'a [u8]), Reason>
-    ensures is { Gives (λ x. (x.0, words_of x.1.now)) result (next (an_area areas.now) (words_of text.now)) }
-    ensures within { IfOk result (λ x. x.0 < length areas.now) }
-    ensures fewer { IfOk result (λ x. length (words_of x.1.now) ≡ length (words_of text.now) - 1) }
+    ensures value { Gives (λ x. (x.0, words_of x.1.now)) result (next (an_area areas.now) (words_of text.now)) }
+    ensures in_range { IfOk result (λ x. x.0 < length areas.now) }
+    ensures left { IfOk result (λ x. length (words_of x.1.now) ≡ length (words_of text.now) - 1) }
 {
     let (word, rest) = next_word(text);
     match area_of(areas, word) {
@@ -54,8 +54,8 @@ pub fn next_area<'a>(areas: &Areas, text: &'a [u8]) -> Result<(usize, &'a [u8]),
 /// A value: `nil`, an integer of 32 bits, or `#` and the number of an object.
 #[tactic(auto, unfolding(crate::specs::reading::Next::next))]
 pub fn next_value(text: &[u8]) -> Result<(Value, &[u8]), Reason>
-    ensures is { Gives (λ x. (x.0, words_of x.1.now)) result (next a_value (words_of text.now)) }
-    ensures fewer { IfOk result (λ x. length (words_of x.1.now) ≡ length (words_of text.now) - 1) }
+    ensures value { Gives (λ x. (x.0, words_of x.1.now)) result (next a_value (words_of text.now)) }
+    ensures left { IfOk result (λ x. length (words_of x.1.now) ≡ length (words_of text.now) - 1) }
 {
     let (word, rest) = next_word(text);
     match value_of(word) {
@@ -66,7 +66,7 @@ pub fn next_value(text: &[u8]) -> Result<(Value, &[u8]), Reason>
 
 /// All the words as values.
 pub fn each_value(alloc: Global, text: &[u8]) -> Result<Fields, WorldFault>
-    ensures is { MayGive (λ x. x) result (each a_value (words_of text.now)) }
+    ensures value { MayGive (λ x. x) result (each a_value (words_of text.now)) }
     ensures count { IfOk result (λ values. length values ≡ length (words_of text.now)) }
 {
     let mut values = Fields::new(alloc);

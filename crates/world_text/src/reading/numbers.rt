@@ -35,8 +35,8 @@ fn may_fit(word: &[u8]) -> bool
 
 /// The number from `low` to `high` that the word spells, or None if it spells none.
 pub fn number_in(low: u32, high: u32, word: &[u8]) -> Option<u32>
-    ensures is { result ≡ number_in low high word.now }
-    ensures within { IfSome result (λ n. (low ≤ n) × (n ≤ high)) }
+    ensures value { result ≡ number_in low high word.now }
+    ensures in_range { IfSome result (λ n. (low ≤ n) × (n ≤ high)) }
 {
     if !may_fit(word) {
         return None;
@@ -50,8 +50,8 @@ pub fn number_in(low: u32, high: u32, word: &[u8]) -> Option<u32>
 
 /// The negative number of this size.
 pub fn negative(size: u32) -> i32
-    requires some { 0 < size }
-    requires small { size ≤ 2 ^ 31 }
+    requires at_least { 0 < size }
+    requires at_most { size ≤ 2 ^ 31 }
     ensures { result ≡ negsuc (size - 1) }
 {
     -1 - ((size - 1) as i32)
@@ -89,8 +89,8 @@ pub fn value_of(word: &[u8]) -> Option<Value>
 
 /// The register that the word names, below the number of registers.
 pub fn register_of(registers: u32, word: &[u8]) -> Option<u32>
-    ensures is { result ≡ register_of registers word.now }
-    ensures within { IfSome result (λ n. n < registers) }
+    ensures value { result ≡ register_of registers word.now }
+    ensures in_range { IfSome result (λ n. n < registers) }
 {
     let number = number_in(0, u32::MAX, word)?;
     if number < registers {
@@ -118,8 +118,8 @@ fn is_named(name: &[u8], word: &[u8]) -> bool
 
 /// The place of the area with this name, or None if no area has it.
 pub fn area_of(areas: &Areas, word: &[u8]) -> Option<usize>
-    ensures is { result ≡ area_of areas.now word.now }
-    ensures within { IfSome result (λ n. n < length areas.now) }
+    ensures value { result ≡ area_of areas.now word.now }
+    ensures in_range { IfSome result (λ n. n < length areas.now) }
 {
     areas
         .as_slice()

@@ -8,7 +8,7 @@ ghost use Rattle.lisp_graph.specs.Effect.{link, list_from};
 ghost use Rattle.world_text.specs.reading.Objects.{added, block_line, charge_with, cons_line, quota_of, run_line};
 
 use crate::reading::next::{each_value, next_area, next_number, next_value};
-use crate::{Part, Reason, WorldFault, WorldReader, WorldStep};
+use crate::{Reason, Section, WorldFault, WorldReader, WorldStep};
 use lisp_graph::{Body, Object, Objects, Value};
 use std::alloc::Global;
 use store_word::NoMemory;
@@ -49,14 +49,14 @@ pub fn add_object(
     object: Object,
 ) -> Result<WorldStep, WorldFault>
     requires area { area < 16 }
-    requires keeps { IsReader place.old }
+    requires sound { IsReader place.old }
     ensures judged { Judged place.old place.new result (added place.old area object.charge (object ∷ [])) }
-    ensures keeps { IsReader place.new }
+    ensures stays_sound { IsReader place.new }
 {
     let charged = charge_with(place, area, object.charge)?;
     place.world.objects.push(object)?;
     place.charged[area] = charged;
-    place.part = Part::Objects;
+    place.part = Section::Objects;
     Ok(WorldStep::Next)
 }
 
@@ -104,16 +104,16 @@ pub fn add_run(
     cars: &[Value],
 ) -> Result<WorldStep, WorldFault>
     requires area { area < 16 }
-    requires few { length cars.now ≤ 1024 }
-    requires keeps { IsReader place.old }
+    requires at_most { length cars.now ≤ 1024 }
+    requires sound { IsReader place.old }
     ensures judged { Judged place.old place.new result
         (added place.old area (3 * length cars.now) (list_from area (length place.old.world.objects) cars.now)) }
-    ensures keeps { IsReader place.new }
+    ensures stays_sound { IsReader place.new }
 {
     let charged = charge_with(place, area, 3 * cars.len() as u32)?;
     add_conses(&mut place.world.objects, area as u8, cars)?;
     place.charged[area] = charged;
-    place.part = Part::Objects;
+    place.part = Section::Objects;
     Ok(WorldStep::Next)
 }
 
@@ -140,7 +140,7 @@ pub fn cons_line(
 ) -> Result<WorldStep, WorldFault>
     requires { IsReader place.old }
     ensures judged { Judged place.old place.new result (cons_line place.old count (words_of text.now)) }
-    ensures keeps { IsReader place.new }
+    ensures stays_sound { IsReader place.new }
 {
     if count != 4 {
         return Err(WorldFault::Bad(Reason::WrongCount));
@@ -163,10 +163,10 @@ pub fn block_line(
     count: usize,
     text: &[u8],
 ) -> Result<WorldStep, WorldFault>
-    requires keeps { IsReader place.old }
-    requires counted { count ≡ length (words_of text.now) + 1 }
+    requires sound { IsReader place.old }
+    requires count { count ≡ length (words_of text.now) + 1 }
     ensures judged { Judged place.old place.new result (block_line place.old count (words_of text.now)) }
-    ensures keeps { IsReader place.new }
+    ensures stays_sound { IsReader place.new }
 {
     if count > 2_050 {
         return Err(WorldFault::Bad(Reason::TooManyFields));
@@ -196,10 +196,10 @@ pub fn run_line(
     count: usize,
     text: &[u8],
 ) -> Result<WorldStep, WorldFault>
-    requires keeps { IsReader place.old }
-    requires counted { count ≡ length (words_of text.now) + 1 }
+    requires sound { IsReader place.old }
+    requires count { count ≡ length (words_of text.now) + 1 }
     ensures judged { Judged place.old place.new result (run_line place.old count (words_of text.now)) }
-    ensures keeps { IsReader place.new }
+    ensures stays_sound { IsReader place.new }
 {
     if count > 1_026 {
         return Err(WorldFault::Bad(Reason::TooManyItems));

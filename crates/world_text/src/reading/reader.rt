@@ -3,7 +3,7 @@ use lisp_graph::World;
 
 /// Which lines may be next.
 #[derive(Clone, Copy, Debug, PartialEq, Eq)]
-pub enum Part {
+pub enum Section {
     /// The first line.
     Opening,
     /// The `space` line.
@@ -25,7 +25,7 @@ pub enum Part {
 pub struct WorldReader {
     /// A world file: `end-world` closes it instead of `trace`.
     pub file: bool,
-    pub part: Part,
+    pub part: Section,
     /// Format 2.
     pub second: bool,
     /// The sizes, the areas, the objects and the roots that were read so far.

@@ -19,8 +19,8 @@ pub fn dump_text<W: Walk>(
     areas: &[AreaRule],
 ) -> Result<Text, DumpFault>
     requires { space.now.levels ≤ 6 }
-    ensures is { IfOk result (λ text. IsDump (W.graph walk.old) space.now areas.now text) }
-    ensures same { W.graph walk.new ≡ W.graph walk.old }
+    ensures value { IfOk result (λ text. IsDump (W.graph walk.old) space.now areas.now text) }
+    ensures unchanged { W.graph walk.new ≡ W.graph walk.old }
     ensures cause { HasSwapCause (W.faults walk.old) (W.faults walk.new) result }
 {
     let contents = contents_of(alloc, walk)?;

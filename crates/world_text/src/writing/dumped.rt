@@ -6,31 +6,31 @@ ghost use Rattle.world_text.specs.writing.Visits.{AreDumped, AreVisited, AreVisi
 
 use crate::DumpFault;
 use crate::writing::numbering::Numbering;
-use crate::writing::visit::{Visits, visit};
+use crate::writing::visit::{VisitedObjects, visit};
 use lisp_graph::{Body, Fields, Form, Object, Objects, Walk};
 use std::alloc::Global;
 
 /// What a dump writes of a walk: the objects that the registers reach, in the order of their numbers, and the registers.
 #[derive(Drop)]
-pub struct Contents {
+pub struct DumpContents {
     pub numbering: Numbering,
     pub objects: Objects,
     pub registers: Fields,
 }
 
-/// Visits the fields of an object with this many.
+/// VisitedObjects the fields of an object with this many.
 fn dumped_fields<W: Walk>(
     alloc: Global,
     walk: &mut W,
-    visits: &mut Visits,
+    visits: &mut VisitedObjects,
     key: u64,
     length: u16,
 ) -> Result<Fields, DumpFault>
-    requires has { (W.graph walk.old).has key ≡ true }
-    requires length { length ≡ ((W.graph walk.old).form key).length }
+    requires object { (W.graph walk.old).has key ≡ true }
+    requires agrees { length ≡ ((W.graph walk.old).form key).length }
     requires visits { AreVisits (W.graph walk.old) visits.old }
-    ensures is { IfOk result (λ fields. AreVisited (W.graph walk.old) (fields_of (W.graph walk.old) key) visits.old visits.new fields) }
-    ensures same { W.graph walk.new ≡ W.graph walk.old }
+    ensures value { IfOk result (λ fields. AreVisited (W.graph walk.old) (fields_of (W.graph walk.old) key) visits.old visits.new fields) }
+    ensures unchanged { W.graph walk.new ≡ W.graph walk.old }
     ensures cause { HasSwapCause (W.faults walk.old) (W.faults walk.new) result }
 {
     let mut fields = Fields::new(alloc);
@@ -44,18 +44,18 @@ fn dumped_fields<W: Walk>(
     Ok(fields)
 }
 
-/// Visits the car and the cdr of the cons with this number. The cdr was shown when the cons got its number.
+/// VisitedObjects the car and the cdr of the cons with this number. The cdr was shown when the cons got its number.
 fn dumped_cons<W: Walk>(
     walk: &mut W,
-    visits: &mut Visits,
+    visits: &mut VisitedObjects,
     number: usize,
     key: u64,
 ) -> Result<Body, DumpFault>
-    requires at { slice_get visits.old.numbering.keys number ≡ Some key }
-    requires cons { (W.graph walk.old).cons key ≡ true }
+    requires listed { slice_get visits.old.numbering.keys number ≡ Some key }
+    requires pair { (W.graph walk.old).cons key ≡ true }
     requires visits { AreVisits (W.graph walk.old) visits.old }
-    ensures is { IfOk result (λ body. IsBody (W.graph walk.old) key visits.old visits.new body) }
-    ensures same { W.graph walk.new ≡ W.graph walk.old }
+    ensures value { IfOk result (λ body. IsBody (W.graph walk.old) key visits.old visits.new body) }
+    ensures unchanged { W.graph walk.new ≡ W.graph walk.old }
     ensures cause { HasSwapCause (W.faults walk.old) (W.faults walk.new) result }
 {
     let cdr = visits.cdrs.as_slice()[number];
@@ -65,20 +65,20 @@ fn dumped_cons<W: Walk>(
     Ok(Body::Cons { car, cdr })
 }
 
-/// Visits the fields of a block of this form.
+/// VisitedObjects the fields of a block of this form.
 fn dumped_block<W: Walk>(
     alloc: Global,
     walk: &mut W,
-    visits: &mut Visits,
+    visits: &mut VisitedObjects,
     key: u64,
     form: Form,
 ) -> Result<Body, DumpFault>
-    requires has { (W.graph walk.old).has key ≡ true }
-    requires block { (W.graph walk.old).cons key ≡ false }
-    requires form { form ≡ (W.graph walk.old).form key }
+    requires object { (W.graph walk.old).has key ≡ true }
+    requires pair { (W.graph walk.old).cons key ≡ false }
+    requires agrees { form ≡ (W.graph walk.old).form key }
     requires visits { AreVisits (W.graph walk.old) visits.old }
-    ensures is { IfOk result (λ body. IsBody (W.graph walk.old) key visits.old visits.new body) }
-    ensures same { W.graph walk.new ≡ W.graph walk.old }
+    ensures value { IfOk result (λ body. IsBody (W.graph walk.old) key visits.old visits.new body) }
+    ensures unchanged { W.graph walk.new ≡ W.graph walk.old }
     ensures cause { HasSwapCause (W.faults walk.old) (W.faults walk.new) result }
 {
     let fields = dumped_fields(alloc, walk, visits, key, form.length)?;
@@ -88,20 +88,20 @@ fn dumped_block<W: Walk>(
     })
 }
 
-/// Visits the fields of the object with this number and form.
+/// VisitedObjects the fields of the object with this number and form.
 fn dumped_body<W: Walk>(
     alloc: Global,
     walk: &mut W,
-    visits: &mut Visits,
+    visits: &mut VisitedObjects,
     number: usize,
     key: u64,
     form: Form,
 ) -> Result<Body, DumpFault>
-    requires at { slice_get visits.old.numbering.keys number ≡ Some key }
-    requires form { form ≡ (W.graph walk.old).form key }
+    requires listed { slice_get visits.old.numbering.keys number ≡ Some key }
+    requires agrees { form ≡ (W.graph walk.old).form key }
     requires visits { AreVisits (W.graph walk.old) visits.old }
-    ensures is { IfOk result (λ body. IsBody (W.graph walk.old) key visits.old visits.new body) }
-    ensures same { W.graph walk.new ≡ W.graph walk.old }
+    ensures value { IfOk result (λ body. IsBody (W.graph walk.old) key visits.old visits.new body) }
+    ensures unchanged { W.graph walk.new ≡ W.graph walk.old }
     ensures cause { HasSwapCause (W.faults walk.old) (W.faults walk.new) result }
 {
     if visits.numbering.conses.as_slice()[number] {
@@ -111,18 +111,18 @@ fn dumped_body<W: Walk>(
     }
 }
 
-/// Visits the object with this number.
+/// VisitedObjects the object with this number.
 fn dumped_object<W: Walk>(
     alloc: Global,
     walk: &mut W,
-    visits: &mut Visits,
+    visits: &mut VisitedObjects,
     number: usize,
     key: u64,
 ) -> Result<Object, DumpFault>
-    requires at { slice_get visits.old.numbering.keys number ≡ Some key }
+    requires listed { slice_get visits.old.numbering.keys number ≡ Some key }
     requires visits { AreVisits (W.graph walk.old) visits.old }
-    ensures is { IfOk result (λ object. IsDumped (W.graph walk.old) key visits.old visits.new object) }
-    ensures same { W.graph walk.new ≡ W.graph walk.old }
+    ensures value { IfOk result (λ object. IsDumped (W.graph walk.old) key visits.old visits.new object) }
+    ensures unchanged { W.graph walk.new ≡ W.graph walk.old }
     ensures cause { HasSwapCause (W.faults walk.old) (W.faults walk.new) result }
 {
     let form = walk.form_of(key)?;
@@ -134,16 +134,16 @@ fn dumped_object<W: Walk>(
     })
 }
 
-/// Visits the objects that have numbers, in the order of these, until none remains; further ones get numbers meanwhile.
+/// VisitedObjects the objects that have numbers, in the order of these, until none remains; further ones get numbers meanwhile.
 fn dumped_objects<W: Walk>(
     alloc: Global,
     walk: &mut W,
-    visits: &mut Visits,
+    visits: &mut VisitedObjects,
 ) -> Result<Objects, DumpFault>
     requires { AreVisits (W.graph walk.old) visits.old }
-    ensures is { IfOk result (λ objects. AreDumped (W.graph walk.old) visits.old visits.new objects) }
-    ensures few { IfOk result (λ objects. length objects < 2 ^ 32) }
-    ensures same { W.graph walk.new ≡ W.graph walk.old }
+    ensures value { IfOk result (λ objects. AreDumped (W.graph walk.old) visits.old visits.new objects) }
+    ensures at_most { IfOk result (λ objects. length objects < 2 ^ 32) }
+    ensures unchanged { W.graph walk.new ≡ W.graph walk.old }
     ensures cause { HasSwapCause (W.faults walk.old) (W.faults walk.new) result }
 {
     let mut objects = Objects::new(alloc);
@@ -156,16 +156,16 @@ fn dumped_objects<W: Walk>(
     Ok(objects)
 }
 
-/// Visits the registers.
+/// VisitedObjects the registers.
 fn dumped_registers<W: Walk>(
     alloc: Global,
     walk: &mut W,
-    visits: &mut Visits,
+    visits: &mut VisitedObjects,
 ) -> Result<Fields, DumpFault>
     requires { AreVisits (W.graph walk.old) visits.old }
-    ensures is { IfOk result (λ registers. AreVisited (W.graph walk.old) (W.graph walk.old).registers visits.old visits.new registers) }
-    ensures few { length (W.graph walk.old).registers < 2 ^ 32 }
-    ensures same { W.graph walk.new ≡ W.graph walk.old }
+    ensures value { IfOk result (λ registers. AreVisited (W.graph walk.old) (W.graph walk.old).registers visits.old visits.new registers) }
+    ensures at_most { length (W.graph walk.old).registers < 2 ^ 32 }
+    ensures unchanged { W.graph walk.new ≡ W.graph walk.old }
     ensures cause { HasSwapCause (W.faults walk.old) (W.faults walk.new) result }
 {
     let mut registers = Fields::new(alloc);
@@ -182,17 +182,17 @@ fn dumped_registers<W: Walk>(
 
 /// What a dump writes of a walk. Each register is read once, and of each reachable object the form once and each field
 /// once. It fails if memory runs out, if 2^32 objects or more are reached, or if a page call of the swap device fails.
-pub fn contents_of<W: Walk>(alloc: Global, walk: &mut W) -> Result<Contents, DumpFault>
-    ensures is { IfOk result (IsWalk (W.graph walk.old)) }
-    ensures few { IfOk result (λ contents. length contents.objects < 2 ^ 32) }
-    ensures few_registers { IfOk result (λ contents. length contents.registers < 2 ^ 32) }
-    ensures same { W.graph walk.new ≡ W.graph walk.old }
+pub fn contents_of<W: Walk>(alloc: Global, walk: &mut W) -> Result<DumpContents, DumpFault>
+    ensures value { IfOk result (IsWalk (W.graph walk.old)) }
+    ensures at_most { IfOk result (λ contents. length contents.objects < 2 ^ 32) }
+    ensures registers { IfOk result (λ contents. length contents.registers < 2 ^ 32) }
+    ensures unchanged { W.graph walk.new ≡ W.graph walk.old }
     ensures cause { HasSwapCause (W.faults walk.old) (W.faults walk.new) result }
 {
-    let mut visits = Visits::new(alloc);
+    let mut visits = VisitedObjects::new(alloc);
     let registers = dumped_registers(alloc, walk, &mut visits)?;
     let objects = dumped_objects(alloc, walk, &mut visits)?;
-    Ok(Contents {
+    Ok(DumpContents {
         numbering: visits.numbering,
         objects,
         registers,
@@ -202,9 +202,9 @@ pub fn contents_of<W: Walk>(alloc: Global, walk: &mut W) -> Result<Contents, Dum
 /// The objects that the registers reach, in the order of their numbers. It fails if memory runs out, if 2^32 objects
 /// or more are reached, or if a page call of the swap device fails.
 pub fn numbering_of<W: Walk>(alloc: Global, walk: &mut W) -> Result<Numbering, DumpFault>
-    ensures is { IfOk result (λ numbering. IsNumbering (W.graph walk.old) numbering.keys) }
+    ensures value { IfOk result (λ numbering. IsNumbering (W.graph walk.old) numbering.keys) }
     ensures known { IfOk result (λ numbering. IsKnown (W.graph walk.old) numbering) }
-    ensures same { W.graph walk.new ≡ W.graph walk.old }
+    ensures unchanged { W.graph walk.new ≡ W.graph walk.old }
     ensures cause { HasSwapCause (W.faults walk.old) (W.faults walk.new) result }
 {
     let contents = contents_of(alloc, walk)?;

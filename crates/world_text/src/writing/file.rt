@@ -31,8 +31,8 @@ fn push_first(
     objects: &[Object],
     size: usize,
 ) -> Result<(), NoMemory>
-    requires some { 0 < length objects.now }
-    requires within { size ≤ length objects.now }
+    requires at_least { 0 < length objects.now }
+    requires in_range { size ≤ length objects.now }
     ensures { OnOk result (text.new ≡ text.old ++ text_of areas.now (line_of_size size (object_at objects.now 0) (drop 1 objects.now) ∷ [])) }
 {
     let object = &objects[0];
@@ -92,8 +92,8 @@ pub fn file_text(
     roots: &[Value],
 ) -> Result<Text, NoMemory>
     requires levels { space.now.levels ≤ 6 }
-    requires objects { length objects.now < 2 ^ 32 }
-    requires roots { length roots.now < 2 ^ 32 }
+    requires in_range { length objects.now < 2 ^ 32 }
+    requires at_most { length roots.now < 2 ^ 32 }
     ensures { IfOk result (λ text. text ≡ file_text space.now areas.now objects.now roots.now) }
 {
     let mut text = Text::new(alloc);

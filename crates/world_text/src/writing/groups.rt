@@ -54,13 +54,13 @@ fn is_link(object: &Object, next: u64) -> bool
 
 /// A tail: a cons that ends a list, or conses that lead to such a cons, each to the next object; their area and number.
 #[derive(Clone, Copy)]
-pub struct Tail {
+pub struct ListEnd {
     pub area: u8,
     pub count: u32,
 }
 
 /// How many conses of the area precede the end of the tail, if the tail is in this area.
-fn counted(tail: Option<Tail>, area: u8) -> Option<u32>
+fn counted(tail: Option<ListEnd>, area: u8) -> Option<u32>
     ensures { result ≡ counted tail area }
 {
     match tail {
@@ -70,22 +70,22 @@ fn counted(tail: Option<Tail>, area: u8) -> Option<u32>
 }
 
 /// The tail that the objects from this index on begin with, given the tail that the next begin with.
-fn tail_at(objects: &[Object], index: usize, next: Option<Tail>) -> Option<Tail>
-    requires within { index < length objects.now }
-    requires few { length objects.now < 2 ^ 32 }
-    requires next { HasTail (index + 1) (drop (index + 1) objects.now) next }
+fn tail_at(objects: &[Object], index: usize, next: Option<ListEnd>) -> Option<ListEnd>
+    requires in_range { index < length objects.now }
+    requires at_most { length objects.now < 2 ^ 32 }
+    requires agrees { HasTail (index + 1) (drop (index + 1) objects.now) next }
     ensures { HasTail index (drop index objects.now) result }
 {
     let object = &objects[index];
     let area = object.area;
     if is_tail(object) {
-        return Some(Tail { area, count: 1 });
+        return Some(ListEnd { area, count: 1 });
     }
     if !is_link(object, index as u64 + 1) {
         return None;
     }
     let count = counted(next, area)?;
-    Some(Tail {
+    Some(ListEnd {
         area,
         count: count + 1,
     })

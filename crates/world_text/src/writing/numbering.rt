@@ -8,15 +8,15 @@ use std::alloc::Global;
 use std::marker::Model;
 use store_word::NoMemory;
 
-/// Keys of objects, each with its place as its number. There are fewer than 2^32.
+/// KeyNumbers of objects, each with its place as its number. There are fewer than 2^32.
 #[derive(Drop)]
-pub struct Keys {
+pub struct KeyNumbers {
     alloc: Global,
     keys: Vec<u64>,
     pages: Vec<Sequence<u32>>,
 }
 
-impl Model for Keys {
+impl Model for KeyNumbers {
     ghost use Rattle.std.specs.Prelude.{ℕ, List, length, ◌<◌, ◌^◌};
     ghost use Rattle.world_text.specs.writing.NumberTable.{HasNumbers};
 
@@ -27,11 +27,11 @@ impl Model for Keys {
     ghost invariant = { λ n. (length n.keys.items < 2 ^ 32) × HasNumbers n.pages.items n.keys.items };
 }
 
-impl Keys {
-    fn new(alloc: Global) -> Keys
+impl KeyNumbers {
+    fn new(alloc: Global) -> KeyNumbers
         ensures { result ≡ [] }
     {
-        Keys {
+        KeyNumbers {
             alloc,
             keys: Vec::new(alloc),
             pages: Vec::new(alloc),
@@ -40,8 +40,8 @@ impl Keys {
 
     /// How many keys there are.
     pub fn len(&self) -> usize
-        ensures is { result ≡ length self.now }
-        ensures small { result < 2 ^ 32 }
+        ensures value { result ≡ length self.now }
+        ensures at_most { result < 2 ^ 32 }
     {
         self.keys.len()
     }
@@ -55,10 +55,10 @@ impl Keys {
 
     /// The key with this number, or None from the length on.
     pub fn key(&self, number: usize) -> Option<u64>
-        ensures is { result ≡ slice_get self.now number }
-        ensures within { IfSome result (λ _. number < 2 ^ 32) }
-        ensures past { IfNone result (length self.now ≤ number) }
-        ensures small { length self.now < 2 ^ 32 }
+        ensures value { result ≡ slice_get self.now number }
+        ensures in_range { IfSome result (λ _. number < 2 ^ 32) }
+        ensures none { IfNone result (length self.now ≤ number) }
+        ensures at_most { length self.now < 2 ^ 32 }
     {
         if number >= self.keys.len() {
             return None;
@@ -68,7 +68,7 @@ impl Keys {
 
     /// The number of the object with this key, or None if it has none.
     pub fn number_of(&self, key: u64) -> Option<usize>
-        ensures is { result ≡ position (λ k. key == k) self.now }
+        ensures value { result ≡ position (λ k. key == k) self.now }
         ensures none { IfNone result (is_numbered self.now key ≡ false) }
     {
         let entry = entry_at(&self.pages, key);
@@ -82,7 +82,7 @@ impl Keys {
     fn add(&mut self, key: u64) -> Result<(), NoMemory>
         requires { is_numbered self.old key ≡ false }
         ensures ok { OnOk result (self.new ≡ self.old ++ key ∷ []) }
-        ensures small { length self.new < 2 ^ 32 }
+        ensures at_most { length self.new < 2 ^ 32 }
     {
         let number = self.keys.len();
         if number >= u32::MAX as usize {
@@ -98,18 +98,18 @@ impl Keys {
 /// The objects that were visited: their keys, and which of them are conses.
 #[derive(Drop)]
 pub struct Numbering {
-    pub keys: Keys,
+    pub keys: KeyNumbers,
     pub conses: Sequence<bool>,
 }
 
 impl Numbering {
     /// The numbering before any object is visited.
     pub fn new(alloc: Global) -> Numbering
-        ensures keys { result.keys ≡ [] }
-        ensures conses { result.conses ≡ [] }
+        ensures empty { result.keys ≡ [] }
+        ensures cells { result.conses ≡ [] }
     {
         Numbering {
-            keys: Keys::new(alloc),
+            keys: KeyNumbers::new(alloc),
             conses: Sequence::new(alloc),
         }
     }
@@ -117,9 +117,9 @@ impl Numbering {
     /// Gives a cons or a block the next number. It fails if memory runs out, and for the 2^32th object.
     pub fn add(&mut self, key: u64, cons: bool) -> Result<(), NoMemory>
         requires { is_numbered self.old.keys key ≡ false }
-        ensures keys { OnOk result (self.new.keys ≡ self.old.keys ++ key ∷ []) }
-        ensures conses { OnOk result (self.new.conses ≡ self.old.conses ++ cons ∷ []) }
-        ensures small { length self.new.keys < 2 ^ 32 }
+        ensures after { OnOk result (self.new.keys ≡ self.old.keys ++ key ∷ []) }
+        ensures cells { OnOk result (self.new.conses ≡ self.old.conses ++ cons ∷ []) }
+        ensures at_most { length self.new.keys < 2 ^ 32 }
     {
         self.keys.add(key)?;
         self.conses.push(cons)

@@ -100,8 +100,8 @@ pub fn kind_text(kind: AreaKind) -> &'static [u8]
 
 /// The name of the area with this number: at most 16 bytes, none if there is no such area.
 pub fn name_of(areas: &[AreaRule], area: u8) -> &[u8]
-    ensures is { result.now ≡ name_of areas.now area }
-    ensures short { length result.now ≤ 16 }
+    ensures value { result.now ≡ name_of areas.now area }
+    ensures at_most { length result.now ≤ 16 }
 {
     match areas.get(usize::from(area)) {
         Some(rule) => rule.name.as_bytes(),

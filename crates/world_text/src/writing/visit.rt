@@ -8,25 +8,25 @@ ghost use Rattle.world_text.specs.writing.Dump.{HasSwapCause};
 ghost use Rattle.world_text.specs.writing.Visits.{AreVisits, IsVisit};
 
 use crate::DumpFault;
-use crate::writing::numbering::{Keys, Numbering};
+use crate::writing::numbering::{KeyNumbers, Numbering};
 use lisp_graph::{Seen, Sequence, Value, Walk};
 use std::alloc::Global;
 use store_word::NoMemory;
 
 /// The objects that were visited, and the cdr of each cons among them as the walk showed it; for a block, nil.
 #[derive(Drop)]
-pub struct Visits {
+pub struct VisitedObjects {
     pub numbering: Numbering,
     pub cdrs: Sequence<Seen>,
 }
 
-impl Visits {
+impl VisitedObjects {
     /// The visits before any object is visited.
-    pub fn new(alloc: Global) -> Visits
-        ensures keys { result.numbering.keys ≡ [] }
-        ensures visits { (graph : KeyedGraph) → AreVisits graph result }
+    pub fn new(alloc: Global) -> VisitedObjects
+        ensures empty { result.numbering.keys ≡ [] }
+        ensures sound { (graph : KeyedGraph) → AreVisits graph result }
     {
-        Visits {
+        VisitedObjects {
             numbering: Numbering::new(alloc),
             cdrs: Sequence::new(alloc),
         }
@@ -34,7 +34,7 @@ impl Visits {
 }
 
 /// The cons to which the value refers, if it has no number yet.
-fn next_cons(keys: &Keys, value: Seen) -> Option<u64>
+fn next_cons(keys: &KeyNumbers, value: Seen) -> Option<u64>
     ensures { result ≡ next_cons keys.now value }
 {
     match value {
@@ -44,13 +44,13 @@ fn next_cons(keys: &Keys, value: Seen) -> Option<u64>
 }
 
 /// Gives the next numbers to a cons and to the conses along its cdrs, up to the first that has a number.
-fn chain<W: Walk>(walk: &mut W, visits: &mut Visits, key: u64) -> Result<(), DumpFault>
+fn chain<W: Walk>(walk: &mut W, visits: &mut VisitedObjects, key: u64) -> Result<(), DumpFault>
     requires shows { Shows (W.graph walk.old) (a_cons key) }
     requires fresh { is_numbered visits.old.numbering.keys key ≡ false }
     requires visits { AreVisits (W.graph walk.old) visits.old }
     ensures ok { OnOk result (Chained (W.graph walk.old) visits.old.numbering.keys key visits.new.numbering.keys) }
-    ensures visits { OnOk result (AreVisits (W.graph walk.old) visits.new) }
-    ensures same { W.graph walk.new ≡ W.graph walk.old }
+    ensures sound { OnOk result (AreVisits (W.graph walk.old) visits.new) }
+    ensures unchanged { W.graph walk.new ≡ W.graph walk.old }
     ensures cause { HasSwapCause (W.faults walk.old) (W.faults walk.new) result }
 {
     let mut key = key;
@@ -66,11 +66,15 @@ fn chain<W: Walk>(walk: &mut W, visits: &mut Visits, key: u64) -> Result<(), Dum
 }
 
 /// The number of a cons, which gets the next one if it has none.
-fn cons_number<W: Walk>(walk: &mut W, visits: &mut Visits, key: u64) -> Result<u64, DumpFault>
+fn cons_number<W: Walk>(
+    walk: &mut W,
+    visits: &mut VisitedObjects,
+    key: u64,
+) -> Result<u64, DumpFault>
     requires shows { Shows (W.graph walk.old) (a_cons key) }
     requires visits { AreVisits (W.graph walk.old) visits.old }
-    ensures is { IfOk result (λ number. IsVisit (W.graph walk.old) (a_cons key) visits.old visits.new (a_ref number)) }
-    ensures same { W.graph walk.new ≡ W.graph walk.old }
+    ensures value { IfOk result (λ number. IsVisit (W.graph walk.old) (a_cons key) visits.old visits.new (a_ref number)) }
+    ensures unchanged { W.graph walk.new ≡ W.graph walk.old }
     ensures cause { HasSwapCause (W.faults walk.old) (W.faults walk.new) result }
 {
     if let Some(number) = visits.numbering.keys.number_of(key) {
@@ -82,7 +86,7 @@ fn cons_number<W: Walk>(walk: &mut W, visits: &mut Visits, key: u64) -> Result<u
 }
 
 /// The number of a block, which gets the next one if it has none.
-fn block_number(visits: &mut Visits, key: u64) -> Result<u64, NoMemory>
+fn block_number(visits: &mut VisitedObjects, key: u64) -> Result<u64, NoMemory>
     ensures { (graph : KeyedGraph) → Shows graph (a_block key) → AreVisits graph visits.old → IfOk result (λ number. IsVisit graph (a_block key) visits.old visits.new (a_ref number)) }
 {
     if let Some(number) = visits.numbering.keys.number_of(key) {
@@ -94,12 +98,16 @@ fn block_number(visits: &mut Visits, key: u64) -> Result<u64, NoMemory>
     Ok(number as u64)
 }
 
-/// Visits a value; the result has the number of the object to which it refers.
-pub fn visit<W: Walk>(walk: &mut W, visits: &mut Visits, seen: Seen) -> Result<Value, DumpFault>
+/// VisitedObjects a value; the result has the number of the object to which it refers.
+pub fn visit<W: Walk>(
+    walk: &mut W,
+    visits: &mut VisitedObjects,
+    seen: Seen,
+) -> Result<Value, DumpFault>
     requires shows { Shows (W.graph walk.old) seen }
     requires visits { AreVisits (W.graph walk.old) visits.old }
-    ensures is { IfOk result (λ value. IsVisit (W.graph walk.old) seen visits.old visits.new value) }
-    ensures same { W.graph walk.new ≡ W.graph walk.old }
+    ensures value { IfOk result (λ value. IsVisit (W.graph walk.old) seen visits.old visits.new value) }
+    ensures unchanged { W.graph walk.new ≡ W.graph walk.old }
     ensures cause { HasSwapCause (W.faults walk.old) (W.faults walk.new) result }
 {
     match seen {

@@ -11,18 +11,18 @@ returns-in-Err-clause-ran g c =
     let answers = Answers D.bytes D.space D.images D.clock D.images_since D.faults D.changes c.args.disk.now c.args.disk.now in
     let none = answers_of D.bytes D.space D.images D.clock D.images_since D.faults D.changes g.met.D.BandDisk.only_now c.args.disk.now c.args.disk.now store_specs.closed [] [] []
     (going_start D.bytes D.space D.images D.clock D.images_since D.faults D.changes g.met.D.BandDisk.only_now c.args.disk.now store_specs.closed refl) in
-    let read = c.in-Err.ensures.was_read in
-    ran_all answers c.report.result (Err c.in-Err.trouble) read (told answers _ read.i read.b c.in-Err.trouble c.report.result read.reads c.in-Err.ensures.read none c.report.ensures.wrote)
+    let read = c.in-Err.ensures.judged in
+    ran_all answers c.report.result (Err c.in-Err.trouble) read (told answers _ read.i read.b c.in-Err.trouble c.report.result read.reads c.in-Err.ensures.read none c.report.ensures.written)
 
 pub returns-in-Ok-clause-ran : goal.returns-in-Ok-clause-ran
 returns-in-Ok-clause-ran g c =
     let D = g.D.BandDisk in
     let answers = Answers D.bytes D.space D.images D.clock D.images_since D.faults D.changes c.args.disk.now c.answer_commands.new.disk in
-    let read = c.in-Ok.ensures.was_read in
+    let read = c.in-Ok.ensures.judged in
     ran_all answers c.answer_commands.result (Ok c.in-Ok.commands) read (writes_as {P = ⊥} answers read.i read.b c.answer_commands.result (λ e. absurd e) (c.answer_commands.ensures.ran read.i read.b read.reads))
 
 pub returns-in-Ok-clause-read : goal.returns-in-Ok-clause-read
 returns-in-Ok-clause-read g c = runs_unread c.answer_commands.result _ c.answer_commands.ensures.runs
 
-pub returns-in-Ok-clause-untouched : goal.returns-in-Ok-clause-untouched
-returns-in-Ok-clause-untouched g c = runs_off c.answer_commands.result _ c.answer_commands.ensures.runs
+pub returns-in-Ok-clause-unchanged : goal.returns-in-Ok-clause-unchanged
+returns-in-Ok-clause-unchanged g c = runs_off c.answer_commands.result _ c.answer_commands.ensures.runs

@@ -23,9 +23,9 @@ loop-command-init g c =
     let D = g.D.BandDisk in
     record {
       text = [];
-      gathered = subst (λ (p : List ℕ). Gathered (g.K.Sink.stands c.args.sink.now) (g.K.Sink.stands c.args.sink.now) p []) (sym c.requires.pending) (gathered_nothing []);
-      going = going_start D.bytes D.space D.images D.clock D.images_since D.faults D.changes g.met.D.BandDisk.only_now c.args.disk.now c.args.store.now c.requires.closed;
-      usable = λ is. absurd (let off = ap (λ s. s.opened) c.requires.closed in cc);
+      gathered = subst (λ (p : List ℕ). Gathered (g.K.Sink.stands c.args.sink.now) (g.K.Sink.stands c.args.sink.now) p []) (sym c.requires.empty) (gathered_nothing []);
+      going = going_start D.bytes D.space D.images D.clock D.images_since D.faults D.changes g.met.D.BandDisk.only_now c.args.disk.now c.args.store.now c.requires.fresh;
+      usable = λ is. absurd (let off = ap (λ s. s.opened) c.requires.fresh in cc);
       sink = refl;
     }
 
@@ -35,12 +35,12 @@ loop-command-preserved g c =
     let inv = c.loop-command.invariant in
     let e = c.in_ok-act.ensures in
     record {
-      text = inv.text ++ reply_text e.acted.0;
-      gathered = gathered_more (reply_text e.acted.0) inv.gathered e.acted.3;
-      going = subst (λ (done : List BandCommand). GoesOnAnyway D.bytes D.space D.images D.clock D.images_since D.faults D.changes c.args.disk.now c.act.new.disk c.act.new.store done (inv.text ++ reply_text e.acted.0)) (sym (next_done c.args.commands.now c.loop-command.command-index c.command-item.result (search rules) c.command-item.is))
-          (going_more D.bytes D.space D.images D.clock D.images_since D.faults D.changes g.met.D.BandDisk.only_now c.args.disk.now c.loop-command.disk c.act.new.disk c.loop-command.store (take c.loop-command.command-index c.args.commands.now) inv.text inv.going c.command-item.result c.act.new.store e.acted.0 e.acted.1 e.later_disk e.acted.2 e.acted.4 e.acted.5);
-      usable = e.usable;
-      sink = e.quiet (λ is. cc (is)) ∙ inv.sink;
+      text = inv.text ++ reply_text e.did.0;
+      gathered = gathered_more (reply_text e.did.0) inv.gathered e.did.3;
+      going = subst (λ (done : List BandCommand). GoesOnAnyway D.bytes D.space D.images D.clock D.images_since D.faults D.changes c.args.disk.now c.act.new.disk c.act.new.store done (inv.text ++ reply_text e.did.0)) (sym (next_done c.args.commands.now c.loop-command.command-index c.command-item.result (search rules) c.command-item.is))
+          (going_more D.bytes D.space D.images D.clock D.images_since D.faults D.changes g.met.D.BandDisk.only_now c.args.disk.now c.loop-command.disk c.act.new.disk c.loop-command.store (take c.loop-command.command-index c.args.commands.now) inv.text inv.going c.command-item.result c.act.new.store e.did.0 e.did.1 e.device_never_falls e.did.2 e.did.4 e.did.5);
+      usable = e.sound;
+      sink = e.no_fault (λ is. cc (is)) ∙ inv.sink;
     }
 
 pub returns-in_err-act-clause-ran : goal.returns-in_err-act-clause-ran
@@ -51,4 +51,4 @@ returns-in_err-act-clause-ran g c =
     let q = err_from_is_err_and c.from_residual.result c.from_residual.ensures.1 in
     let split = next_later c.args.commands.now c.loop-command.command-index c.command-item.result (search rules) c.command-item.is in
     rw (q.1, q.2) (ran_stopped D.bytes D.space D.images D.clock D.images_since D.faults D.changes g.met.D.BandDisk.only_now (g.K.Sink.stands c.args.sink.now) (g.K.Sink.stands c.loop-command.sink) (g.K.Sink.stands c.act.new.sink) c.loop-command.buffer.pending c.act.new.buffer.pending c.args.disk.now c.loop-command.disk c.act.new.disk
-    c.loop-command.store c.act.new.store c.args.commands.now (take c.loop-command.command-index c.args.commands.now) (drop (c.loop-command.command-index + 1) c.args.commands.now) c.command-item.result inv.text c.in_err-act.field-0.0 split inv.going inv.gathered e.later_disk e.acted)
+    c.loop-command.store c.act.new.store c.args.commands.now (take c.loop-command.command-index c.args.commands.now) (drop (c.loop-command.command-index + 1) c.args.commands.now) c.command-item.result inv.text c.in_err-act.field-0.0 split inv.going inv.gathered e.device_never_falls e.did)

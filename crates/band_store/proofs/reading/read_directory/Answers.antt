@@ -6,7 +6,7 @@ use Rattle.band_store.proofs.reading.read_directory.Goals as goal
 
 pub records-init : goal.records-init
 records-init g c = record {
-  walked = walk_first (g.D.BandDisk.bytes c.args.disk.now) c.args.bands.now.items (c.in_ok-has_header.ensures.yes c.if-not-branch.false) c.requires;
+  walked = walk_first (g.D.BandDisk.bytes c.args.disk.now) c.args.bands.now.items (c.in_ok-has_header.ensures.on_true c.if-not-branch.false) c.requires;
   reads = c.has_header.ensures.reads;
   quiet = c.in_ok-has_header.ensures.cause.quiet;
   changes = c.has_header.ensures.changes;
@@ -21,12 +21,12 @@ gate_at-requires g c =
 pub returns-in-Shut-clause-read : goal.returns-in-Shut-clause-read
 returns-in-Shut-clause-read g c =
     let l = c.records in
-    walk_shut (g.D.BandDisk.bytes c.args.disk.now) l.bands.items l.gate l.invariant.walked (found_at l.gate _ _ _ _ l.invariant.reads.bytes_stay c.in_ok-gate_at.ensures.gate c.in-Shut.is)
+    walk_shut (g.D.BandDisk.bytes c.args.disk.now) l.bands.items l.gate l.invariant.walked (found_at l.gate _ _ _ _ l.invariant.reads.bytes_stay c.in_ok-gate_at.ensures.ok c.in-Shut.is)
 
 pub returns-in-Broken-clause-refused : goal.returns-in-Broken-clause-refused
 returns-in-Broken-clause-refused g c =
     let l = c.records in
-    walk_broken (g.D.BandDisk.bytes c.args.disk.now) l.bands.items l.gate l.invariant.walked (found_at l.gate _ _ _ _ l.invariant.reads.bytes_stay c.in_ok-gate_at.ensures.gate c.in-Broken.is)
+    walk_broken (g.D.BandDisk.bytes c.args.disk.now) l.bands.items l.gate l.invariant.walked (found_at l.gate _ _ _ _ l.invariant.reads.bytes_stay c.in_ok-gate_at.ensures.ok c.in-Broken.is)
 
 pub put_name-requires : goal.put_name-requires
 put_name-requires g c =
@@ -37,7 +37,7 @@ put_name-requires g c =
 pub overflow_add-at : goal.overflow_add-at
 overflow_add-at g c =
     let l = c.records in
-    let here : IsRecordAt c.in-Record.name c.in-Record.size (drop l.gate (g.D.BandDisk.bytes c.args.disk.now)) = found_at l.gate _ _ _ _ l.invariant.reads.bytes_stay c.in_ok-gate_at.ensures.gate c.in-Record.is in
+    let here : IsRecordAt c.in-Record.name c.in-Record.size (drop l.gate (g.D.BandDisk.bytes c.args.disk.now)) = found_at l.gate _ _ _ _ l.invariant.reads.bytes_stay c.in_ok-gate_at.ensures.ok c.in-Record.is in
     let fits = walk_fits (g.D.BandDisk.bytes c.args.disk.now) l.bands.items l.gate l.invariant.walked c.in-Record.name c.in-Record.size here in
     let size = ap length l.invariant.reads.bytes_stay in
     omega (arith, c.gate_at.ensures.fits)
@@ -45,7 +45,7 @@ overflow_add-at g c =
 pub overflow_add-at-in-Record : goal.overflow_add-at-in-Record
 overflow_add-at-in-Record g c =
     let l = c.records in
-    let here : IsRecordAt c.in-Record.name c.in-Record.size (drop l.gate (g.D.BandDisk.bytes c.args.disk.now)) = found_at l.gate _ _ _ _ l.invariant.reads.bytes_stay c.in_ok-gate_at.ensures.gate c.in-Record.is in
+    let here : IsRecordAt c.in-Record.name c.in-Record.size (drop l.gate (g.D.BandDisk.bytes c.args.disk.now)) = found_at l.gate _ _ _ _ l.invariant.reads.bytes_stay c.in_ok-gate_at.ensures.ok c.in-Record.is in
     let fits = walk_fits (g.D.BandDisk.bytes c.args.disk.now) l.bands.items l.gate l.invariant.walked c.in-Record.name c.in-Record.size here in
     let size = ap length l.invariant.reads.bytes_stay in
     omega (arith, c.gate_at.ensures.fits, c.len.ensures)
@@ -53,7 +53,7 @@ overflow_add-at-in-Record g c =
 pub overflow_add-gate : goal.overflow_add-gate
 overflow_add-gate g c =
     let l = c.records in
-    let here : IsRecordAt c.in-Record.name c.in-Record.size (drop l.gate (g.D.BandDisk.bytes c.args.disk.now)) = found_at l.gate _ _ _ _ l.invariant.reads.bytes_stay c.in_ok-gate_at.ensures.gate c.in-Record.is in
+    let here : IsRecordAt c.in-Record.name c.in-Record.size (drop l.gate (g.D.BandDisk.bytes c.args.disk.now)) = found_at l.gate _ _ _ _ l.invariant.reads.bytes_stay c.in_ok-gate_at.ensures.ok c.in-Record.is in
     let fits = walk_fits (g.D.BandDisk.bytes c.args.disk.now) l.bands.items l.gate l.invariant.walked c.in-Record.name c.in-Record.size here in
     let size = ap length l.invariant.reads.bytes_stay in
     omega (arith, c.gate_at.ensures.fits, c.len.ensures, c.from.ensures)
@@ -61,7 +61,7 @@ overflow_add-gate g c =
 pub records-preserved : goal.records-preserved
 records-preserved g c =
     let l = c.records in
-    let here : IsRecordAt c.in-Record.name c.in-Record.size (drop l.gate (g.D.BandDisk.bytes c.args.disk.now)) = found_at l.gate _ _ _ _ l.invariant.reads.bytes_stay c.in_ok-gate_at.ensures.gate c.in-Record.is in
+    let here : IsRecordAt c.in-Record.name c.in-Record.size (drop l.gate (g.D.BandDisk.bytes c.args.disk.now)) = found_at l.gate _ _ _ _ l.invariant.reads.bytes_stay c.in_ok-gate_at.ensures.ok c.in-Record.is in
     let at = l.gate + 6 + c.len.result in
     let walked = walk_more (g.D.BandDisk.bytes c.args.disk.now) l.bands.items l.gate l.invariant.walked c.put_name.new.bands.items c.in-Record.name c.in-Record.size at here (ap (λ n. l.gate + 6 + n) c.len.ensures)
     c.in_ok-put_name-in-Record.ensures.ok in

@@ -9,10 +9,10 @@ returns-in_err-write_through-2-clause-any_moment g c =
     record_moments g.D.BandDisk.clock g.D.BandDisk.images_since c.args.disk.now c.write_through.new.disk c.write_through-2.new.disk c.args.gate c.args.bytes.now (g.D.BandDisk.bytes c.args.disk.now) (g.D.BandDisk.bytes c.write_through.new.disk)
     c.requires.place c.in_ok-write_through.ensures.written c.in_ok-write_through.ensures.any_moment c.write_through-2.ensures.any_moment
 
-pub returns-in_err-write_through-2-clause-now : goal.returns-in_err-write_through-2-clause-now
-returns-in_err-write_through-2-clause-now g c image now =
+pub returns-in_err-write_through-2-clause-images : goal.returns-in_err-write_through-2-clause-images
+returns-in_err-write_through-2-clause-images g c image now =
     let old = g.D.BandDisk.bytes c.args.disk.now in
-    torn_gate c.args.gate c.args.bytes.now old c.requires.place image (subst (λ (b : List ℕ). Torn c.args.gate 1 b image) c.in_ok-write_through.ensures.written (c.write_through-2.ensures.now image now))
+    torn_gate c.args.gate c.args.bytes.now old c.requires.place image (subst (λ (b : List ℕ). Torn c.args.gate 1 b image) c.in_ok-write_through.ensures.written (c.write_through-2.ensures.images image now))
 
 pub returns-clause-any_moment : goal.returns-clause-any_moment
 returns-clause-any_moment g c =

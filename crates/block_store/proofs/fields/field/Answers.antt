@@ -21,74 +21,74 @@ returns-in_err-at-clause-no_field g c = λ count e. lack_tells _ c.args.ground.n
     (c.in_err-at.ensures.no_field count (let was = c.in_err-at.was in let from = c.from_residual.ensures in let branch = c.branch-at.ensures in let is = c.in_err-at.is in grind arith))
 
 pub returns-in_err-at-clause-fault : goal.returns-in_err-at-clause-fault
-returns-in_err-at-clause-fault g c = on-err c.from_residual.result (reads_block _ _ c.args.ground.now.table c.args.of.content c.in_err-at.ensures.stays)
+returns-in_err-at-clause-fault g c = on-err c.from_residual.result (reads_block _ _ c.args.ground.now.table c.args.of.content c.in_err-at.ensures.unchanged)
 
-pub fetch-requires-clause-live : goal.fetch-requires-clause-live
-fetch-requires-clause-live g c = let at = c.in_ok-at.ensures in field_is_live _ _ _ c.args.of c.args.index c.in_ok-at.at c.requires at.place at.stays
+pub fetch-requires-clause-in_range : goal.fetch-requires-clause-in_range
+fetch-requires-clause-in_range g c = let at = c.in_ok-at.ensures in field_is_live _ _ _ c.args.of c.args.index c.in_ok-at.at c.requires at.place at.unchanged
 
-pub fetch-requires-clause-word : goal.fetch-requires-clause-word
-fetch-requires-clause-word g c = let at = c.in_ok-at.ensures in field_is_settleable _ _ _ c.args.of c.args.index c.in_ok-at.at c.requires at.place at.stays
+pub fetch-requires-clause-can : goal.fetch-requires-clause-can
+fetch-requires-clause-can g c = let at = c.in_ok-at.ensures in field_is_settleable _ _ _ c.args.of c.args.index c.in_ok-at.at c.requires at.place at.unchanged
 
 pub returns-in_err-word-clause-fault : goal.returns-in_err-word-clause-fault
 returns-in_err-word-clause-fault g c =
     let at = c.in_ok-at.ensures in
-    on-err c.from_residual-in_err-word.result (field_faulted _ c.args.ground.now.table c.args.of.content c.args.index c.in_ok-at.at at.place _ at.stays _ _ c.in_err-word.ensures.fault)
+    on-err c.from_residual-in_err-word.result (field_faulted _ c.args.ground.now.table c.args.of.content c.args.index c.in_ok-at.at at.place _ at.unchanged _ _ c.in_err-word.ensures.fault)
 
-pub returns-clause-field : goal.returns-clause-field
-returns-clause-field g c =
+pub returns-clause-value : goal.returns-clause-value
+returns-clause-value g c =
     let at = c.in_ok-at.ensures in
-    field_fetched _ c.args.ground.now.table c.args.of.content c.args.index c.in_ok-at.at at.place _ at.stays _ _ c.in_ok-word.word c.with_cdr.result c.in_ok-word.ensures.settles (ap (λ (w : Parts). w.content) c.with_cdr.ensures)
+    field_fetched _ c.args.ground.now.table c.args.of.content c.args.index c.in_ok-at.at at.place _ at.unchanged _ _ c.in_ok-word.word c.with_cdr.result c.in_ok-word.ensures.settles (ap (λ (w : Parts). w.content) c.with_cdr.ensures)
 
 pub returns-clause-written : goal.returns-clause-written
 returns-clause-written g c =
     let at = c.in_ok-at.ensures in
     let word = c.in_ok-word.ensures in
-    field_settled _ _ _ _ _ c.args.of.content c.args.index c.in_ok-at.at at.place c.in_ok-word.word _ at.stays word.word word.written word.others (ap (λ (w : Parts). w.content) c.with_cdr.ensures)
+    field_settled _ _ _ _ _ c.args.of.content c.args.index c.in_ok-at.at at.place c.in_ok-word.word _ at.unchanged word.word word.written word.registers (ap (λ (w : Parts). w.content) c.with_cdr.ensures)
 
-pub returns-clause-inside : goal.returns-clause-inside
-returns-clause-inside g c = place_tells _ c.args.ground.now.table c.args.of.content c.args.index c.in_ok-at.at c.in_ok-at.ensures.place
+pub returns-clause-in_range : goal.returns-clause-in_range
+returns-clause-in_range g c = place_tells _ c.args.ground.now.table c.args.of.content c.args.index c.in_ok-at.at c.in_ok-at.ensures.place
 
 pub returns-in_err-at-clause-grows : goal.returns-in_err-at-clause-grows
-returns-in_err-at-clause-grows g c = (live-read {t = c.args.ground.now.table} c.in_err-at.ensures.stays).table
+returns-in_err-at-clause-grows g c = (live-read {t = c.args.ground.now.table} c.in_err-at.ensures.unchanged).table
 
 pub returns-in_err-word-clause-grows : goal.returns-in_err-word-clause-grows
 returns-in_err-word-clause-grows g c = c.in_err-word.ensures.live.table
 
 pub returns-clause-grows : goal.returns-clause-grows
-returns-clause-grows g c = c.in_ok-word.ensures.others.table
+returns-clause-grows g c = c.in_ok-word.ensures.registers.table
 
-pub returns-in_err-word-clause-keeps : goal.returns-in_err-word-clause-keeps
-returns-in_err-word-clause-keeps g c =
+pub returns-in_err-word-clause-stays_ground : goal.returns-in_err-word-clause-stays_ground
+returns-in_err-word-clause-stays_ground g c =
     let at = c.in_ok-at.ensures in
     let word = c.in_err-word.ensures in
-    let live = field_is_live _ _ _ c.args.of c.args.index c.in_ok-at.at c.requires at.place at.stays in
-    fetched-keeps _ _ _ _ at.stays word.table word.moves word.preserves word.marks
-    (λ all. let there = read-stays_fresh c.args.ground.now.table at.stays all in word.stays_fresh (fresh-young c.args.ground.now.table (word_at (g.M.Memory.seen c.find_field.new.mem).words c.in_ok-at.at) (there c.in_ok-at.at live)) there)
+    let live = field_is_live _ _ _ c.args.of c.args.index c.in_ok-at.at c.requires at.place at.unchanged in
+    fetched-keeps _ _ _ _ at.unchanged word.table word.moves word.preserves word.marks
+    (λ all. let there = read-stays_fresh c.args.ground.now.table at.unchanged all in word.stays_fresh (fresh-young c.args.ground.now.table (word_at (g.M.Memory.seen c.find_field.new.mem).words c.in_ok-at.at) (there c.in_ok-at.at live)) there)
 
-pub returns-clause-keeps : goal.returns-clause-keeps
-returns-clause-keeps g c =
+pub returns-clause-stays_ground : goal.returns-clause-stays_ground
+returns-clause-stays_ground g c =
     let at = c.in_ok-at.ensures in
     let word = c.in_ok-word.ensures in
-    let live = field_is_live _ _ _ c.args.of c.args.index c.in_ok-at.at c.requires at.place at.stays in
-    fetched-keeps _ _ _ _ at.stays word.table word.moves word.preserves word.marks
-    (λ all. let there = read-stays_fresh c.args.ground.now.table at.stays all in word.stays_fresh (fresh-young c.args.ground.now.table (word_at (g.M.Memory.seen c.find_field.new.mem).words c.in_ok-at.at) (there c.in_ok-at.at live)) there)
+    let live = field_is_live _ _ _ c.args.of c.args.index c.in_ok-at.at c.requires at.place at.unchanged in
+    fetched-keeps _ _ _ _ at.unchanged word.table word.moves word.preserves word.marks
+    (λ all. let there = read-stays_fresh c.args.ground.now.table at.unchanged all in word.stays_fresh (fresh-young c.args.ground.now.table (word_at (g.M.Memory.seen c.find_field.new.mem).words c.in_ok-at.at) (there c.in_ok-at.at live)) there)
 
-pub returns-clause-tells : goal.returns-clause-tells
-returns-clause-tells g c = answers (quiet-twice (answered-if c.in_ok-at.ensures.tells) (answered c.in_ok-word.word c.in_ok-word.ensures.tells))
+pub returns-clause-accounted : goal.returns-clause-accounted
+returns-clause-accounted g c = answers (quiet-twice (answered-if c.in_ok-at.ensures.accounted) (answered c.in_ok-word.word c.in_ok-word.ensures.accounted))
 
 pub returns-clause-words : goal.returns-clause-words
 returns-clause-words g c =
     let at = c.in_ok-at.ensures in
-    field_moved _ _ _ c.args.ground.now.table _ c.args.of.content c.args.index c.in_ok-at.at at.place at.stays c.in_ok-word.ensures.words
+    field_moved _ _ _ c.args.ground.now.table _ c.args.of.content c.args.index c.in_ok-at.at at.place at.unchanged c.in_ok-word.ensures.words
 
-pub returns-in_err-word-clause-tells : goal.returns-in_err-word-clause-tells
-returns-in_err-word-clause-tells g c =
+pub returns-in_err-word-clause-accounted : goal.returns-in_err-word-clause-accounted
+returns-in_err-word-clause-accounted g c =
     let is : is_fault c.from_residual-in_err-word.result ≡ true =
     (let was = c.in_err-word.was in let from = c.from_residual-in_err-word.ensures in let branch = c.branch-word.ensures in let is = c.in_err-word.is in grind arith) in
-    quiet-then_fault c.in_err-word.field-0.0 (answered-if c.in_ok-at.ensures.tells) c.in_err-word.ensures.tells _ is
+    quiet-then_fault c.in_err-word.field-0.0 (answered-if c.in_ok-at.ensures.accounted) c.in_err-word.ensures.accounted _ is
 
-pub returns-in_err-at-clause-keeps : goal.returns-in_err-at-clause-keeps
-returns-in_err-at-clause-keeps g c = read-keeps _ _ c.args.ground.now.table c.in_err-at.ensures.stays
+pub returns-in_err-at-clause-stays_ground : goal.returns-in_err-at-clause-stays_ground
+returns-in_err-at-clause-stays_ground g c = read-keeps _ _ c.args.ground.now.table c.in_err-at.ensures.unchanged
 
 pub returns-in_err-at-clause-costs : goal.returns-in_err-at-clause-costs
 returns-in_err-at-clause-costs g c = let at = c.in_err-at.ensures.cost in read-costs _ _ _ _ _ 61 refl (omega arith)
@@ -97,7 +97,7 @@ pub returns-clause-costs : goal.returns-clause-costs
 returns-clause-costs g c =
     let at = c.in_ok-at.ensures.cost in
     let word = c.in_ok-word.ensures in
-    fetched-costs _ _ _ c.find_field.new.steps _ _ 61 (omega arith) word.few (λ calm. word.cost) word.most
+    fetched-costs _ _ _ c.find_field.new.steps _ _ 61 (omega arith) word.at_most (λ calm. word.cost) word.cost_at_most
 
 pub returns-in_err-word-clause-costs : goal.returns-in_err-word-clause-costs
 returns-in_err-word-clause-costs g c =
@@ -105,4 +105,4 @@ returns-in_err-word-clause-costs g c =
     (let was = c.in_err-word.was in let from = c.from_residual-in_err-word.ensures in let branch = c.branch-word.ensures in let is = c.in_err-word.is in grind arith) in
     let at = c.in_ok-at.ensures.cost in
     let word = c.in_err-word.ensures in
-    fetched-costs _ _ _ c.find_field.new.steps _ _ 61 (omega arith) word.few (λ calm. let both = sym is ∙ calm in absurd cc) word.most
+    fetched-costs _ _ _ c.find_field.new.steps _ _ 61 (omega arith) word.at_most (λ calm. let both = sym is ∙ calm in absurd cc) word.cost_at_most

@@ -8,7 +8,7 @@ use Rattle.block_store.proofs.Finding.{can_find}
 use Rattle.block_store.proofs.Stored.{field_set, field_preserves, field_written, lack_tells, place_tells, set_meaning}
 use Rattle.block_store.specs.Faults.{is_fault}
 use Rattle.mem_port.proofs.Telling.{answered-if, answers, quiet-then_fault, quiet-twice, size-kept}
-use Rattle.mem_port.specs.View.{Quiet, shown}
+use Rattle.mem_port.specs.View.{WithoutFault, shown}
 use Rattle.transporter.proofs.Marked.{marks-but, marks-read}
 use Rattle.block_store.proofs.Marked.{field_marks}
 use Rattle.transporter.proofs.Moving.{read-writes, writes-moves}
@@ -26,104 +26,104 @@ pub returns-clause-set : goal.returns-clause-set
 returns-clause-set g c =
     let at = c.in_ok-at.ensures in
     let read = c.in_ok-old.ensures in
-    let found = ap (λ (ws : List Parts). slice_get ws c.in_ok-at.at) read.stays.words ∙ read.value in
+    let found = ap (λ (ws : List Parts). slice_get ws c.in_ok-at.at) read.unchanged.words ∙ read.value in
     let is = c.with_cdr.ensures ∙ ap (λ (code : CdrCode). record c.args.value { cdr = code }) c.cdr_code.ensures in
-    field_set _ _ _ c.args.ground.now.table c.args.of.content c.args.index c.in_ok-at.at at.place (stores_nothing-twice at.stays read.stays) c.in_ok-old.old c.with_cdr.result c.args.value found is c.in_ok-write.ensures.ok
+    field_set _ _ _ c.args.ground.now.table c.args.of.content c.args.index c.in_ok-at.at at.place (stores_nothing-twice at.unchanged read.unchanged) c.in_ok-old.old c.with_cdr.result c.args.value found is c.in_ok-write.ensures.ok
 
 pub returns-clause-written : goal.returns-clause-written
 returns-clause-written g c =
     let at = c.in_ok-at.ensures in
     let read = c.in_ok-old.ensures in
-    let found = ap (λ (ws : List Parts). slice_get ws c.in_ok-at.at) read.stays.words ∙ read.value in
+    let found = ap (λ (ws : List Parts). slice_get ws c.in_ok-at.at) read.unchanged.words ∙ read.value in
     let is = c.with_cdr.ensures ∙ ap (λ (code : CdrCode). record c.args.value { cdr = code }) c.cdr_code.ensures in
-    field_written _ _ _ c.args.ground.now.table c.args.of.content c.args.index c.in_ok-at.at at.place (stores_nothing-twice at.stays read.stays) c.in_ok-old.old c.with_cdr.result c.args.value found is c.in_ok-write.ensures.ok
+    field_written _ _ _ c.args.ground.now.table c.args.of.content c.args.index c.in_ok-at.at at.place (stores_nothing-twice at.unchanged read.unchanged) c.in_ok-old.old c.with_cdr.result c.args.value found is c.in_ok-write.ensures.ok
 
-pub returns-clause-inside : goal.returns-clause-inside
-returns-clause-inside g c = place_tells _ c.args.ground.now.table c.args.of.content c.args.index c.in_ok-at.at c.in_ok-at.ensures.place
+pub returns-clause-in_range : goal.returns-clause-in_range
+returns-clause-in_range g c = place_tells _ c.args.ground.now.table c.args.of.content c.args.index c.in_ok-at.at c.in_ok-at.ensures.place
 
 pub returns-in_err-old-clause-preserves : goal.returns-in_err-old-clause-preserves
-returns-in_err-old-clause-preserves g c = read-preserves c.args.ground.now.table (stores_nothing-twice c.in_ok-at.ensures.stays c.in_err-old.ensures.stays)
+returns-in_err-old-clause-preserves g c = read-preserves c.args.ground.now.table (stores_nothing-twice c.in_ok-at.ensures.unchanged c.in_err-old.ensures.unchanged)
 
 pub returns-in_err-old-clause-stays_fresh : goal.returns-in_err-old-clause-stays_fresh
-returns-in_err-old-clause-stays_fresh g c = read-stays_fresh c.args.ground.now.table (stores_nothing-twice c.in_ok-at.ensures.stays c.in_err-old.ensures.stays)
+returns-in_err-old-clause-stays_fresh g c = read-stays_fresh c.args.ground.now.table (stores_nothing-twice c.in_ok-at.ensures.unchanged c.in_err-old.ensures.unchanged)
 
 pub returns-in_err-write-clause-preserves : goal.returns-in_err-write-clause-preserves
-returns-in_err-write-clause-preserves g c = read-preserves c.args.ground.now.table (stores_nothing-twice (stores_nothing-twice c.in_ok-at.ensures.stays c.in_ok-old.ensures.stays) c.in_err-write.ensures.err)
+returns-in_err-write-clause-preserves g c = read-preserves c.args.ground.now.table (stores_nothing-twice (stores_nothing-twice c.in_ok-at.ensures.unchanged c.in_ok-old.ensures.unchanged) c.in_err-write.ensures.err)
 
 pub returns-in_err-write-clause-stays_fresh : goal.returns-in_err-write-clause-stays_fresh
-returns-in_err-write-clause-stays_fresh g c = read-stays_fresh c.args.ground.now.table (stores_nothing-twice (stores_nothing-twice c.in_ok-at.ensures.stays c.in_ok-old.ensures.stays) c.in_err-write.ensures.err)
+returns-in_err-write-clause-stays_fresh g c = read-stays_fresh c.args.ground.now.table (stores_nothing-twice (stores_nothing-twice c.in_ok-at.ensures.unchanged c.in_ok-old.ensures.unchanged) c.in_err-write.ensures.err)
 
 pub returns-clause-preserves : goal.returns-clause-preserves
 returns-clause-preserves g c =
     let at = c.in_ok-at.ensures in
-    field_preserves _ _ _ c.args.ground.now.table c.args.of.content c.args.index c.in_ok-at.at c.args.value c.requires at.place (stores_nothing-twice at.stays c.in_ok-old.ensures.stays) c.with_cdr.result (ap (λ (w : Parts). w.content) c.with_cdr.ensures) c.in_ok-write.ensures.ok
+    field_preserves _ _ _ c.args.ground.now.table c.args.of.content c.args.index c.in_ok-at.at c.args.value c.requires at.place (stores_nothing-twice at.unchanged c.in_ok-old.ensures.unchanged) c.with_cdr.result (ap (λ (w : Parts). w.content) c.with_cdr.ensures) c.in_ok-write.ensures.ok
 
 pub returns-clause-stays_fresh : goal.returns-clause-stays_fresh
 returns-clause-stays_fresh g c =
     let at = c.in_ok-at.ensures in
-    stored-stays_fresh c.args.ground.now.table c.requires.kept.table (field_preserves _ _ _ c.args.ground.now.table c.args.of.content c.args.index c.in_ok-at.at c.args.value c.requires at.place (stores_nothing-twice at.stays c.in_ok-old.ensures.stays) c.with_cdr.result (ap (λ (w : Parts). w.content) c.with_cdr.ensures) c.in_ok-write.ensures.ok)
+    stored-stays_fresh c.args.ground.now.table c.requires.kept.table (field_preserves _ _ _ c.args.ground.now.table c.args.of.content c.args.index c.in_ok-at.at c.args.value c.requires at.place (stores_nothing-twice at.unchanged c.in_ok-old.ensures.unchanged) c.with_cdr.result (ap (λ (w : Parts). w.content) c.with_cdr.ensures) c.in_ok-write.ensures.ok)
 
 pub invariant_of-ground-2 : goal.invariant_of-ground-2
 invariant_of-ground-2 g c = record {
   small = (
-      let at = ap length c.in_ok-at.ensures.stays.words in
-      let read = ap length c.in_ok-old.ensures.stays.words in
+      let at = ap length c.in_ok-at.ensures.unchanged.words in
+      let read = ap length c.in_ok-old.ensures.unchanged.words in
       let write = size-kept _ _ _ _ c.write.result c.write.ensures.ok c.write.ensures.err in
       let small = c.args.ground.now.small in
       omega arith
       );
 }
 
-pub returns-in_err-write-clause-tells : goal.returns-in_err-write-clause-tells
-returns-in_err-write-clause-tells g c =
+pub returns-in_err-write-clause-accounted : goal.returns-in_err-write-clause-accounted
+returns-in_err-write-clause-accounted g c =
     let read = c.in_ok-old.ensures in
     let write = c.in_err-write.ensures in
-    let before : Quiet (shown g.M.Memory c.args.ground.now.mem) (shown g.M.Memory c.read.new.self) c.args.steps.now c.read.new.steps = quiet-twice (answered-if c.in_ok-at.ensures.tells) (record { faults = read.cause.quiet; honest = (let a = read.taken in let b = read.cost in omega arith); room = read.room.answered }) in
+    let before : WithoutFault (shown g.M.Memory c.args.ground.now.mem) (shown g.M.Memory c.read.new.self) c.args.steps.now c.read.new.steps = quiet-twice (answered-if c.in_ok-at.ensures.accounted) (record { faults = read.cause.quiet; honest = (let a = read.taken in let b = read.cost in omega arith); room = read.room.answered }) in
     let is : is_fault c.from_residual-in_err-write.result ≡ true =
     (let was = c.in_err-write.was in let from = c.from_residual-in_err-write.ensures in let branch = c.branch-write.ensures in let is = c.in_err-write.is in grind arith) in
     quiet-then_fault c.in_err-write.field-0.0 before (record { cause = write.cause; honest = (let a = write.taken in let b = write.cost in omega arith); room = write.room }) _ is
 
-pub returns-clause-tells : goal.returns-clause-tells
-returns-clause-tells g c =
+pub returns-clause-accounted : goal.returns-clause-accounted
+returns-clause-accounted g c =
     let read = c.in_ok-old.ensures in
     let write = c.in_ok-write.ensures in
     answers (record {
-      faults = write.cause.quiet ∙ read.cause.quiet ∙ c.in_ok-at.ensures.tells.quiet refl;
-      honest = (let a = c.in_ok-at.ensures.tells.honest in let b = read.taken in let d = read.cost in let e = write.taken in let f = write.cost in omega arith);
-      room = (let a = c.in_ok-at.ensures.tells.room refl in let b = read.room.answered in let d = write.room.answered in omega arith);
+      faults = write.cause.quiet ∙ read.cause.quiet ∙ c.in_ok-at.ensures.accounted.quiet refl;
+      honest = (let a = c.in_ok-at.ensures.accounted.honest in let b = read.taken in let d = read.cost in let e = write.taken in let f = write.cost in omega arith);
+      room = (let a = c.in_ok-at.ensures.accounted.room refl in let b = read.room.answered in let d = write.room.answered in omega arith);
     })
 
 pub returns-in_err-at-clause-marks : goal.returns-in_err-at-clause-marks
-returns-in_err-at-clause-marks g c = λ reference to refers final. marks-but (suc to + c.args.index) (marks-read c.args.ground.now.table c.in_err-at.ensures.stays)
+returns-in_err-at-clause-marks g c = λ reference to refers final. marks-but (suc to + c.args.index) (marks-read c.args.ground.now.table c.in_err-at.ensures.unchanged)
 
 pub returns-in_err-old-clause-marks : goal.returns-in_err-old-clause-marks
-returns-in_err-old-clause-marks g c = λ reference to refers final. marks-but (suc to + c.args.index) (marks-read c.args.ground.now.table (stores_nothing-twice c.in_ok-at.ensures.stays c.in_err-old.ensures.stays))
+returns-in_err-old-clause-marks g c = λ reference to refers final. marks-but (suc to + c.args.index) (marks-read c.args.ground.now.table (stores_nothing-twice c.in_ok-at.ensures.unchanged c.in_err-old.ensures.unchanged))
 
 pub returns-in_err-write-clause-marks : goal.returns-in_err-write-clause-marks
 returns-in_err-write-clause-marks g c = λ reference to refers final.
-    marks-but (suc to + c.args.index) (marks-read c.args.ground.now.table (stores_nothing-twice (stores_nothing-twice c.in_ok-at.ensures.stays c.in_ok-old.ensures.stays) c.in_err-write.ensures.err))
+    marks-but (suc to + c.args.index) (marks-read c.args.ground.now.table (stores_nothing-twice (stores_nothing-twice c.in_ok-at.ensures.unchanged c.in_ok-old.ensures.unchanged) c.in_err-write.ensures.err))
 
 pub returns-clause-marks : goal.returns-clause-marks
 returns-clause-marks g c =
     let at = c.in_ok-at.ensures in
-    field_marks _ _ _ c.args.ground.now.table c.args.of.content c.args.index c.in_ok-at.at c.args.value c.requires at.place (stores_nothing-twice at.stays c.in_ok-old.ensures.stays) c.with_cdr.result (ap (λ (w : Parts). w.content) c.with_cdr.ensures) c.in_ok-write.ensures.ok
+    field_marks _ _ _ c.args.ground.now.table c.args.of.content c.args.index c.in_ok-at.at c.args.value c.requires at.place (stores_nothing-twice at.unchanged c.in_ok-old.ensures.unchanged) c.with_cdr.result (ap (λ (w : Parts). w.content) c.with_cdr.ensures) c.in_ok-write.ensures.ok
 
 -- What moves
 
 pub returns-in_err-at-clause-moves : goal.returns-in_err-at-clause-moves
-returns-in_err-at-clause-moves g c = λ fresh. writes-moves (read-writes c.args.ground.now.table c.in_err-at.ensures.stays)
+returns-in_err-at-clause-moves g c = λ fresh. writes-moves (read-writes c.args.ground.now.table c.in_err-at.ensures.unchanged)
 
 pub returns-in_err-old-clause-moves : goal.returns-in_err-old-clause-moves
-returns-in_err-old-clause-moves g c = λ fresh. writes-moves (read-writes c.args.ground.now.table (stores_nothing-twice c.in_ok-at.ensures.stays c.in_err-old.ensures.stays))
+returns-in_err-old-clause-moves g c = λ fresh. writes-moves (read-writes c.args.ground.now.table (stores_nothing-twice c.in_ok-at.ensures.unchanged c.in_err-old.ensures.unchanged))
 
 pub returns-in_err-write-clause-moves : goal.returns-in_err-write-clause-moves
-returns-in_err-write-clause-moves g c = λ fresh. writes-moves (read-writes c.args.ground.now.table (stores_nothing-twice (stores_nothing-twice c.in_ok-at.ensures.stays c.in_ok-old.ensures.stays) c.in_err-write.ensures.err))
+returns-in_err-write-clause-moves g c = λ fresh. writes-moves (read-writes c.args.ground.now.table (stores_nothing-twice (stores_nothing-twice c.in_ok-at.ensures.unchanged c.in_ok-old.ensures.unchanged) c.in_err-write.ensures.err))
 
 pub returns-clause-moves : goal.returns-clause-moves
 returns-clause-moves g c = λ fresh.
     let at = c.in_ok-at.ensures in
     let read = c.in_ok-old.ensures in
-    let found = ap (λ (ws : List Parts). slice_get ws c.in_ok-at.at) read.stays.words ∙ read.value in
+    let found = ap (λ (ws : List Parts). slice_get ws c.in_ok-at.at) read.unchanged.words ∙ read.value in
     let is = c.with_cdr.ensures ∙ ap (λ (code : CdrCode). record c.args.value { cdr = code }) c.cdr_code.ensures in
     field_moves _ c.args.ground.now.table c.args.of.content c.args.index c.in_ok-at.at c.args.value c.requires at.place (λ a ref old. fresh (a, ref, old))
-    _ _ (stores_nothing-twice at.stays read.stays) c.in_ok-old.old c.with_cdr.result found is c.in_ok-write.ensures.ok
+    _ _ (stores_nothing-twice at.unchanged read.unchanged) c.in_ok-old.old c.with_cdr.result found is c.in_ok-write.ensures.ok

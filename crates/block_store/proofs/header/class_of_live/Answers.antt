@@ -8,4 +8,4 @@ unreachable-requires c = c.in-None.ensures.none (live c.requires.live.0) c.requi
 pub returns : goal.returns
 returns c =
     let found = c.in-Some.ensures in
-    record { area_in = found.area_in; level_in = found.level_in; region = class_there c.args.table.now c.args.at c.in-Some.class c.known.ensures c.requires.live found.some }
+    record { area_in = found.area; level_in = found.level; region = class_there c.args.table.now c.args.at c.in-Some.class c.assert_invariant.ensures c.requires.live found.some }

@@ -6,9 +6,9 @@ pub find-requires : goal.find-requires
 find-requires g c = can_find (g.M.Memory.seen c.args.ground.now.mem) c.args.ground.now.table c.args.of.content c.requires
 
 pub returns-clause-value : goal.returns-clause-value
-returns-clause-value g c = tells_code (g.M.Memory.seen c.args.ground.now.mem) c.args.ground.now.table c.args.of.content c.in_ok-head.head c.in_ok-head.ensures.head
+returns-clause-value g c = tells_code (g.M.Memory.seen c.args.ground.now.mem) c.args.ground.now.table c.args.of.content c.in_ok-head.head c.in_ok-head.ensures.value
 
-pub returns-clause-looks : goal.returns-clause-looks
-returns-clause-looks g c =
+pub returns-clause-costs : goal.returns-clause-costs
+returns-clause-costs g c =
     let head = c.in_ok-head.ensures in
-    told _ _ c.args.ground.now.table c.args.of _ _ _ head.stays (λ other. let e = head.not_a_block.1 other in cc) head.tells head.cost
+    told _ _ c.args.ground.now.table c.args.of _ _ _ head.unchanged (λ other. let e = head.refused.1 other in cc) head.accounted head.cost

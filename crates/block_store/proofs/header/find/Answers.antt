@@ -8,15 +8,15 @@ pub unreachable-requires : goal.unreachable-requires
 unreachable-requires g c =
     let found = c.in_ok-found-in-Struct.ensures in
     let header = c.in_ok-header-in-Struct.header in
-    let read = c.in_ok-header-in-Struct.ensures.value ∙ ap (λ (ws : List Parts). word_at ws c.in_ok-found-in-Struct.found.at) found.stays.words in
+    let read = c.in_ok-header-in-Struct.ensures.value ∙ ap (λ (ws : List Parts). word_at ws c.in_ok-found-in-Struct.found.at) found.unchanged.words in
     let is = c.requires.header c.in-Struct.reference c.in_ok-found-in-Struct.found.at (sym c.content.ensures.value ∙ c.in-Struct.is) found.value in
     header_parts header.content is.0 is.1 (ap (λ (w : Parts). w.content) read ∙ is.2) (sym c.header_parts.ensures.value ∙ c.in-None.is)
 
-pub returns-in-Some-clause-head : goal.returns-in-Some-clause-head
-returns-in-Some-clause-head g c =
+pub returns-in-Some-clause-value : goal.returns-in-Some-clause-value
+returns-in-Some-clause-value g c =
     let found = c.in_ok-found-in-Struct.ensures in
     let header = c.in_ok-header-in-Struct.header in
-    let read = c.in_ok-header-in-Struct.ensures.value ∙ ap (λ (ws : List Parts). word_at ws c.in_ok-found-in-Struct.found.at) found.stays.words in
+    let read = c.in_ok-header-in-Struct.ensures.value ∙ ap (λ (ws : List Parts). word_at ws c.in_ok-found-in-Struct.found.at) found.unchanged.words in
     let is = ap (λ (w : Parts). w.content) (sym read) ∙ header_content header.content c.in-Some.code c.in-Some.length (sym c.header_parts.ensures.value ∙ c.in-Some.is) in
     record {
       reference = c.in-Struct.reference;

@@ -12,11 +12,11 @@ loop-done-preserved g c =
     let piece = c.on_one_page-piece.ensures in
     let below = c.loop-done-test.true in
     record {
-      low = (let few = piece.few in omega arith);
+      low = (let few = piece.at_most in omega arith);
       written = writes-span i.written call.filled piece.page (λ k l. refl);
-      held = λ page h. call.kept page (i.held page h);
+      held = λ page h. call.stays_held page (i.held page h);
       quiet = record {
-        faults = call.faults ∙ i.quiet.faults;
+        faults = call.no_fault ∙ i.quiet.faults;
         honest = (let a = i.quiet.honest in let b = call.taken in let d = call.cost in omega arith);
         room = (let a = i.quiet.room in let b = call.resident in omega arith);
       };

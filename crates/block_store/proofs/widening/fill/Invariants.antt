@@ -1,5 +1,5 @@
 use Rattle.std.proofs.Common.{ℕ, ◌≡◌, ◌+◌, ◌-◌, ◌≤◌}
-use Rattle.mem_port.specs.View.{Quiet, shown}
+use Rattle.mem_port.specs.View.{WithoutFault, shown}
 use Rattle.transporter.specs.Writes.{Writes}
 use Rattle.block_store.proofs.widening.fill.Given as goal
 
@@ -9,7 +9,7 @@ invariant-loop-done g l = record {
   low : l.done ≤ l.count;
   written : Writes (g.M.Memory.seen l.fn.mem) (g.M.Memory.seen l.mem) l.at l.done (λ i. l.word);
   held : (page : ℕ) → g.M.Memory.held l.fn.mem page → g.M.Memory.held l.mem page;
-  quiet : Quiet (shown g.M.Memory l.fn.mem) (shown g.M.Memory l.mem) l.fn.steps l.steps;
+  quiet : WithoutFault (shown g.M.Memory l.fn.mem) (shown g.M.Memory l.mem) l.fn.steps l.steps;
   cost : l.steps ≡ l.fn.steps + l.done;
 }
 

@@ -9,5 +9,5 @@ on-ok (Err e) p = tt
 
 pub returns-clause-ok : goal.returns-clause-ok
 returns-clause-ok g c =
-    let stays = c.in_ok-hold_spans.ensures.stays in
+    let stays = c.in_ok-hold_spans.ensures.unchanged in
     on-ok c.leave_husk.result (record { copied = g.M.Memory.seen c.write_wide.new.mem; writes = writes-wide-held c.args.head.at c.args.head.code c.args.head.length c.args.wide c.args.to stays c.in_ok-write_wide.ensures.written; leaves = c.leave_husk.ensures.written })

@@ -13,7 +13,7 @@ returns c = elim c.answer_of.ensures [
         let r = w.run_words-status.ensures in
         inr (record {
           mode = mode_of w.in-Ok-Some.words.items;
-          requests = inl (map string_bytes w.in-Ok-Some.words.items, rw w.in-Ok-Some.field-0-is at w.in-Ok-Some.ensures.arguments, refl);
+          requests = inl (map string_bytes w.in-Ok-Some.words.items, rw w.in-Ok-Some.field-0-is at w.in-Ok-Some.ensures.ok, refl);
           status = r.0;
           is = same.0 ∙ w.status-is ∙ r.1;
           does = rw (bytes, sym w.as_slice.ensures.value) r.2;
@@ -25,10 +25,10 @@ returns c = elim c.answer_of.ensures [
           requests = inr (w.in-Ok-None.ensures.refused (rw w.in-Ok-None.field-0-is refl), refl);
           status = w.report.result;
           is = same.0 ∙ w.status-is ∙ w.code-status.ensures;
-          does = rw bytes (refused_of c.new-sink.ensures.bytes w.report.ensures.wrote);
+          does = rw bytes (refused_of c.new-sink.ensures.bytes w.report.ensures.written);
         })
     | in-Err w ↦
         let bytes = ap (λ v. v.items) same.1 ∙ ap (λ s. s.bytes.items) w.sink-is in
-        inl (rw bytes (ran_out c.answer_of.result.status c.new-sink.ensures.bytes w.report-in-Err.ensures.wrote (same.0 ∙ w.status-is ∙ w.code-status-in-Err.ensures) (λ one. same.2 (sym same.0 ∙ one))))
+        inl (rw bytes (ran_out c.answer_of.result.status c.new-sink.ensures.bytes w.report-in-Err.ensures.written (same.0 ∙ w.status-is ∙ w.code-status-in-Err.ensures) (λ one. same.2 (sym same.0 ∙ one))))
   ]
 ]

@@ -3,11 +3,11 @@ use Rattle.store_word.specs.declared.word.CdrCode.{CdrCode}
 use Rattle.mem_port.specs.Store.{Store}
 use Rattle.area_space.specs.Table.{Table}
 use Rattle.obj_layout.proofs.Following.{word_at-read}
-use Rattle.transporter.specs.LiveSame.{LiveSame}
+use Rattle.transporter.specs.LiveWordsUnchanged.{LiveWordsUnchanged}
 use Rattle.transporter.proofs.Preserved.{made-stays_fresh, made-preserves, opened-preserves}
-use Rattle.cdr_lists.specs.Marks.{MarksByWords}
+use Rattle.transporter.specs.WrittenMarks.{MarksByWords}
 use Rattle.cdr_lists.specs.Pairs.{PairedOn}
-use Rattle.cdr_lists.proofs.NewMarks.{marks_by_words}
+use Rattle.transporter.proofs.WrittenMarks.{marks_by_words}
 use Rattle.cdr_lists.proofs.NewPlaces.{end_there, opened_stays_fresh, opened_live, opened_marks, opened_or_same, opened_stays, opens_if_needed, needed_then, words_inside, words_low}
 use Rattle.cdr_lists.proofs.PartsSet.{on_err}
 use Rattle.cdr_lists.proofs.Pairing.{area_inside, level_inside, pair_allowed, pair_fresh, pair_live, pair_marks, pair_placed, paired_on, room_for_pair}
@@ -18,57 +18,57 @@ use Rattle.transporter.proofs.Placing.{is_place}
 use Rattle.transporter.proofs.Marked.{marks-read, marks-then}
 use Rattle.cdr_lists.proofs.pair.make_pair_of.Goals as goal
 
-pub place-placed-requires-clause-within : goal.place-placed-requires-clause-within
-place-placed-requires-clause-within g c = room_for_pair _ _ _ _ _ _ _ c.requires
+pub place-placed-requires-clause-in_range : goal.place-placed-requires-clause-in_range
+place-placed-requires-clause-in_range g c = room_for_pair _ _ _ _ _ _ _ c.requires
 
-pub write_pair-requires-clause-inside : goal.write_pair-requires-clause-inside
-write_pair-requires-clause-inside g c =
+pub write_pair-requires-clause-in_range : goal.write_pair-requires-clause-in_range
+write_pair-requires-clause-in_range g c =
     let q = c.place-placed.ensures in
-    let p = is_place (g.M.Memory.seen c.args.ground.now.mem) c.args.ground.now.table c.args.area c.args.level 2 c.place-placed.result.opened q.end q.same q.behind q.table q.level q.needed q.free q.lowest q.sound q.ground q.named in
+    let p = is_place (g.M.Memory.seen c.args.ground.now.mem) c.args.ground.now.table c.args.area c.args.level 2 c.place-placed.result.opened q.end q.unchanged q.memory q.table q.opened q.needed q.free q.lowest q.sound q.stays_ground q.stays_named in
     let inside = words_inside _ _ _ _ _ _ _ c.requires.kept c.args.area c.args.level (area_inside _ _ _ _ _ _ _ c.requires) (level_inside _ _ _ _ _ _ _ c.requires) _ _ _ p.opens c.place-placed.result.at p.end in
     omega arith
 
-pub commit-requires-clause-origin : goal.commit-requires-clause-origin
-commit-requires-clause-origin g c =
+pub commit-requires-clause-allowed : goal.commit-requires-clause-allowed
+commit-requires-clause-allowed g c =
     let q = c.place-placed.ensures in
-    let p = is_place (g.M.Memory.seen c.args.ground.now.mem) c.args.ground.now.table c.args.area c.args.level 2 c.place-placed.result.opened q.end q.same q.behind q.table q.level q.needed q.free q.lowest q.sound q.ground q.named in
+    let p = is_place (g.M.Memory.seen c.args.ground.now.mem) c.args.ground.now.table c.args.area c.args.level 2 c.place-placed.result.opened q.end q.unchanged q.memory q.table q.opened q.needed q.free q.lowest q.sound q.stays_ground q.stays_named in
     pair_allowed _ _ _ _ _ _ _ c.requires _ _ _ p.opens c.place-placed.result.at p.end
 
 pub returns-in_err-write_pair-clause-fault : goal.returns-in_err-write_pair-clause-fault
 returns-in_err-write_pair-clause-fault g c =
     let q = c.place-placed.ensures in
-    let p = is_place (g.M.Memory.seen c.args.ground.now.mem) c.args.ground.now.table c.args.area c.args.level 2 c.place-placed.result.opened q.end q.same q.behind q.table q.level q.needed q.free q.lowest q.sound q.ground q.named in
+    let p = is_place (g.M.Memory.seen c.args.ground.now.mem) c.args.ground.now.table c.args.area c.args.level 2 c.place-placed.result.opened q.end q.unchanged q.memory q.table q.opened q.needed q.free q.lowest q.sound q.stays_ground q.stays_named in
     on_err c.from_residual.result _ (opened_stays _ _ _ _ _ _ _ c.requires.kept c.args.area c.args.level (area_inside _ _ _ _ _ _ _ c.requires) (level_inside _ _ _ _ _ _ _ c.requires) _ _ _ p.opens c.place-placed.result.at p.end (g.M.Memory.seen c.write_pair.new.mem) c.in_err-write_pair.ensures.err)
 
 pub returns-in_err-write_pair-clause-live : goal.returns-in_err-write_pair-clause-live
 returns-in_err-write_pair-clause-live g c =
     let q = c.place-placed.ensures in
-    let p = is_place (g.M.Memory.seen c.args.ground.now.mem) c.args.ground.now.table c.args.area c.args.level 2 c.place-placed.result.opened q.end q.same q.behind q.table q.level q.needed q.free q.lowest q.sound q.ground q.named in
+    let p = is_place (g.M.Memory.seen c.args.ground.now.mem) c.args.ground.now.table c.args.area c.args.level 2 c.place-placed.result.opened q.end q.unchanged q.memory q.table q.opened q.needed q.free q.lowest q.sound q.stays_ground q.stays_named in
     opened_live _ _ _ _ _ _ _ c.requires.kept c.args.area c.args.level (area_inside _ _ _ _ _ _ _ c.requires) (level_inside _ _ _ _ _ _ _ c.requires) _ _ _ p.opens c.place-placed.result.at p.end (g.M.Memory.seen c.write_pair.new.mem) c.in_err-write_pair.ensures.err
 
 pub returns-in_err-write_pair-clause-preserves : goal.returns-in_err-write_pair-clause-preserves
 returns-in_err-write_pair-clause-preserves g c =
     let q = c.place-placed.ensures in
-    let p = is_place (g.M.Memory.seen c.args.ground.now.mem) c.args.ground.now.table c.args.area c.args.level 2 c.place-placed.result.opened q.end q.same q.behind q.table q.level q.needed q.free q.lowest q.sound q.ground q.named in
+    let p = is_place (g.M.Memory.seen c.args.ground.now.mem) c.args.ground.now.table c.args.area c.args.level 2 c.place-placed.result.opened q.end q.unchanged q.memory q.table q.opened q.needed q.free q.lowest q.sound q.stays_ground q.stays_named in
     opened-preserves (opened_live _ _ _ _ _ _ _ c.requires.kept c.args.area c.args.level (area_inside _ _ _ _ _ _ _ c.requires) (level_inside _ _ _ _ _ _ _ c.requires) _ _ _ p.opens c.place-placed.result.at p.end (g.M.Memory.seen c.write_pair.new.mem) c.in_err-write_pair.ensures.err) (opened_or_same _ _ _ _ _ _ _ c.requires.kept c.args.area c.args.level (area_inside _ _ _ _ _ _ _ c.requires) (level_inside _ _ _ _ _ _ _ c.requires) _ _ _ p.opens c.place-placed.result.at p.end)
 
 pub returns-in_err-write_pair-clause-stays_fresh : goal.returns-in_err-write_pair-clause-stays_fresh
 returns-in_err-write_pair-clause-stays_fresh g c =
     let q = c.place-placed.ensures in
-    let p = is_place (g.M.Memory.seen c.args.ground.now.mem) c.args.ground.now.table c.args.area c.args.level 2 c.place-placed.result.opened q.end q.same q.behind q.table q.level q.needed q.free q.lowest q.sound q.ground q.named in
+    let p = is_place (g.M.Memory.seen c.args.ground.now.mem) c.args.ground.now.table c.args.area c.args.level 2 c.place-placed.result.opened q.end q.unchanged q.memory q.table q.opened q.needed q.free q.lowest q.sound q.stays_ground q.stays_named in
     let stays_fresh = opened_stays_fresh _ _ _ _ _ _ _ c.requires.kept c.args.area c.args.level (area_inside _ _ _ _ _ _ _ c.requires) (level_inside _ _ _ _ _ _ _ c.requires) _ _ _ p.opens c.place-placed.result.at p.end (g.M.Memory.seen c.write_pair.new.mem) c.in_err-write_pair.ensures.err in
     λ car_fresh cdr_fresh. stays_fresh
 
 pub returns-in_err-write_pair-clause-opened : goal.returns-in_err-write_pair-clause-opened
 returns-in_err-write_pair-clause-opened g c =
     let q = c.place-placed.ensures in
-    let p = is_place (g.M.Memory.seen c.args.ground.now.mem) c.args.ground.now.table c.args.area c.args.level 2 c.place-placed.result.opened q.end q.same q.behind q.table q.level q.needed q.free q.lowest q.sound q.ground q.named in
+    let p = is_place (g.M.Memory.seen c.args.ground.now.mem) c.args.ground.now.table c.args.area c.args.level 2 c.place-placed.result.opened q.end q.unchanged q.memory q.table q.opened q.needed q.free q.lowest q.sound q.stays_ground q.stays_named in
     on_err c.from_residual.result _ (opened_or_same _ _ _ _ _ _ _ c.requires.kept c.args.area c.args.level (area_inside _ _ _ _ _ _ _ c.requires) (level_inside _ _ _ _ _ _ _ c.requires) _ _ _ p.opens c.place-placed.result.at p.end)
 
 pub returns-clause-made : goal.returns-clause-made
 returns-clause-made g c =
     let q = c.place-placed.ensures in
-    let p = is_place (g.M.Memory.seen c.args.ground.now.mem) c.args.ground.now.table c.args.area c.args.level 2 c.place-placed.result.opened q.end q.same q.behind q.table q.level q.needed q.free q.lowest q.sound q.ground q.named in
+    let p = is_place (g.M.Memory.seen c.args.ground.now.mem) c.args.ground.now.table c.args.area c.args.level 2 c.place-placed.result.opened q.end q.unchanged q.memory q.table q.opened q.needed q.free q.lowest q.sound q.stays_ground q.stays_named in
     let end = end_there _ _ _ _ _ _ _ c.requires.kept c.args.area c.args.level (area_inside _ _ _ _ _ _ _ c.requires) (level_inside _ _ _ _ _ _ _ c.requires) _ _ _ p.opens c.place-placed.result.at p.end in
     let w = c.in_ok-write_pair.ensures in
     let second = c.with_cdr-second.ensures ∙ ap (λ (code : CdrCode). record c.args.cdr { cdr = code }) c.code_of.ensures in
@@ -76,10 +76,10 @@ returns-clause-made g c =
     let memory = ap g.M.Memory.seen c.commit.ensures.memory in
     subst (λ (m : Store). PairedOn (g.M.Memory.seen c.args.ground.now.mem) c.args.ground.now.table m c.commit.new.self.table c.args.area c.args.level c.args.charge c.args.car c.args.cdr c.place-placed.result.at) (sym memory) made
 
-pub returns-clause-below : goal.returns-clause-below
-returns-clause-below g c =
+pub returns-clause-in_range : goal.returns-clause-in_range
+returns-clause-in_range g c =
     let q = c.place-placed.ensures in
-    let p = is_place (g.M.Memory.seen c.args.ground.now.mem) c.args.ground.now.table c.args.area c.args.level 2 c.place-placed.result.opened q.end q.same q.behind q.table q.level q.needed q.free q.lowest q.sound q.ground q.named in
+    let p = is_place (g.M.Memory.seen c.args.ground.now.mem) c.args.ground.now.table c.args.area c.args.level 2 c.place-placed.result.opened q.end q.unchanged q.memory q.table q.opened q.needed q.free q.lowest q.sound q.stays_ground q.stays_named in
     words_low _ _ _ _ _ _ _ c.requires.kept c.args.area c.args.level (area_inside _ _ _ _ _ _ _ c.requires) (level_inside _ _ _ _ _ _ _ c.requires) _ _ _ p.opens c.place-placed.result.at p.end (omega arith)
 
 pub returns-clause-words : goal.returns-clause-words
@@ -92,38 +92,38 @@ returns-clause-words g c =
 pub returns-clause-placed : goal.returns-clause-placed
 returns-clause-placed g c =
     let q = c.place-placed.ensures in
-    let p = is_place (g.M.Memory.seen c.args.ground.now.mem) c.args.ground.now.table c.args.area c.args.level 2 c.place-placed.result.opened q.end q.same q.behind q.table q.level q.needed q.free q.lowest q.sound q.ground q.named in
+    let p = is_place (g.M.Memory.seen c.args.ground.now.mem) c.args.ground.now.table c.args.area c.args.level 2 c.place-placed.result.opened q.end q.unchanged q.memory q.table q.opened q.needed q.free q.lowest q.sound q.stays_ground q.stays_named in
     let end = end_there _ _ _ _ _ _ _ c.requires.kept c.args.area c.args.level (area_inside _ _ _ _ _ _ _ c.requires) (level_inside _ _ _ _ _ _ _ c.requires) _ _ _ p.opens c.place-placed.result.at p.end in
     pair_placed _ _ _ _ _ _ _ c.requires _ _ _ p.opens c.place-placed.result.at p.end (g.M.Memory.seen c.write_pair.new.mem) c.commit.new.self.table (within-written c.in_ok-write_pair.ensures.pair) (c.commit.ensures.table _ end) c.commit.ensures.pages
 
 pub returns-clause-live : goal.returns-clause-live
 returns-clause-live g c =
     let q = c.place-placed.ensures in
-    let p = is_place (g.M.Memory.seen c.args.ground.now.mem) c.args.ground.now.table c.args.area c.args.level 2 c.place-placed.result.opened q.end q.same q.behind q.table q.level q.needed q.free q.lowest q.sound q.ground q.named in
+    let p = is_place (g.M.Memory.seen c.args.ground.now.mem) c.args.ground.now.table c.args.area c.args.level 2 c.place-placed.result.opened q.end q.unchanged q.memory q.table q.opened q.needed q.free q.lowest q.sound q.stays_ground q.stays_named in
     let end = end_there _ _ _ _ _ _ _ c.requires.kept c.args.area c.args.level (area_inside _ _ _ _ _ _ _ c.requires) (level_inside _ _ _ _ _ _ _ c.requires) _ _ _ p.opens c.place-placed.result.at p.end in
     let live = pair_live _ _ _ _ _ _ _ c.requires _ _ _ p.opens c.place-placed.result.at p.end (g.M.Memory.seen c.write_pair.new.mem) c.commit.new.self.table (within-written c.in_ok-write_pair.ensures.pair) (c.commit.ensures.table _ end) c.commit.ensures.pages in
     let memory = ap g.M.Memory.seen c.commit.ensures.memory in
-    let same = subst (λ (m : Store). LiveSame (g.M.Memory.seen c.args.ground.now.mem) c.args.ground.now.table m c.commit.new.self.table) (sym memory) live in
+    let same = subst (λ (m : Store). LiveWordsUnchanged (g.M.Memory.seen c.args.ground.now.mem) c.args.ground.now.table m c.commit.new.self.table) (sym memory) live in
     same
 
 pub returns-clause-preserves : goal.returns-clause-preserves
 returns-clause-preserves g c =
     let q = c.place-placed.ensures in
-    let p = is_place (g.M.Memory.seen c.args.ground.now.mem) c.args.ground.now.table c.args.area c.args.level 2 c.place-placed.result.opened q.end q.same q.behind q.table q.level q.needed q.free q.lowest q.sound q.ground q.named in
+    let p = is_place (g.M.Memory.seen c.args.ground.now.mem) c.args.ground.now.table c.args.area c.args.level 2 c.place-placed.result.opened q.end q.unchanged q.memory q.table q.opened q.needed q.free q.lowest q.sound q.stays_ground q.stays_named in
     let end = end_there _ _ _ _ _ _ _ c.requires.kept c.args.area c.args.level (area_inside _ _ _ _ _ _ _ c.requires) (level_inside _ _ _ _ _ _ _ c.requires) _ _ _ p.opens c.place-placed.result.at p.end in
     let live = pair_live _ _ _ _ _ _ _ c.requires _ _ _ p.opens c.place-placed.result.at p.end (g.M.Memory.seen c.write_pair.new.mem) c.commit.new.self.table (within-written c.in_ok-write_pair.ensures.pair) (c.commit.ensures.table _ end) c.commit.ensures.pages in
     let memory = ap g.M.Memory.seen c.commit.ensures.memory in
-    let same = subst (λ (m : Store). LiveSame (g.M.Memory.seen c.args.ground.now.mem) c.args.ground.now.table m c.commit.new.self.table) (sym memory) live in
+    let same = subst (λ (m : Store). LiveWordsUnchanged (g.M.Memory.seen c.args.ground.now.mem) c.args.ground.now.table m c.commit.new.self.table) (sym memory) live in
     made-preserves _ _ _ _ c.args.area c.args.level c.place-placed.result.at 2 c.args.charge c.commit.ensures.sound same (omega arith) (pair_placed _ _ _ _ _ _ _ c.requires _ _ _ p.opens c.place-placed.result.at p.end (g.M.Memory.seen c.write_pair.new.mem) c.commit.new.self.table (within-written c.in_ok-write_pair.ensures.pair) (c.commit.ensures.table _ end) c.commit.ensures.pages)
 
 pub returns-clause-stays_fresh : goal.returns-clause-stays_fresh
 returns-clause-stays_fresh g c = λ car_fresh cdr_fresh.
     let q = c.place-placed.ensures in
-    let p = is_place (g.M.Memory.seen c.args.ground.now.mem) c.args.ground.now.table c.args.area c.args.level 2 c.place-placed.result.opened q.end q.same q.behind q.table q.level q.needed q.free q.lowest q.sound q.ground q.named in
+    let p = is_place (g.M.Memory.seen c.args.ground.now.mem) c.args.ground.now.table c.args.area c.args.level 2 c.place-placed.result.opened q.end q.unchanged q.memory q.table q.opened q.needed q.free q.lowest q.sound q.stays_ground q.stays_named in
     let end = end_there _ _ _ _ _ _ _ c.requires.kept c.args.area c.args.level (area_inside _ _ _ _ _ _ _ c.requires) (level_inside _ _ _ _ _ _ _ c.requires) _ _ _ p.opens c.place-placed.result.at p.end in
     let live = pair_live _ _ _ _ _ _ _ c.requires _ _ _ p.opens c.place-placed.result.at p.end (g.M.Memory.seen c.write_pair.new.mem) c.commit.new.self.table (within-written c.in_ok-write_pair.ensures.pair) (c.commit.ensures.table _ end) c.commit.ensures.pages in
     let memory = ap g.M.Memory.seen c.commit.ensures.memory in
-    let same = subst (λ (m : Store). LiveSame (g.M.Memory.seen c.args.ground.now.mem) c.args.ground.now.table m c.commit.new.self.table) (sym memory) live in
+    let same = subst (λ (m : Store). LiveWordsUnchanged (g.M.Memory.seen c.args.ground.now.mem) c.args.ground.now.table m c.commit.new.self.table) (sym memory) live in
     let w = c.in_ok-write_pair.ensures in
     let memory_words = ap (λ (m : Store). m.words) memory in
     let second = c.with_cdr-second.ensures ∙ ap (λ (code : CdrCode). record c.args.cdr { cdr = code }) c.code_of.ensures in
@@ -144,26 +144,26 @@ invariant_of-ground g c = record {
 pub returns-in_err-write_pair-clause-needed : goal.returns-in_err-write_pair-clause-needed
 returns-in_err-write_pair-clause-needed g c =
     let q = c.place-placed.ensures in
-    let p = is_place (g.M.Memory.seen c.args.ground.now.mem) c.args.ground.now.table c.args.area c.args.level 2 c.place-placed.result.opened q.end q.same q.behind q.table q.level q.needed q.free q.lowest q.sound q.ground q.named in
+    let p = is_place (g.M.Memory.seen c.args.ground.now.mem) c.args.ground.now.table c.args.area c.args.level 2 c.place-placed.result.opened q.end q.unchanged q.memory q.table q.opened q.needed q.free q.lowest q.sound q.stays_ground q.stays_named in
     opens_if_needed c.place-placed.result.opened p.opens p.needed
 
 pub returns-clause-needed : goal.returns-clause-needed
 returns-clause-needed g c =
     let q = c.place-placed.ensures in
-    let p = is_place (g.M.Memory.seen c.args.ground.now.mem) c.args.ground.now.table c.args.area c.args.level 2 c.place-placed.result.opened q.end q.same q.behind q.table q.level q.needed q.free q.lowest q.sound q.ground q.named in
+    let p = is_place (g.M.Memory.seen c.args.ground.now.mem) c.args.ground.now.table c.args.area c.args.level 2 c.place-placed.result.opened q.end q.unchanged q.memory q.table q.opened q.needed q.free q.lowest q.sound q.stays_ground q.stays_named in
     let end = end_there _ _ _ _ _ _ _ c.requires.kept c.args.area c.args.level (area_inside _ _ _ _ _ _ _ c.requires) (level_inside _ _ _ _ _ _ _ c.requires) _ _ _ p.opens c.place-placed.result.at p.end in
     needed_then (opens_if_needed c.place-placed.result.opened p.opens p.needed) (ap (λ (x : Table). x.chains) (c.commit.ensures.table _ end))
 
 pub returns-in_err-write_pair-clause-marks : goal.returns-in_err-write_pair-clause-marks
 returns-in_err-write_pair-clause-marks g c =
     let q = c.place-placed.ensures in
-    let p = is_place (g.M.Memory.seen c.args.ground.now.mem) c.args.ground.now.table c.args.area c.args.level 2 c.place-placed.result.opened q.end q.same q.behind q.table q.level q.needed q.free q.lowest q.sound q.ground q.named in
+    let p = is_place (g.M.Memory.seen c.args.ground.now.mem) c.args.ground.now.table c.args.area c.args.level 2 c.place-placed.result.opened q.end q.unchanged q.memory q.table q.opened q.needed q.free q.lowest q.sound q.stays_ground q.stays_named in
     marks-then (opened_marks _ _ _ _ _ _ _ c.requires.kept c.args.area c.args.level (area_inside _ _ _ _ _ _ _ c.requires) (level_inside _ _ _ _ _ _ _ c.requires) _ _ _ p.opens c.place-placed.result.at p.end) (marks-read c.place-placed.new.self.table c.in_err-write_pair.ensures.err)
 
 pub returns-clause-marks : goal.returns-clause-marks
 returns-clause-marks g c =
     let q = c.place-placed.ensures in
-    let p = is_place (g.M.Memory.seen c.args.ground.now.mem) c.args.ground.now.table c.args.area c.args.level 2 c.place-placed.result.opened q.end q.same q.behind q.table q.level q.needed q.free q.lowest q.sound q.ground q.named in
+    let p = is_place (g.M.Memory.seen c.args.ground.now.mem) c.args.ground.now.table c.args.area c.args.level 2 c.place-placed.result.opened q.end q.unchanged q.memory q.table q.opened q.needed q.free q.lowest q.sound q.stays_ground q.stays_named in
     let end = end_there _ _ _ _ _ _ _ c.requires.kept c.args.area c.args.level (area_inside _ _ _ _ _ _ _ c.requires) (level_inside _ _ _ _ _ _ _ c.requires) _ _ _ p.opens c.place-placed.result.at p.end in
     let pair = c.in_ok-write_pair.ensures.pair in
     let marks = pair_marks _ _ _ _ _ _ _ c.requires _ _ _ p.opens c.place-placed.result.at p.end (g.M.Memory.seen c.write_pair.new.mem) c.commit.new.self.table (within-written pair) (c.commit.ensures.table _ end) c.commit.ensures.pages c.commit.ensures.sound pair in
@@ -173,5 +173,5 @@ returns-clause-marks g c =
 pub returns-clause-unmarked : goal.returns-clause-unmarked
 returns-clause-unmarked g c =
     let q = c.place-placed.ensures in
-    let p = is_place (g.M.Memory.seen c.args.ground.now.mem) c.args.ground.now.table c.args.area c.args.level 2 c.place-placed.result.opened q.end q.same q.behind q.table q.level q.needed q.free q.lowest q.sound q.ground q.named in
+    let p = is_place (g.M.Memory.seen c.args.ground.now.mem) c.args.ground.now.table c.args.area c.args.level 2 c.place-placed.result.opened q.end q.unchanged q.memory q.table q.opened q.needed q.free q.lowest q.sound q.stays_ground q.stays_named in
     subst (λ (m : Store). MarksByWords (g.M.Memory.seen c.args.ground.now.mem) m c.place-placed.result.at 2) (sym (ap g.M.Memory.seen c.commit.ensures.memory)) (marks_by_words c.place-placed.result.opened p.opens c.in_ok-write_pair.ensures.pair)

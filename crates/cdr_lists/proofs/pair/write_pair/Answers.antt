@@ -3,4 +3,4 @@ use Rattle.cdr_lists.proofs.LaidNew.{pair_written}
 use Rattle.cdr_lists.proofs.pair.write_pair.Goals as goal
 
 pub returns-clause-pair : goal.returns-clause-pair
-returns-clause-pair g c = on_ok_weaker c.write-2.result (λ stores. pair_written c.in_ok-hold_both.ensures.stays c.in_ok-write.ensures.ok stores c.requires.inside) c.write-2.ensures.ok
+returns-clause-pair g c = on_ok_weaker c.write-2.result (λ stores. pair_written c.in_ok-hold_both.ensures.unchanged c.in_ok-write.ensures.ok stores c.requires.in_range) c.write-2.ensures.ok

@@ -1,7 +1,7 @@
 use Rattle.std.proofs.Common.{◌≡◌, ◌∙◌, ℕ, true, arith, ap, refl, sym, subst}
 use Rattle.store_word.specs.Words.{Parts}
 use Rattle.transporter.specs.Moving.{FetchMoves}
-use Rattle.transporter.specs.Settling.{HasOld}
+use Rattle.transporter.specs.Settling.{RefersToOld}
 use Rattle.transporter.proofs.Moving.{fetch_moves-read, same-stores}
 use Rattle.transporter.proofs.Settled.{reference-inside}
 use Rattle.transporter.proofs.Preserved.{read-stays_fresh}
@@ -18,88 +18,88 @@ use Rattle.cdr_lists.proofs.settled.car.Goals as goal
 pub find_first-requires : goal.find_first-requires
 find_first-requires g c = can_find _ _ c.args.of c.requires
 
-pub returns-in_err-found-clause-kept : goal.returns-in_err-found-clause-kept
-returns-in_err-found-clause-kept g c = reads_keep_cons c.args.ground.now.table c.args.of.content c.in_err-found.ensures.stays
+pub returns-in_err-found-clause-unchanged : goal.returns-in_err-found-clause-unchanged
+returns-in_err-found-clause-unchanged g c = reads_keep_cons c.args.ground.now.table c.args.of.content c.in_err-found.ensures.unchanged
 
-pub returns-in_err-found-clause-keeps : goal.returns-in_err-found-clause-keeps
-returns-in_err-found-clause-keeps g c = read-keeps _ _ c.args.ground.now.table c.in_err-found.ensures.stays
+pub returns-in_err-found-clause-stays_ground : goal.returns-in_err-found-clause-stays_ground
+returns-in_err-found-clause-stays_ground g c = read-keeps _ _ c.args.ground.now.table c.in_err-found.ensures.unchanged
 
 pub has_old-requires : goal.has_old-requires
 has_old-requires g c = λ at ref.
     let found = c.in_ok-found.ensures in
     let p = found.place in
     let first = first_read (g.M.Memory.seen c.args.ground.now.mem).words c.in_ok-found.found.at c.in_ok-found.found.first c.in-Some.first found.first c.in-Some.is in
-    reference-inside at (first_settleable _ _ _ c.in_ok-found.found.at c.in-Some.first found.stays first p.reference (readable_at _ _ c.args.of p.reference p.is c.requires) p.final p.last) ref
+    reference-inside at (first_settleable _ _ _ c.in_ok-found.found.at c.in-Some.first found.unchanged first p.reference (readable_at _ _ c.args.of p.reference p.is c.requires) p.final p.last) ref
 
-pub fetch-requires-clause-live : goal.fetch-requires-clause-live
-fetch-requires-clause-live g c =
+pub fetch-requires-clause-in_range : goal.fetch-requires-clause-in_range
+fetch-requires-clause-in_range g c =
     let found = c.in_ok-found.ensures in
     let p = found.place in
-    car_live _ _ _ p.reference (readable_at _ _ c.args.of p.reference p.is c.requires) found.stays c.in_ok-found.found.at p.final p.last
+    car_live _ _ _ p.reference (readable_at _ _ c.args.of p.reference p.is c.requires) found.unchanged c.in_ok-found.found.at p.final p.last
 
-pub fetch-requires-clause-word : goal.fetch-requires-clause-word
-fetch-requires-clause-word g c =
+pub fetch-requires-clause-can : goal.fetch-requires-clause-can
+fetch-requires-clause-can g c =
     let found = c.in_ok-found.ensures in
     let p = found.place in
-    car_settleable _ _ _ p.reference (readable_at _ _ c.args.of p.reference p.is c.requires) found.stays c.in_ok-found.found.at p.final p.last
+    car_settleable _ _ _ p.reference (readable_at _ _ c.args.of p.reference p.is c.requires) found.unchanged c.in_ok-found.found.at p.final p.last
 
-pub returns-in_err-word-in_default-clause-kept : goal.returns-in_err-word-in_default-clause-kept
-returns-in_err-word-in_default-clause-kept g c =
+pub returns-in_err-word-in_default-clause-unchanged : goal.returns-in_err-word-in_default-clause-unchanged
+returns-in_err-word-in_default-clause-unchanged g c =
     let found = c.in_ok-found.ensures in
     let p = found.place in
-    keeps_cons _ _ c.args.of.content p.reference p.is _ _ (car_faulted _ _ _ _ _ p.reference c.in_ok-found.found.at found.stays p.final c.in_err-word-in_default.ensures.fault)
+    keeps_cons _ _ c.args.of.content p.reference p.is _ _ (car_faulted _ _ _ _ _ p.reference c.in_ok-found.found.at found.unchanged p.final c.in_err-word-in_default.ensures.fault)
 
-pub returns-in_err-word-in_default-clause-keeps : goal.returns-in_err-word-in_default-clause-keeps
-returns-in_err-word-in_default-clause-keeps g c =
+pub returns-in_err-word-in_default-clause-stays_ground : goal.returns-in_err-word-in_default-clause-stays_ground
+returns-in_err-word-in_default-clause-stays_ground g c =
     let found = c.in_ok-found.ensures in
     let p = found.place in
     let word = c.in_err-word-in_default.ensures in
-    let live = car_live _ _ _ p.reference (readable_at _ _ c.args.of p.reference p.is c.requires) found.stays c.in_ok-found.found.at p.final p.last in
-    fetched-keeps _ _ _ _ found.stays word.table word.moves word.preserves word.marks
-    (λ all. let read = read-stays_fresh _ found.stays all in word.stays_fresh (live_fresh (g.M.Memory.seen c.find_first.new.mem) _ c.in_ok-found.found.at read live) read)
+    let live = car_live _ _ _ p.reference (readable_at _ _ c.args.of p.reference p.is c.requires) found.unchanged c.in_ok-found.found.at p.final p.last in
+    fetched-keeps _ _ _ _ found.unchanged word.table word.moves word.preserves word.marks
+    (λ all. let read = read-stays_fresh _ found.unchanged all in word.stays_fresh (live_fresh (g.M.Memory.seen c.find_first.new.mem) _ c.in_ok-found.found.at read live) read)
 
 pub returns-in_ok-word-in_default-clause-car : goal.returns-in_ok-word-in_default-clause-car
 returns-in_ok-word-in_default-clause-car g c =
     let found = c.in_ok-found.ensures in
     let p = found.place in
     reads_car _ _ c.args.of.content p.reference p.is _ _ _
-    (car_fetched _ _ _ _ _ p.reference c.in_ok-found.found.at found.stays p.final c.in_ok-word-in_default.word c.with_cdr-in_default.result c.in_ok-word-in_default.ensures.settles (ap (λ (w : Parts). w.content) c.with_cdr-in_default.ensures))
+    (car_fetched _ _ _ _ _ p.reference c.in_ok-found.found.at found.unchanged p.final c.in_ok-word-in_default.word c.with_cdr-in_default.result c.in_ok-word-in_default.ensures.settles (ap (λ (w : Parts). w.content) c.with_cdr-in_default.ensures))
 
 pub returns-in_ok-word-in_default-clause-written : goal.returns-in_ok-word-in_default-clause-written
 returns-in_ok-word-in_default-clause-written g c = λ to place.
     let found = c.in_ok-found.ensures in
     let word = c.in_ok-word-in_default.ensures in
-    settled_at _ _ _ _ _ c.in_ok-found.found.at to c.in_ok-word-in_default.word _ found.stays word.word word.written word.others (ap (λ (w : Parts). w.content) c.with_cdr-in_default.ensures) (same_place _ c.args.of.content to c.in_ok-found.found.at place found.place)
+    settled_at _ _ _ _ _ c.in_ok-found.found.at to c.in_ok-word-in_default.word _ found.unchanged word.word word.written word.registers (ap (λ (w : Parts). w.content) c.with_cdr-in_default.ensures) (same_place _ c.args.of.content to c.in_ok-found.found.at place found.place)
 
-pub returns-in_ok-word-in_default-clause-keeps : goal.returns-in_ok-word-in_default-clause-keeps
-returns-in_ok-word-in_default-clause-keeps g c =
+pub returns-in_ok-word-in_default-clause-stays_ground : goal.returns-in_ok-word-in_default-clause-stays_ground
+returns-in_ok-word-in_default-clause-stays_ground g c =
     let found = c.in_ok-found.ensures in
     let p = found.place in
     let word = c.in_ok-word-in_default.ensures in
-    let live = car_live _ _ _ p.reference (readable_at _ _ c.args.of p.reference p.is c.requires) found.stays c.in_ok-found.found.at p.final p.last in
-    fetched-keeps _ _ _ _ found.stays word.table word.moves word.preserves word.marks
-    (λ all. let read = read-stays_fresh _ found.stays all in word.stays_fresh (live_fresh (g.M.Memory.seen c.find_first.new.mem) _ c.in_ok-found.found.at read live) read)
+    let live = car_live _ _ _ p.reference (readable_at _ _ c.args.of p.reference p.is c.requires) found.unchanged c.in_ok-found.found.at p.final p.last in
+    fetched-keeps _ _ _ _ found.unchanged word.table word.moves word.preserves word.marks
+    (λ all. let read = read-stays_fresh _ found.unchanged all in word.stays_fresh (live_fresh (g.M.Memory.seen c.find_first.new.mem) _ c.in_ok-found.found.at read live) read)
 
-pub returns-in_ok-word-in_default-clause-kept : goal.returns-in_ok-word-in_default-clause-kept
-returns-in_ok-word-in_default-clause-kept g c =
+pub returns-in_ok-word-in_default-clause-unchanged : goal.returns-in_ok-word-in_default-clause-unchanged
+returns-in_ok-word-in_default-clause-unchanged g c =
     let found = c.in_ok-found.ensures in
     let p = found.place in
-    keeps_cons _ _ c.args.of.content p.reference p.is _ _ (car_faulted _ _ _ _ _ p.reference c.in_ok-found.found.at found.stays p.final (λ k top areas registers s aim v can. (c.in_ok-word-in_default.ensures.settles k top areas registers s aim v can).later))
+    keeps_cons _ _ c.args.of.content p.reference p.is _ _ (car_faulted _ _ _ _ _ p.reference c.in_ok-found.found.at found.unchanged p.final (λ k top areas registers s aim v can. (c.in_ok-word-in_default.ensures.settles k top areas registers s aim v can).later))
 
-pub returns-in_ok-word-in_default-clause-tells : goal.returns-in_ok-word-in_default-clause-tells
-returns-in_ok-word-in_default-clause-tells g c = answers (quiet-twice (answered-if c.in_ok-found.ensures.tells) (answered c.in_ok-word-in_default.word c.in_ok-word-in_default.ensures.tells))
+pub returns-in_ok-word-in_default-clause-accounted : goal.returns-in_ok-word-in_default-clause-accounted
+returns-in_ok-word-in_default-clause-accounted g c = answers (quiet-twice (answered-if c.in_ok-found.ensures.accounted) (answered c.in_ok-word-in_default.word c.in_ok-word-in_default.ensures.accounted))
 
 pub returns-in_ok-word-in_default-clause-words : goal.returns-in_ok-word-in_default-clause-words
 returns-in_ok-word-in_default-clause-words g c = λ to place.
     let found = c.in_ok-found.ensures in
     let same = same_place _ c.args.of.content to c.in_ok-found.found.at place found.place in
-    subst (λ (a : ℕ). FetchMoves (g.M.Memory.seen c.args.ground.now.mem) c.args.ground.now.table (g.M.Memory.seen c.fetch.new.ground.mem) c.fetch.new.ground.table a) (sym same) (fetch_moves-read found.stays c.in_ok-word-in_default.ensures.words same-stores)
+    subst (λ (a : ℕ). FetchMoves (g.M.Memory.seen c.args.ground.now.mem) c.args.ground.now.table (g.M.Memory.seen c.fetch.new.ground.mem) c.fetch.new.ground.table a) (sym same) (fetch_moves-read found.unchanged c.in_ok-word-in_default.ensures.words same-stores)
 
-pub returns-in_err-word-in_default-clause-tells : goal.returns-in_err-word-in_default-clause-tells
-returns-in_err-word-in_default-clause-tells g c =
+pub returns-in_err-word-in_default-clause-accounted : goal.returns-in_err-word-in_default-clause-accounted
+returns-in_err-word-in_default-clause-accounted g c =
     let is : is_fault c.from_residual-in_err-word-in_default.result ≡ true =
     (let was = c.in_err-word-in_default.was in let from = c.from_residual-in_err-word-in_default.ensures in let branch = c.branch-word.ensures in let is = c.in_err-word-in_default.is in grind arith) in
-    quiet-then_fault c.in_err-word-in_default.field-0.0 (answered-if c.in_ok-found.ensures.tells) c.in_err-word-in_default.ensures.tells _ is
+    quiet-then_fault c.in_err-word-in_default.field-0.0 (answered-if c.in_ok-found.ensures.accounted) c.in_err-word-in_default.ensures.accounted _ is
 
 -- The car has no old address
 
@@ -109,27 +109,27 @@ returns-in-Some-clause-car g c =
     let p = found.place in
     let first = first_read (g.M.Memory.seen c.args.ground.now.mem).words c.in_ok-found.found.at c.in_ok-found.found.first c.in-Some.first found.first c.in-Some.is in
     reads_car _ _ c.args.of.content p.reference p.is _ _ _
-    (first_answered _ _ _ c.in_ok-found.found.at c.in-Some.first found.stays first p.reference c.with_cdr.result p.final (ap (λ (w : Parts). w.content) c.with_cdr.ensures))
+    (first_answered _ _ _ c.in_ok-found.found.at c.in-Some.first found.unchanged first p.reference c.with_cdr.result p.final (ap (λ (w : Parts). w.content) c.with_cdr.ensures))
 
 pub returns-in-Some-clause-written : goal.returns-in-Some-clause-written
 returns-in-Some-clause-written g c = λ to place.
     let found = c.in_ok-found.ensures in
     let first = first_read (g.M.Memory.seen c.args.ground.now.mem).words c.in_ok-found.found.at c.in_ok-found.found.first c.in-Some.first found.first c.in-Some.is in
-    let young : HasOld c.args.ground.now.table c.in-Some.first → ⊥ = λ old. (let e = c.has_old.ensures.1 old in let f = c.if-not-has_old.true in cc) in
-    first_settled _ _ _ c.in_ok-found.found.at c.in-Some.first found.stays first young to _ (ap (λ (w : Parts). w.content) c.with_cdr.ensures) (same_place _ c.args.of.content to c.in_ok-found.found.at place found.place)
+    let young : RefersToOld c.args.ground.now.table c.in-Some.first → ⊥ = λ old. (let e = c.has_old.ensures.1 old in let f = c.if-not-has_old.true in cc) in
+    first_settled _ _ _ c.in_ok-found.found.at c.in-Some.first found.unchanged first young to _ (ap (λ (w : Parts). w.content) c.with_cdr.ensures) (same_place _ c.args.of.content to c.in_ok-found.found.at place found.place)
 
 pub returns-in-Some-clause-words : goal.returns-in-Some-clause-words
 returns-in-Some-clause-words g c = λ to place.
     let found = c.in_ok-found.ensures in
     let first = first_read (g.M.Memory.seen c.args.ground.now.mem).words c.in_ok-found.found.at c.in_ok-found.found.first c.in-Some.first found.first c.in-Some.is in
-    let young : HasOld c.args.ground.now.table c.in-Some.first → ⊥ = λ old. (let e = c.has_old.ensures.1 old in let f = c.if-not-has_old.true in cc) in
-    first_unmoved _ _ _ c.in_ok-found.found.at c.in-Some.first found.stays first young to (same_place _ c.args.of.content to c.in_ok-found.found.at place found.place)
+    let young : RefersToOld c.args.ground.now.table c.in-Some.first → ⊥ = λ old. (let e = c.has_old.ensures.1 old in let f = c.if-not-has_old.true in cc) in
+    first_unmoved _ _ _ c.in_ok-found.found.at c.in-Some.first found.unchanged first young to (same_place _ c.args.of.content to c.in_ok-found.found.at place found.place)
 
-pub returns-in-Some-clause-kept : goal.returns-in-Some-clause-kept
-returns-in-Some-clause-kept g c = reads_keep_cons c.args.ground.now.table c.args.of.content c.in_ok-found.ensures.stays
+pub returns-in-Some-clause-unchanged : goal.returns-in-Some-clause-unchanged
+returns-in-Some-clause-unchanged g c = reads_keep_cons c.args.ground.now.table c.args.of.content c.in_ok-found.ensures.unchanged
 
-pub returns-in-Some-clause-keeps : goal.returns-in-Some-clause-keeps
-returns-in-Some-clause-keeps g c = read-keeps _ _ c.args.ground.now.table c.in_ok-found.ensures.stays
+pub returns-in-Some-clause-stays_ground : goal.returns-in-Some-clause-stays_ground
+returns-in-Some-clause-stays_ground g c = read-keeps _ _ c.args.ground.now.table c.in_ok-found.ensures.unchanged
 
 -- The cost
 
@@ -143,7 +143,7 @@ pub returns-in_ok-word-in_default-clause-costs : goal.returns-in_ok-word-in_defa
 returns-in_ok-word-in_default-clause-costs g c =
     let found = c.in_ok-found.ensures.cost in
     let word = c.in_ok-word-in_default.ensures in
-    fetched-costs _ _ _ c.find_first.new.steps _ _ 60 (omega arith) word.few (λ calm. word.cost) word.most
+    fetched-costs _ _ _ c.find_first.new.steps _ _ 60 (omega arith) word.at_most (λ calm. word.cost) word.cost_at_most
 
 pub returns-in_err-word-in_default-clause-costs : goal.returns-in_err-word-in_default-clause-costs
 returns-in_err-word-in_default-clause-costs g c =
@@ -151,18 +151,18 @@ returns-in_err-word-in_default-clause-costs g c =
     (let was = c.in_err-word-in_default.was in let from = c.from_residual-in_err-word-in_default.ensures in let branch = c.branch-word.ensures in let is = c.in_err-word-in_default.is in grind arith) in
     let found = c.in_ok-found.ensures.cost in
     let word = c.in_err-word-in_default.ensures in
-    fetched-costs _ _ _ c.find_first.new.steps _ _ 60 (omega arith) word.few (λ calm. let both = sym is ∙ calm in absurd cc) word.most
+    fetched-costs _ _ _ c.find_first.new.steps _ _ 60 (omega arith) word.at_most (λ calm. let both = sym is ∙ calm in absurd cc) word.cost_at_most
 
 -- What is refused
 
 pub returns-in-Some-clause-refused : goal.returns-in-Some-clause-refused
-returns-in-Some-clause-refused g c = refuses_none _ _ _ _ _ _ (λ e. cc) (λ other. let e = c.in_ok-found.ensures.not_a_cons.1 other in cc)
+returns-in-Some-clause-refused g c = refuses_none _ _ _ _ _ _ (λ e. cc) (λ other. let e = c.in_ok-found.ensures.refused.1 other in cc)
 
 pub returns-in_ok-word-in_default-clause-refused : goal.returns-in_ok-word-in_default-clause-refused
-returns-in_ok-word-in_default-clause-refused g c = refuses_none _ _ _ _ _ _ (λ e. cc) (λ other. let e = c.in_ok-found.ensures.not_a_cons.1 other in cc)
+returns-in_ok-word-in_default-clause-refused g c = refuses_none _ _ _ _ _ _ (λ e. cc) (λ other. let e = c.in_ok-found.ensures.refused.1 other in cc)
 
 pub returns-in_err-word-in_default-clause-refused : goal.returns-in_err-word-in_default-clause-refused
 returns-in_err-word-in_default-clause-refused g c =
     let is : is_fault c.from_residual-in_err-word-in_default.result ≡ true =
     (let was = c.in_err-word-in_default.was in let from = c.from_residual-in_err-word-in_default.ensures in let branch = c.branch-word.ensures in let is = c.in_err-word-in_default.is in grind arith) in
-    refuses_none _ _ _ _ _ _ (fault-refuses_none _ is) (λ other. let e = c.in_ok-found.ensures.not_a_cons.1 other in cc)
+    refuses_none _ _ _ _ _ _ (fault-refuses_none _ is) (λ other. let e = c.in_ok-found.ensures.refused.1 other in cc)

@@ -24,161 +24,161 @@ use Rattle.cdr_lists.proofs.settled.cdr.Goals as goal
 pub read_cons-requires : goal.read_cons-requires
 read_cons-requires g c = can_find _ _ c.args.of c.requires
 
-pub returns-in_err-cons-clause-kept : goal.returns-in_err-cons-clause-kept
-returns-in_err-cons-clause-kept g c = reads_keep_cons c.args.ground.now.table c.args.of.content c.in_err-cons.ensures.stays
+pub returns-in_err-cons-clause-unchanged : goal.returns-in_err-cons-clause-unchanged
+returns-in_err-cons-clause-unchanged g c = reads_keep_cons c.args.ground.now.table c.args.of.content c.in_err-cons.ensures.unchanged
 
-pub returns-in_err-cons-clause-keeps : goal.returns-in_err-cons-clause-keeps
-returns-in_err-cons-clause-keeps g c = read-keeps _ _ c.args.ground.now.table c.in_err-cons.ensures.stays
+pub returns-in_err-cons-clause-stays_ground : goal.returns-in_err-cons-clause-stays_ground
+returns-in_err-cons-clause-stays_ground g c = read-keeps _ _ c.args.ground.now.table c.in_err-cons.ensures.unchanged
 
 -- The second word of a pair
 
-pub fetch-requires-clause-live : goal.fetch-requires-clause-live
-fetch-requires-clause-live g c =
+pub fetch-requires-clause-in_range : goal.fetch-requires-clause-in_range
+fetch-requires-clause-in_range g c =
     let cons = c.in_ok-cons.ensures in
-    let p = cons.cons.place in
-    cdr_live _ _ _ p.reference (readable_at _ _ c.args.of p.reference p.is c.requires) cons.stays c.in_ok-cons.cons.at p.final p.last (code_after cons.cons cons.stays ∙ c.in-Normal.is) (c.in_ok-cons.cons.at + 1) (omega arith)
+    let p = cons.value.place in
+    cdr_live _ _ _ p.reference (readable_at _ _ c.args.of p.reference p.is c.requires) cons.unchanged c.in_ok-cons.cons.at p.final p.last (code_after cons.value cons.unchanged ∙ c.in-Normal.is) (c.in_ok-cons.cons.at + 1) (omega arith)
 
-pub fetch-requires-clause-word : goal.fetch-requires-clause-word
-fetch-requires-clause-word g c =
+pub fetch-requires-clause-can : goal.fetch-requires-clause-can
+fetch-requires-clause-can g c =
     let cons = c.in_ok-cons.ensures in
-    let p = cons.cons.place in
-    cdr_settleable _ _ _ p.reference (readable_at _ _ c.args.of p.reference p.is c.requires) cons.stays c.in_ok-cons.cons.at p.final p.last (code_after cons.cons cons.stays ∙ c.in-Normal.is) (c.in_ok-cons.cons.at + 1) (omega arith)
+    let p = cons.value.place in
+    cdr_settleable _ _ _ p.reference (readable_at _ _ c.args.of p.reference p.is c.requires) cons.unchanged c.in_ok-cons.cons.at p.final p.last (code_after cons.value cons.unchanged ∙ c.in-Normal.is) (c.in_ok-cons.cons.at + 1) (omega arith)
 
 pub returns-in_err-second-in-Normal-clause-live : goal.returns-in_err-second-in-Normal-clause-live
 returns-in_err-second-in-Normal-clause-live g c =
-    on_err c.from_residual-in_err-second-in-Normal.result _ (live-then (live-read c.in_ok-cons.ensures.stays) c.in_err-second-in-Normal.ensures.live)
+    on_err c.from_residual-in_err-second-in-Normal.result _ (live-then (live-read c.in_ok-cons.ensures.unchanged) c.in_err-second-in-Normal.ensures.live)
 
-pub returns-in_err-second-in-Normal-clause-kept : goal.returns-in_err-second-in-Normal-clause-kept
-returns-in_err-second-in-Normal-clause-kept g c =
+pub returns-in_err-second-in-Normal-clause-unchanged : goal.returns-in_err-second-in-Normal-clause-unchanged
+returns-in_err-second-in-Normal-clause-unchanged g c =
     let cons = c.in_ok-cons.ensures in
-    let p = cons.cons.place in
+    let p = cons.value.place in
     keeps_cons _ _ c.args.of.content p.reference p.is _ _
-    (cdr_faulted _ _ _ _ _ p.reference c.in_ok-cons.cons.at cons.stays p.final (code_after cons.cons cons.stays ∙ c.in-Normal.is) (c.in_ok-cons.cons.at + 1) (omega arith) c.in_err-second-in-Normal.ensures.fault)
+    (cdr_faulted _ _ _ _ _ p.reference c.in_ok-cons.cons.at cons.unchanged p.final (code_after cons.value cons.unchanged ∙ c.in-Normal.is) (c.in_ok-cons.cons.at + 1) (omega arith) c.in_err-second-in-Normal.ensures.fault)
 
-pub returns-in_ok-second-in-Normal-clause-kept : goal.returns-in_ok-second-in-Normal-clause-kept
-returns-in_ok-second-in-Normal-clause-kept g c =
+pub returns-in_ok-second-in-Normal-clause-unchanged : goal.returns-in_ok-second-in-Normal-clause-unchanged
+returns-in_ok-second-in-Normal-clause-unchanged g c =
     let cons = c.in_ok-cons.ensures in
-    let p = cons.cons.place in
+    let p = cons.value.place in
     keeps_cons _ _ c.args.of.content p.reference p.is _ _
-    (cdr_faulted _ _ _ _ _ p.reference c.in_ok-cons.cons.at cons.stays p.final (code_after cons.cons cons.stays ∙ c.in-Normal.is) (c.in_ok-cons.cons.at + 1) (omega arith)
+    (cdr_faulted _ _ _ _ _ p.reference c.in_ok-cons.cons.at cons.unchanged p.final (code_after cons.value cons.unchanged ∙ c.in-Normal.is) (c.in_ok-cons.cons.at + 1) (omega arith)
     (λ k top areas registers s aim v can. (c.in_ok-second-in-Normal.ensures.settles k top areas registers s aim v can).later))
 
 pub returns-in_ok-second-in-Normal-clause-cdr : goal.returns-in_ok-second-in-Normal-clause-cdr
 returns-in_ok-second-in-Normal-clause-cdr g c =
     let cons = c.in_ok-cons.ensures in
-    let p = cons.cons.place in
+    let p = cons.value.place in
     reads_cdr_of _ _ c.args.of.content p.reference p.is _ _ _
-    (cdr_fetched _ _ _ _ _ p.reference c.in_ok-cons.cons.at cons.stays p.final (code_after cons.cons cons.stays ∙ c.in-Normal.is) (c.in_ok-cons.cons.at + 1) (omega arith) c.in_ok-second-in-Normal.second c.with_cdr.result c.in_ok-second-in-Normal.ensures.settles
+    (cdr_fetched _ _ _ _ _ p.reference c.in_ok-cons.cons.at cons.unchanged p.final (code_after cons.value cons.unchanged ∙ c.in-Normal.is) (c.in_ok-cons.cons.at + 1) (omega arith) c.in_ok-second-in-Normal.second c.with_cdr.result c.in_ok-second-in-Normal.ensures.settles
     (ap (λ (w : Parts). w.content) c.with_cdr.ensures))
 
 pub returns-in_ok-second-in-Normal-clause-pair : goal.returns-in_ok-second-in-Normal-clause-pair
 returns-in_ok-second-in-Normal-clause-pair g c = λ to there normal.
     let cons = c.in_ok-cons.ensures in
     let second = c.in_ok-second-in-Normal.ensures in
-    let place : suc to ≡ c.in_ok-cons.cons.at + 1 = (let e = same_place _ c.args.of.content to c.in_ok-cons.cons.at there cons.cons.place in omega arith) in
-    settled_at _ _ _ _ _ (c.in_ok-cons.cons.at + 1) (suc to) c.in_ok-second-in-Normal.second _ cons.stays second.word second.written second.others (ap (λ (w : Parts). w.content) c.with_cdr.ensures) place
+    let place : suc to ≡ c.in_ok-cons.cons.at + 1 = (let e = same_place _ c.args.of.content to c.in_ok-cons.cons.at there cons.value.place in omega arith) in
+    settled_at _ _ _ _ _ (c.in_ok-cons.cons.at + 1) (suc to) c.in_ok-second-in-Normal.second _ cons.unchanged second.word second.written second.registers (ap (λ (w : Parts). w.content) c.with_cdr.ensures) place
 
 pub returns-in_ok-second-in-Normal-clause-cell : goal.returns-in_ok-second-in-Normal-clause-cell
-returns-in_ok-second-in-Normal-clause-cell g c = λ to there other. absurd (other (code_there to c.in_ok-cons.ensures.cons there ∙ c.in-Normal.is))
+returns-in_ok-second-in-Normal-clause-cell g c = λ to there other. absurd (other (code_there to c.in_ok-cons.ensures.value there ∙ c.in-Normal.is))
 
 pub returns-in_ok-second-in-Normal-clause-words : goal.returns-in_ok-second-in-Normal-clause-words
 returns-in_ok-second-in-Normal-clause-words g c = λ to there normal.
     let cons = c.in_ok-cons.ensures in
-    let place : c.in_ok-cons.cons.at + 1 ≡ suc to = (let e = same_place _ c.args.of.content to c.in_ok-cons.cons.at there cons.cons.place in omega arith) in
-    subst (λ (a : ℕ). FetchMoves (g.M.Memory.seen c.args.ground.now.mem) c.args.ground.now.table (g.M.Memory.seen c.fetch.new.ground.mem) c.fetch.new.ground.table a) place (fetch_moves-read cons.stays c.in_ok-second-in-Normal.ensures.words same-stores)
+    let place : c.in_ok-cons.cons.at + 1 ≡ suc to = (let e = same_place _ c.args.of.content to c.in_ok-cons.cons.at there cons.value.place in omega arith) in
+    subst (λ (a : ℕ). FetchMoves (g.M.Memory.seen c.args.ground.now.mem) c.args.ground.now.table (g.M.Memory.seen c.fetch.new.ground.mem) c.fetch.new.ground.table a) place (fetch_moves-read cons.unchanged c.in_ok-second-in-Normal.ensures.words same-stores)
 
-pub returns-in_err-second-in-Normal-clause-keeps : goal.returns-in_err-second-in-Normal-clause-keeps
-returns-in_err-second-in-Normal-clause-keeps g c =
+pub returns-in_err-second-in-Normal-clause-stays_ground : goal.returns-in_err-second-in-Normal-clause-stays_ground
+returns-in_err-second-in-Normal-clause-stays_ground g c =
     let cons = c.in_ok-cons.ensures in
-    let p = cons.cons.place in
+    let p = cons.value.place in
     let second = c.in_err-second-in-Normal.ensures in
-    let live = cdr_live _ _ _ p.reference (readable_at _ _ c.args.of p.reference p.is c.requires) cons.stays c.in_ok-cons.cons.at p.final p.last (code_after cons.cons cons.stays ∙ c.in-Normal.is) (c.in_ok-cons.cons.at + 1) (omega arith) in
-    fetched-keeps _ _ _ _ cons.stays second.table second.moves second.preserves second.marks
-    (λ all. let read = read-stays_fresh _ cons.stays all in second.stays_fresh (live_fresh (g.M.Memory.seen c.read_cons.new.mem) _ (c.in_ok-cons.cons.at + 1) read live) read)
+    let live = cdr_live _ _ _ p.reference (readable_at _ _ c.args.of p.reference p.is c.requires) cons.unchanged c.in_ok-cons.cons.at p.final p.last (code_after cons.value cons.unchanged ∙ c.in-Normal.is) (c.in_ok-cons.cons.at + 1) (omega arith) in
+    fetched-keeps _ _ _ _ cons.unchanged second.table second.moves second.preserves second.marks
+    (λ all. let read = read-stays_fresh _ cons.unchanged all in second.stays_fresh (live_fresh (g.M.Memory.seen c.read_cons.new.mem) _ (c.in_ok-cons.cons.at + 1) read live) read)
 
-pub returns-in_ok-second-in-Normal-clause-keeps : goal.returns-in_ok-second-in-Normal-clause-keeps
-returns-in_ok-second-in-Normal-clause-keeps g c =
+pub returns-in_ok-second-in-Normal-clause-stays_ground : goal.returns-in_ok-second-in-Normal-clause-stays_ground
+returns-in_ok-second-in-Normal-clause-stays_ground g c =
     let cons = c.in_ok-cons.ensures in
-    let p = cons.cons.place in
+    let p = cons.value.place in
     let second = c.in_ok-second-in-Normal.ensures in
-    let live = cdr_live _ _ _ p.reference (readable_at _ _ c.args.of p.reference p.is c.requires) cons.stays c.in_ok-cons.cons.at p.final p.last (code_after cons.cons cons.stays ∙ c.in-Normal.is) (c.in_ok-cons.cons.at + 1) (omega arith) in
-    fetched-keeps _ _ _ _ cons.stays second.table second.moves second.preserves second.marks
-    (λ all. let read = read-stays_fresh _ cons.stays all in second.stays_fresh (live_fresh (g.M.Memory.seen c.read_cons.new.mem) _ (c.in_ok-cons.cons.at + 1) read live) read)
+    let live = cdr_live _ _ _ p.reference (readable_at _ _ c.args.of p.reference p.is c.requires) cons.unchanged c.in_ok-cons.cons.at p.final p.last (code_after cons.value cons.unchanged ∙ c.in-Normal.is) (c.in_ok-cons.cons.at + 1) (omega arith) in
+    fetched-keeps _ _ _ _ cons.unchanged second.table second.moves second.preserves second.marks
+    (λ all. let read = read-stays_fresh _ cons.unchanged all in second.stays_fresh (live_fresh (g.M.Memory.seen c.read_cons.new.mem) _ (c.in_ok-cons.cons.at + 1) read live) read)
 
-pub returns-in_err-second-in-Normal-clause-tells : goal.returns-in_err-second-in-Normal-clause-tells
-returns-in_err-second-in-Normal-clause-tells g c =
+pub returns-in_err-second-in-Normal-clause-accounted : goal.returns-in_err-second-in-Normal-clause-accounted
+returns-in_err-second-in-Normal-clause-accounted g c =
     let is : is_fault c.from_residual-in_err-second-in-Normal.result ≡ true =
     (let was = c.in_err-second-in-Normal.was in let from = c.from_residual-in_err-second-in-Normal.ensures in let branch = c.branch-second.ensures in let is = c.in_err-second-in-Normal.is in grind arith) in
-    quiet-then_fault c.in_err-second-in-Normal.field-0.0 (answered-if c.in_ok-cons.ensures.tells) c.in_err-second-in-Normal.ensures.tells _ is
+    quiet-then_fault c.in_err-second-in-Normal.field-0.0 (answered-if c.in_ok-cons.ensures.accounted) c.in_err-second-in-Normal.ensures.accounted _ is
 
-pub returns-in_ok-second-in-Normal-clause-tells : goal.returns-in_ok-second-in-Normal-clause-tells
-returns-in_ok-second-in-Normal-clause-tells g c = answers (quiet-twice (answered-if c.in_ok-cons.ensures.tells) (answered c.in_ok-second-in-Normal.second c.in_ok-second-in-Normal.ensures.tells))
+pub returns-in_ok-second-in-Normal-clause-accounted : goal.returns-in_ok-second-in-Normal-clause-accounted
+returns-in_ok-second-in-Normal-clause-accounted g c = answers (quiet-twice (answered-if c.in_ok-cons.ensures.accounted) (answered c.in_ok-second-in-Normal.second c.in_ok-second-in-Normal.ensures.accounted))
 
 -- The last cell
 
-pub returns-in-Nil-clause-kept : goal.returns-in-Nil-clause-kept
-returns-in-Nil-clause-kept g c = reads_keep_cons c.args.ground.now.table c.args.of.content c.in_ok-cons.ensures.stays
+pub returns-in-Nil-clause-unchanged : goal.returns-in-Nil-clause-unchanged
+returns-in-Nil-clause-unchanged g c = reads_keep_cons c.args.ground.now.table c.args.of.content c.in_ok-cons.ensures.unchanged
 
 pub returns-in-Nil-clause-cdr : goal.returns-in-Nil-clause-cdr
 returns-in-Nil-clause-cdr g c =
     let words = (g.M.Memory.seen c.args.ground.now.mem).words in
     let cons = c.in_ok-cons.ensures in
-    let p = cons.cons.place in
+    let p = cons.value.place in
     let at = c.in_ok-cons.cons.at in
-    let nil = cdr_is words at CdrNil (sym c.in-Nil.is ∙ sym cons.cons.code) in
-    reads_cdr_of _ _ c.args.of.content p.reference p.is _ _ _ (reads_cdr _ _ _ p.reference at c.nil.result cons.stays p.final (ap (λ (w : Parts). w.content) c.nil.ensures ∙ nil))
+    let nil = cdr_is words at CdrNil (sym c.in-Nil.is ∙ sym cons.value.code) in
+    reads_cdr_of _ _ c.args.of.content p.reference p.is _ _ _ (reads_cdr _ _ _ p.reference at c.nil.result cons.unchanged p.final (ap (λ (w : Parts). w.content) c.nil.ensures ∙ nil))
 
 pub returns-in-Nil-clause-pair : goal.returns-in-Nil-clause-pair
 returns-in-Nil-clause-pair g c = λ to there normal.
-    let both : CdrNil ≡ Normal = sym c.in-Nil.is ∙ sym (code_there to c.in_ok-cons.ensures.cons there) ∙ normal in
+    let both : CdrNil ≡ Normal = sym c.in-Nil.is ∙ sym (code_there to c.in_ok-cons.ensures.value there) ∙ normal in
     absurd cc
 
 pub returns-in-Nil-clause-cell : goal.returns-in-Nil-clause-cell
-returns-in-Nil-clause-cell g c = λ to there other. (c.in_ok-cons.ensures.stays, refl)
+returns-in-Nil-clause-cell g c = λ to there other. (c.in_ok-cons.ensures.unchanged, refl)
 
 pub returns-in-Nil-clause-words : goal.returns-in-Nil-clause-words
 returns-in-Nil-clause-words g c = λ to there normal.
-    let both : CdrNil ≡ Normal = sym c.in-Nil.is ∙ sym (code_there to c.in_ok-cons.ensures.cons there) ∙ normal in
+    let both : CdrNil ≡ Normal = sym c.in-Nil.is ∙ sym (code_there to c.in_ok-cons.ensures.value there) ∙ normal in
     absurd cc
 
-pub returns-in-Nil-clause-keeps : goal.returns-in-Nil-clause-keeps
-returns-in-Nil-clause-keeps g c = read-keeps _ _ c.args.ground.now.table c.in_ok-cons.ensures.stays
+pub returns-in-Nil-clause-stays_ground : goal.returns-in-Nil-clause-stays_ground
+returns-in-Nil-clause-stays_ground g c = read-keeps _ _ c.args.ground.now.table c.in_ok-cons.ensures.unchanged
 
 -- Another cell
 
-pub returns-in_default-clause-kept : goal.returns-in_default-clause-kept
-returns-in_default-clause-kept g c = reads_keep_cons c.args.ground.now.table c.args.of.content c.in_ok-cons.ensures.stays
+pub returns-in_default-clause-unchanged : goal.returns-in_default-clause-unchanged
+returns-in_default-clause-unchanged g c = reads_keep_cons c.args.ground.now.table c.args.of.content c.in_ok-cons.ensures.unchanged
 
 pub returns-in_default-clause-cdr : goal.returns-in_default-clause-cdr
 returns-in_default-clause-cdr g c =
     let words = (g.M.Memory.seen c.args.ground.now.mem).words in
     let cons = c.in_ok-cons.ensures in
-    let p = cons.cons.place in
+    let p = cons.value.place in
     let at = c.in_ok-cons.cons.at in
     let place : c.in_ok-cons.cons.at + 1 ≡ suc c.in_ok-cons.cons.at = omega arith in
     let behind = list_behind c.in_ok-cons.cons.code at (word_at words (suc at)).content c.in_default.not-Nil c.in_default.not-Normal in
     reads_cdr_of _ _ c.args.of.content p.reference p.is _ _ _
-    (reads_cdr _ _ _ p.reference at c.list_at.result cons.stays p.final (ap (λ (w : Parts). w.content) c.list_at.ensures ∙ ap (λ (a : ℕ). ListAt a) place ∙ behind ∙ cdr_is words at c.in_ok-cons.cons.code (sym cons.cons.code)))
+    (reads_cdr _ _ _ p.reference at c.list_at.result cons.unchanged p.final (ap (λ (w : Parts). w.content) c.list_at.ensures ∙ ap (λ (a : ℕ). ListAt a) place ∙ behind ∙ cdr_is words at c.in_ok-cons.cons.code (sym cons.value.code)))
 
 pub returns-in_default-clause-fresh : goal.returns-in_default-clause-fresh
 returns-in_default-clause-fresh g c =
     let cons = c.in_ok-cons.ensures in
-    let p = cons.cons.place in
-    let code = sym (code_after cons.cons cons.stays) in
-    list_fresh _ (g.M.Memory.seen c.read_cons.new.mem) _ p.reference (readable_at _ _ c.args.of p.reference p.is c.requires) cons.stays c.in_ok-cons.cons.at p.final p.last
+    let p = cons.value.place in
+    let code = sym (code_after cons.value cons.unchanged) in
+    list_fresh _ (g.M.Memory.seen c.read_cons.new.mem) _ p.reference (readable_at _ _ c.args.of p.reference p.is c.requires) cons.unchanged c.in_ok-cons.cons.at p.final p.last
     (λ e. c.in_default.not-Nil (code ∙ e)) (λ e. c.in_default.not-Normal (code ∙ e)) c.list_at.result (c.in_ok-cons.cons.at + 1) (omega arith) (ap (λ (w : Parts). w.content) c.list_at.ensures)
 
 pub returns-in_default-clause-pair : goal.returns-in_default-clause-pair
-returns-in_default-clause-pair g c = λ to there normal. absurd (c.in_default.not-Normal (sym (code_there to c.in_ok-cons.ensures.cons there) ∙ normal))
+returns-in_default-clause-pair g c = λ to there normal. absurd (c.in_default.not-Normal (sym (code_there to c.in_ok-cons.ensures.value there) ∙ normal))
 
 pub returns-in_default-clause-cell : goal.returns-in_default-clause-cell
-returns-in_default-clause-cell g c = λ to there other. (c.in_ok-cons.ensures.stays, refl)
+returns-in_default-clause-cell g c = λ to there other. (c.in_ok-cons.ensures.unchanged, refl)
 
 pub returns-in_default-clause-words : goal.returns-in_default-clause-words
-returns-in_default-clause-words g c = λ to there normal. absurd (c.in_default.not-Normal (sym (code_there to c.in_ok-cons.ensures.cons there) ∙ normal))
+returns-in_default-clause-words g c = λ to there normal. absurd (c.in_default.not-Normal (sym (code_there to c.in_ok-cons.ensures.value there) ∙ normal))
 
-pub returns-in_default-clause-keeps : goal.returns-in_default-clause-keeps
-returns-in_default-clause-keeps g c = read-keeps _ _ c.args.ground.now.table c.in_ok-cons.ensures.stays
+pub returns-in_default-clause-stays_ground : goal.returns-in_default-clause-stays_ground
+returns-in_default-clause-stays_ground g c = read-keeps _ _ c.args.ground.now.table c.in_ok-cons.ensures.unchanged
 
 -- The cost
 
@@ -195,7 +195,7 @@ pub returns-in_ok-second-in-Normal-clause-costs : goal.returns-in_ok-second-in-N
 returns-in_ok-second-in-Normal-clause-costs g c =
     let cons = c.in_ok-cons.ensures.cost in
     let second = c.in_ok-second-in-Normal.ensures in
-    fetched-costs _ _ _ c.read_cons.new.steps _ _ 61 (omega arith) second.few (λ calm. second.cost) second.most
+    fetched-costs _ _ _ c.read_cons.new.steps _ _ 61 (omega arith) second.at_most (λ calm. second.cost) second.cost_at_most
 
 pub returns-in_err-second-in-Normal-clause-costs : goal.returns-in_err-second-in-Normal-clause-costs
 returns-in_err-second-in-Normal-clause-costs g c =
@@ -203,15 +203,15 @@ returns-in_err-second-in-Normal-clause-costs g c =
     (let was = c.in_err-second-in-Normal.was in let from = c.from_residual-in_err-second-in-Normal.ensures in let branch = c.branch-second.ensures in let is = c.in_err-second-in-Normal.is in grind arith) in
     let cons = c.in_ok-cons.ensures.cost in
     let second = c.in_err-second-in-Normal.ensures in
-    fetched-costs _ _ _ c.read_cons.new.steps _ _ 61 (omega arith) second.few (λ calm. let both = sym is ∙ calm in absurd cc) second.most
+    fetched-costs _ _ _ c.read_cons.new.steps _ _ 61 (omega arith) second.at_most (λ calm. let both = sym is ∙ calm in absurd cc) second.cost_at_most
 
 -- What is refused
 
 pub returns-in_ok-second-in-Normal-clause-refused : goal.returns-in_ok-second-in-Normal-clause-refused
-returns-in_ok-second-in-Normal-clause-refused g c = refuses_none _ _ _ _ _ _ (λ e. cc) (λ other. let e = c.in_ok-cons.ensures.not_a_cons.1 other in cc)
+returns-in_ok-second-in-Normal-clause-refused g c = refuses_none _ _ _ _ _ _ (λ e. cc) (λ other. let e = c.in_ok-cons.ensures.refused.1 other in cc)
 
 pub returns-in-Nil-clause-refused : goal.returns-in-Nil-clause-refused
-returns-in-Nil-clause-refused g c = refuses_none _ _ _ _ _ _ (λ e. cc) (λ other. let e = c.in_ok-cons.ensures.not_a_cons.1 other in cc)
+returns-in-Nil-clause-refused g c = refuses_none _ _ _ _ _ _ (λ e. cc) (λ other. let e = c.in_ok-cons.ensures.refused.1 other in cc)
 
 pub returns-in_default-clause-refused : goal.returns-in_default-clause-refused
-returns-in_default-clause-refused g c = refuses_none _ _ _ _ _ _ (λ e. cc) (λ other. let e = c.in_ok-cons.ensures.not_a_cons.1 other in cc)
+returns-in_default-clause-refused g c = refuses_none _ _ _ _ _ _ (λ e. cc) (λ other. let e = c.in_ok-cons.ensures.refused.1 other in cc)

@@ -1,5 +1,5 @@
 use Rattle.file_modes.proofs.Charged.{accepted_few}
 use Rattle.file_modes.proofs.mode.why_of.Goals as goal
 
-pub why-requires-clause-few : goal.why-requires-clause-few
-why-requires-clause-few c = accepted_few c.args.world.now c.requires.accepted
+pub why-requires-clause-at_most : goal.why-requires-clause-at_most
+why-requires-clause-at_most c = accepted_few c.args.world.now c.requires.accepted

@@ -3,7 +3,7 @@ use Rattle.file_modes.proofs.Taking.{fault_taken, gave_none, gave_piece, taken_m
 use Rattle.file_modes.proofs.read_all.gather.Goals as goal
 
 pub loop-source-init : goal.loop-source-init
-loop-source-init g c = record { gave = gave_none c.args.bytes.items c.requires.none; piece = c.requires.piece; quiet = refl }
+loop-source-init g c = record { gave = gave_none c.args.bytes.items c.requires.empty; piece = c.requires.at_least; quiet = refl }
 
 pub returns-in-Err-clause-taken : goal.returns-in-Err-clause-taken
 returns-in-Err-clause-taken g c = fault_taken c.args.limit c.loop-source.bytes.items (search rules) c.in-Err.ensures.err c.loop-source.invariant.gave

@@ -2,7 +2,7 @@ use Rattle.file_modes.proofs.Telling.{closed_quiet, closed_read}
 use Rattle.file_modes.proofs.run.run_mode.Goals as goal
 
 pub returns-clause-ran : goal.returns-clause-ran
-returns-clause-ran g c = let a = c.answer-answer.ensures.answered in record {
+returns-clause-ran g c = let a = c.answer-answer.ensures.value in record {
   i = a.i;
   b = a.b;
   input = a.input;
@@ -11,11 +11,11 @@ returns-clause-ran g c = let a = c.answer-answer.ensures.answered in record {
   outcome = c.answer-answer.result;
   right = a.right;
   cause = c.answer-answer.ensures.read;
-  wrote = c.write_answer.ensures.wrote;
+  wrote = c.write_answer.ensures.written;
 }
 
 pub returns-clause-read : goal.returns-clause-read
-returns-clause-read g c = closed_read c.answer-answer.result c.write_answer.result _ c.answer-answer.ensures.read c.write_answer.ensures.wrote
+returns-clause-read g c = closed_read c.answer-answer.result c.write_answer.result _ c.answer-answer.ensures.read c.write_answer.ensures.written
 
-pub returns-clause-quiet_source : goal.returns-clause-quiet_source
-returns-clause-quiet_source g c = closed_quiet c.answer-answer.result c.write_answer.result _ c.answer-answer.ensures.quiet c.write_answer.ensures.wrote
+pub returns-clause-source_no_fault : goal.returns-clause-source_no_fault
+returns-clause-source_no_fault g c = closed_quiet c.answer-answer.result c.write_answer.result _ c.answer-answer.ensures.no_fault c.write_answer.ensures.written

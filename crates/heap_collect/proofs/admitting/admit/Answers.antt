@@ -14,31 +14,31 @@ returns-then-quota-charged-clause-refused g c command k s may wants x =
     let m = g.M.Memory.seen c.args.ground.now.mem in
     let t = c.args.ground.now.table in
     let step = refusal_steps m t c.args.scan.now c.args.registers.now k s command c.args.area c.args.charge x wants c.requires.area
-    (less_here c.quota-quota.result c.account-charged.result c.args.charge (account_of c.args.ground.now.table c.args.area) (quota_of c.args.ground.now.table c.args.area) c.account-charged.ensures.account c.quota-quota.ensures.quota c.if-quota-charged.true) in
-    let same = told_refusal t c.args.area c.args.charge c.account-charged.result c.quota-quota.result c.account-charged.ensures.account c.quota-quota.ensures.quota in
+    (less_here c.quota-quota.result c.account-charged.result c.args.charge (account_of c.args.ground.now.table c.args.area) (quota_of c.args.ground.now.table c.args.area) c.account-charged.ensures.value c.quota-quota.ensures.value c.if-quota-charged.true) in
+    let same = told_refusal t c.args.area c.args.charge c.account-charged.result c.quota-quota.result c.account-charged.ensures.value c.quota-quota.ensures.value in
     subst (λ r. StepsTo m t c.args.scan.now c.args.registers.now s command r) (sym same) step
 
-pub returns-in-Ok-clause-ahead : goal.returns-in-Ok-clause-ahead
-returns-in-Ok-clause-ahead g c k s x =
+pub returns-in-Ok-clause-step : goal.returns-in-Ok-clause-step
+returns-in-Ok-clause-step g c k s x =
     let same = ap (λ (n : ℕ). n * c.from-2.result) c.from.ensures ∙ ap (λ (n : ℕ). c.args.rate * n) c.from-2.ensures in
     subst (λ n. HasScannedAhead (g.M.Memory.seen c.args.ground.now.mem) c.args.ground.now.table (g.M.Memory.seen c.scan_ahead.new.ground.mem) c.scan_ahead.new.ground.table c.scan_ahead.new.scan c.scan_ahead.new.registers k s n) same
-    (c.in-Ok.ensures.ahead k s x)
+    (c.in-Ok.ensures.step k s x)
 
 pub returns-in-Ok-clause-left : goal.returns-in-Ok-clause-left
 returns-in-Ok-clause-left g c =
-    let y = c.requires.standing in
-    let ahead = c.in-Ok.ensures.ahead y.map y.state y.represents in
+    let y = c.requires.represented in
+    let ahead = c.in-Ok.ensures.step y.map y.state y.represents in
     left_still (g.M.Memory.seen c.args.ground.now.mem) (g.M.Memory.seen c.scan_ahead.new.ground.mem) c.args.ground.now.table c.scan_ahead.new.ground.table c.args.registers.now c.scan_ahead.new.registers
     y.map ahead.represented.map y.state c.args.area c.args.charge y.represents.represents ahead.represented.represents c.requires.area
-    (left_here c.quota-quota.result c.account-charged.result c.args.charge (account_of c.args.ground.now.table c.args.area) (quota_of c.args.ground.now.table c.args.area) c.account-charged.ensures.account c.quota-quota.ensures.quota c.account-charged.ensures.paid c.if-quota-charged.false)
+    (left_here c.quota-quota.result c.account-charged.result c.args.charge (account_of c.args.ground.now.table c.args.area) (quota_of c.args.ground.now.table c.args.area) c.account-charged.ensures.value c.quota-quota.ensures.value c.account-charged.ensures.at_most c.if-quota-charged.false)
 
 pub returns-in-Err-clause-refused : goal.returns-in-Err-clause-refused
 returns-in-Err-clause-refused g c command k s may wants x =
     fault_steps (g.M.Memory.seen c.args.ground.now.mem) c.args.ground.now.table c.args.scan.now c.args.registers.now k s command c.args.area c.args.charge x wants
     (g.M.Memory.seen c.scan_ahead.new.ground.mem) c.scan_ahead.new.ground.table c.scan_ahead.new.scan c.scan_ahead.new.registers may (c.in-Err.ensures.fault k s x)
 
-pub returns-then-quota-charged-clause-on : goal.returns-then-quota-charged-clause-on
-returns-then-quota-charged-clause-on g c = nothing_scanned
+pub returns-then-quota-charged-clause-goes_on : goal.returns-then-quota-charged-clause-goes_on
+returns-then-quota-charged-clause-goes_on g c = nothing_scanned
 
 pub returns-then-quota-charged-clause-table : goal.returns-then-quota-charged-clause-table
 returns-then-quota-charged-clause-table g c = grows-same

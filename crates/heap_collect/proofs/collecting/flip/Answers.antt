@@ -6,27 +6,27 @@ use Rattle.heap_collect.proofs.collecting.flip.Goals as goal
 
 pub begin_collection-pages-requires : goal.begin_collection-pages-requires
 begin_collection-pages-requires g c = record {
-  resting = resting _ _ _ c.requires.standing (aim_none c.args.ground.now.table.aim c.condemned.result c.is_some.result c.condemned.ensures c.is_some.ensures c.if-is_some.false);
+  idle = resting _ _ _ c.requires.represented (aim_none c.args.ground.now.table.aim c.condemned.result c.is_some.result c.condemned.ensures c.is_some.ensures c.if-is_some.false);
 }
 
 pub returns-clause-step : goal.returns-clause-step
 returns-clause-step g c registers k s x count size =
     flip_steps (g.M.Memory.seen c.args.ground.now.mem) c.args.ground.now.table c.args.scan.now (g.M.Memory.seen c.begin_collection-pages.new.ground.mem) c.begin_collection-pages.new.ground.table c.begin_collection-pages.new.scan registers c.args.what c.begin_collection-pages.result
-    (aim_none c.args.ground.now.table.aim c.condemned.result c.is_some.result c.condemned.ensures c.is_some.ensures c.if-is_some.false) c.begin_collection-pages.ensures.few c.begin_collection-pages.ensures.flips k s x count size
+    (aim_none c.args.ground.now.table.aim c.condemned.result c.is_some.result c.condemned.ensures c.is_some.ensures c.if-is_some.false) c.begin_collection-pages.ensures.at_most c.begin_collection-pages.ensures.flips k s x count size
 
 pub returns-clause-flips : goal.returns-clause-flips
 returns-clause-flips g c = λ none.
     flips_told (g.M.Memory.seen c.args.ground.now.mem) c.args.ground.now.table c.args.scan.now (g.M.Memory.seen c.begin_collection-pages.new.ground.mem) c.begin_collection-pages.new.ground.table c.begin_collection-pages.new.scan c.args.what c.begin_collection-pages.result _
     none c.begin_collection-pages.ensures.pages c.begin_collection-pages.ensures.flips
 
-pub returns-clause-busy : goal.returns-clause-busy
-returns-clause-busy g c = λ some. absurd (some (aim_none c.args.ground.now.table.aim c.condemned.result c.is_some.result c.condemned.ensures c.is_some.ensures c.if-is_some.false))
+pub returns-clause-refused : goal.returns-clause-refused
+returns-clause-refused g c = λ some. absurd (some (aim_none c.args.ground.now.table.aim c.condemned.result c.is_some.result c.condemned.ensures c.is_some.ensures c.if-is_some.false))
 
 pub returns-clause-pages : goal.returns-clause-pages
 returns-clause-pages g c = λ _. ap R.Flipped c.begin_collection-pages.ensures.pages
 
-pub returns-clause-few : goal.returns-clause-few
-returns-clause-few g c = λ _. subst (λ (n : ℕ). n ≤ 16 * c.args.ground.now.table.regions) c.begin_collection-pages.ensures.pages c.begin_collection-pages.ensures.few
+pub returns-clause-at_most : goal.returns-clause-at_most
+returns-clause-at_most g c = λ _. subst (λ (n : ℕ). n ≤ 16 * c.args.ground.now.table.regions) c.begin_collection-pages.ensures.pages c.begin_collection-pages.ensures.at_most
 
 pub returns-then-is_some-clause-step : goal.returns-then-is_some-clause-step
 returns-then-is_some-clause-step g c registers k s x count size =
@@ -44,8 +44,8 @@ returns-then-is_some-clause-table g c = λ none. absurd (aim_some c.args.ground.
 pub returns-then-is_some-clause-begins : goal.returns-then-is_some-clause-begins
 returns-then-is_some-clause-begins g c = λ none. absurd (aim_some c.args.ground.now.table.aim c.condemned.result c.is_some.result c.condemned.ensures c.is_some.ensures c.if-is_some.true none)
 
-pub returns-then-is_some-clause-few : goal.returns-then-is_some-clause-few
-returns-then-is_some-clause-few g c = λ none. absurd (aim_some c.args.ground.now.table.aim c.condemned.result c.is_some.result c.condemned.ensures c.is_some.ensures c.if-is_some.true none)
+pub returns-then-is_some-clause-at_most : goal.returns-then-is_some-clause-at_most
+returns-then-is_some-clause-at_most g c = λ none. absurd (aim_some c.args.ground.now.table.aim c.condemned.result c.is_some.result c.condemned.ensures c.is_some.ensures c.if-is_some.true none)
 
 pub returns-then-is_some-clause-going : goal.returns-then-is_some-clause-going
 returns-then-is_some-clause-going g c = λ none. absurd (aim_some c.args.ground.now.table.aim c.condemned.result c.is_some.result c.condemned.ensures c.is_some.ensures c.if-is_some.true none)

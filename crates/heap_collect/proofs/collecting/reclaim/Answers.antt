@@ -7,7 +7,7 @@ use Rattle.heap_collect.proofs.collecting.reclaim.Goals as goal
 
 pub end_collection-requires : goal.end_collection-requires
 end_collection-requires g c = record {
-  done = done _ _ _ c.requires.standing (some_of c.args.ground.now.table.aim c.condemned.result c.is_none.result c.condemned.ensures c.is_none.ensures c.if-is_none.false) (sym c.is_over.ensures ∙ c.if-not-is_over.false);
+  done = done _ _ _ c.requires.represented (some_of c.args.ground.now.table.aim c.condemned.result c.is_none.result c.condemned.ensures c.is_none.ensures c.if-is_none.false) (sym c.is_over.ensures ∙ c.if-not-is_over.false);
 }
 
 pub returns-clause-reclaims : goal.returns-clause-reclaims
@@ -28,19 +28,19 @@ returns-clause-step g c registers k s x =
     (some_of c.args.ground.now.table.aim c.condemned.result c.is_none.result c.condemned.ensures c.is_none.ensures c.if-is_none.false) over c.end_collection.ensures.reclaims k s x)
 
 pub returns-clause-regions : goal.returns-clause-regions
-returns-clause-regions g c = ap (λ (y : Table). y.regions) c.end_collection.ensures.freed.same
+returns-clause-regions g c = ap (λ (y : Table). y.regions) c.end_collection.ensures.free.same
 
 pub returns-then-not-is_over-clause-step : goal.returns-then-not-is_over-clause-step
 returns-then-not-is_over-clause-step g c registers k s x =
     not_done_steps (g.M.Memory.seen c.args.ground.now.mem) c.args.ground.now.table c.args.scan.now registers
     (some_of c.args.ground.now.table.aim c.condemned.result c.is_none.result c.condemned.ensures c.is_none.ensures c.if-is_none.false) (sym c.is_over.ensures ∙ c.if-not-is_over.true) k s x
 
-pub returns-then-not-is_over-clause-frees : goal.returns-then-not-is_over-clause-frees
-returns-then-not-is_over-clause-frees g c = frees_nothing (g.M.Memory.seen c.args.ground.now.mem) c.args.ground.now.table
+pub returns-then-not-is_over-clause-at_most : goal.returns-then-not-is_over-clause-at_most
+returns-then-not-is_over-clause-at_most g c = frees_nothing (g.M.Memory.seen c.args.ground.now.mem) c.args.ground.now.table
 
 pub returns-then-is_none-clause-step : goal.returns-then-is_none-clause-step
 returns-then-is_none-clause-step g c registers k s x =
     not_flipped_steps (g.M.Memory.seen c.args.ground.now.mem) c.args.ground.now.table c.args.scan.now registers (none_of c.args.ground.now.table.aim c.condemned.result c.is_none.result c.condemned.ensures c.is_none.ensures c.if-is_none.true) k s x
 
-pub returns-then-is_none-clause-frees : goal.returns-then-is_none-clause-frees
-returns-then-is_none-clause-frees g c = frees_nothing (g.M.Memory.seen c.args.ground.now.mem) c.args.ground.now.table
+pub returns-then-is_none-clause-at_most : goal.returns-then-is_none-clause-at_most
+returns-then-is_none-clause-at_most g c = frees_nothing (g.M.Memory.seen c.args.ground.now.mem) c.args.ground.now.table

@@ -9,12 +9,12 @@ use Rattle.heap_collect.proofs.silent.flip_alone.Goals as goal
 
 pub full_levels-requires : goal.full_levels-requires
 full_levels-requires g c =
-    let x = low_levels (g.M.Memory.seen c.args.ground.now.mem) c.args.ground.now.table c.args.scan.now c.args.space.now c.requires.standing in
-    record { levels = x.0; few = x.1 }
+    let x = low_levels (g.M.Memory.seen c.args.ground.now.mem) c.args.ground.now.table c.args.scan.now c.args.space.now c.requires.represented in
+    record { levels = x.0; at_most = x.1 }
 
 pub begin_collection-requires : goal.begin_collection-requires
 begin_collection-requires g c = record {
-  resting = is_resting (g.M.Memory.seen c.args.ground.now.mem) c.args.ground.now.table c.args.scan.now c.args.space.now c.requires.standing
+  idle = is_resting (g.M.Memory.seen c.args.ground.now.mem) c.args.ground.now.table c.args.scan.now c.args.space.now c.requires.represented
       (aim_none c.args.ground.now.table.aim c.condemned.result c.is_some.result c.condemned.ensures c.is_some.ensures c.if-is_some.false);
 }
 
@@ -22,8 +22,8 @@ pub returns-in-Some-clause-flips : goal.returns-in-Some-clause-flips
 returns-in-Some-clause-flips g c registers k s x same count =
     let t = c.args.ground.now.table in
     let idle = idle_phase t s.phase x.represents.aims (aim_none t.aim c.condemned.result c.is_some.result c.condemned.ensures c.is_some.ensures c.if-is_some.false) in
-    let few = c.begin_collection.ensures.few in
-    let regions = c.requires.standing.regions in
+    let few = c.begin_collection.ensures.at_most in
+    let regions = c.requires.represented.regions in
     let size = count ∙ sym (ap (λ (w : Space). w.registers) same) in (
       flipped s (Chosen c.in-Some.levels) c.begin_collection.result,
       c.begin_collection.ensures.flips registers k s x idle size,
@@ -56,4 +56,4 @@ pub returns-in-Some-clause-used : goal.returns-in-Some-clause-used
 returns-in-Some-clause-used g c region = used_condemned c.args.ground.now.table c.begin_collection.new.ground.table (Chosen c.in-Some.levels) region c.begin_collection.ensures.table
 
 pub returns-in-Some-clause-free : goal.returns-in-Some-clause-free
-returns-in-Some-clause-free g c region = free_condemned c.args.ground.now.table (record c.begin_collection.new.ground.table { pages = [] }) (Chosen c.in-Some.levels) region c.requires.standing.represents.represents.kept.table c.begin_collection.ensures.table
+returns-in-Some-clause-free g c region = free_condemned c.args.ground.now.table (record c.begin_collection.new.ground.table { pages = [] }) (Chosen c.in-Some.levels) region c.requires.represented.represents.represents.kept.table c.begin_collection.ensures.table

@@ -12,13 +12,13 @@ returns-then-is_some-clause-reclaims g c registers k s x =
     let r = c.end_collection.ensures.reclaims c.args.scan.now registers k s o.0 x o.1 o.2 in
     (r.0, r.1, r.2, reclaim_silent s r.1 o.0 o.1 o.2 r.3, r.3.space)
 
-pub returns-then-is_some-clause-still : goal.returns-then-is_some-clause-still
-returns-then-is_some-clause-still g c never =
+pub returns-then-is_some-clause-unchanged : goal.returns-then-is_some-clause-unchanged
+returns-then-is_some-clause-unchanged g c never =
     let t = c.args.ground.now.table in
     absurd (aim_some t.aim c.condemned.result c.is_some.result c.condemned.ensures c.is_some.ensures c.if-is_some.true (aim_gone c.args.scan.now.over t.aim (sym c.is_over.ensures ∙ c.if-is_over.true) never))
 
-pub returns-then-is_some-clause-totals : goal.returns-then-is_some-clause-totals
-returns-then-is_some-clause-totals g c = same_totals c.args.ground.now.table c.end_collection.new.ground.table c.end_collection.ensures.freed
+pub returns-then-is_some-clause-count : goal.returns-then-is_some-clause-count
+returns-then-is_some-clause-count g c = same_totals c.args.ground.now.table c.end_collection.new.ground.table c.end_collection.ensures.free
 
 pub returns-else-is_over-clause-reclaims : goal.returns-else-is_over-clause-reclaims
 returns-else-is_over-clause-reclaims g c registers k s x = elim c.else-is_over.branch [
@@ -34,11 +34,11 @@ returns-else-is_over-clause-reclaims g c registers k s x = elim c.else-is_over.b
       (k, s, x, no_reclaim (g.M.Memory.seen c.args.ground.now.mem) c.args.ground.now.table c.args.scan.now registers k s x (inr (sym c.is_over.ensures ∙ w.if-is_over.false)), refl)
 ]
 
-pub returns-else-is_over-clause-frees : goal.returns-else-is_over-clause-frees
-returns-else-is_over-clause-frees g c = frees_nothing (g.M.Memory.seen c.args.ground.now.mem) c.args.ground.now.table
+pub returns-else-is_over-clause-at_most : goal.returns-else-is_over-clause-at_most
+returns-else-is_over-clause-at_most g c = frees_nothing (g.M.Memory.seen c.args.ground.now.mem) c.args.ground.now.table
 
-pub returns-else-is_over-clause-empties : goal.returns-else-is_over-clause-empties
-returns-else-is_over-clause-empties g c due = elim c.else-is_over.branch [
+pub returns-else-is_over-clause-resident : goal.returns-else-is_over-clause-resident
+returns-else-is_over-clause-resident g c due = elim c.else-is_over.branch [
   | else-is_over-via-then-is_over+else-is_some w ↦
       absurd (due_some c.args.scan.now.over c.args.ground.now.table.aim due (aim_none c.args.ground.now.table.aim w.condemned.result w.is_some.result w.condemned.ensures w.is_some.ensures w.if-is_some.false))
   | else-is_over-via-else-is_over w ↦ absurd (due_over c.args.scan.now.over c.args.ground.now.table.aim due (sym c.is_over.ensures ∙ w.if-is_over.false))

@@ -15,66 +15,66 @@ use Rattle.heap_load.proofs.drafts.make_alone.Goals as goal
 pub make_pair_of-requires : goal.make_pair_of-requires
 make_pair_of-requires g c =
     let r = c.requires in
-    let is = c.index-as_slice-number.is ∙ object_read c.as_slice.result.now c.args.world.now.objects c.args.number c.index-as_slice-number.result c.as_slice.ensures r.inside in
-    can_pair _ _ c.args.world.now c.args.places.now c.args.number r.loadable r.drafted r.inside c.index-as_slice-number.result is c.in-Cons.car c.in-Cons.cdr c.in-Cons.is
+    let is = c.index-as_slice-number.is ∙ object_read c.as_slice.result.now c.args.world.now.objects c.args.number c.index-as_slice-number.result c.as_slice.ensures r.in_range in
+    can_pair _ _ c.args.world.now c.args.places.now c.args.number r.loadable r.made r.in_range c.index-as_slice-number.result is c.in-Cons.car c.in-Cons.cdr c.in-Cons.is
     c.word_so_far-car.result c.word_so_far-cdr.result c.word_so_far-car.ensures c.word_so_far-cdr.ensures
 
 pub returns-in_err-at-in-Cons-clause-left : goal.returns-in_err-at-in-Cons-clause-left
 returns-in_err-at-in-Cons-clause-left g c =
-    on_err c.from_residual.result _ (drafted_left _ _ _ _ c.args.world.now c.args.places.now c.args.number c.requires.drafted c.in_err-at-in-Cons.ensures.fault c.in_err-at-in-Cons.ensures.preserves.grows)
+    on_err c.from_residual.result _ (drafted_left _ _ _ _ c.args.world.now c.args.places.now c.args.number c.requires.made c.in_err-at-in-Cons.ensures.fault c.in_err-at-in-Cons.ensures.preserves.grows)
 
 pub make_block-requires-clause-can : goal.make_block-requires-clause-can
 make_block-requires-clause-can g c =
     let r = c.requires in
-    let is = c.index-as_slice-number.is ∙ object_read c.as_slice.result.now c.args.world.now.objects c.args.number c.index-as_slice-number.result c.as_slice.ensures r.inside in
+    let is = c.index-as_slice-number.is ∙ object_read c.as_slice.result.now c.args.world.now.objects c.args.number c.index-as_slice-number.result c.as_slice.ensures r.in_range in
     subst (λ (k : ℕ). CanMake (g.M.Memory.seen c.args.ground.now.mem) c.args.ground.now.table c.index-as_slice-number.result.area 0 k) (sym c.len-length.ensures)
-    (can_make _ _ c.args.world.now c.args.places.now c.args.number r.loadable r.drafted r.inside c.index-as_slice-number.result is c.in-Block.code c.in-Block.fields c.in-Block.is)
+    (can_make _ _ c.args.world.now c.args.places.now c.args.number r.loadable r.made r.in_range c.index-as_slice-number.result is c.in-Block.code c.in-Block.fields c.in-Block.is)
 
 pub returns-in_err-at-in-Block-clause-left : goal.returns-in_err-at-in-Block-clause-left
 returns-in_err-at-in-Block-clause-left g c =
-    on_err c.from_residual-in_err-at-in-Block.result _ (drafted_left _ _ _ _ c.args.world.now c.args.places.now c.args.number c.requires.drafted c.in_err-at-in-Block.ensures.fault c.in_err-at-in-Block.ensures.preserves.grows)
+    on_err c.from_residual-in_err-at-in-Block.result _ (drafted_left _ _ _ _ c.args.world.now c.args.places.now c.args.number c.requires.made c.in_err-at-in-Block.ensures.fault c.in_err-at-in-Block.ensures.preserves.grows)
 
 pub returns-in_ok-at-in-Cons-clause-drafted : goal.returns-in_ok-at-in-Cons-clause-drafted
 returns-in_ok-at-in-Cons-clause-drafted g c =
     let r = c.requires in
-    let is = c.index-as_slice-number.is ∙ object_read c.as_slice.result.now c.args.world.now.objects c.args.number c.index-as_slice-number.result c.as_slice.ensures r.inside in
-    pair_drafted _ _ c.args.world.now c.args.places.now c.args.number r.loadable r.drafted r.inside c.index-as_slice-number.result is c.in-Cons.car c.in-Cons.cdr c.in-Cons.is _ _
+    let is = c.index-as_slice-number.is ∙ object_read c.as_slice.result.now c.args.world.now.objects c.args.number c.index-as_slice-number.result c.as_slice.ensures r.in_range in
+    pair_drafted _ _ c.args.world.now c.args.places.now c.args.number r.loadable r.made r.in_range c.index-as_slice-number.result is c.in-Cons.car c.in-Cons.cdr c.in-Cons.is _ _
     c.word_so_far-car.result c.word_so_far-cdr.result c.word_so_far-car.ensures c.word_so_far-cdr.ensures
     c.in_ok-at-in-Cons.at c.in_ok-at-in-Cons.ensures.made c.in_ok-at-in-Cons.ensures.preserves.grows r.places c.list_at.result c.list_at.ensures
 
 pub returns-in_ok-at-in-Block-clause-drafted : goal.returns-in_ok-at-in-Block-clause-drafted
 returns-in_ok-at-in-Block-clause-drafted g c =
     let r = c.requires in
-    let is = c.index-as_slice-number.is ∙ object_read c.as_slice.result.now c.args.world.now.objects c.args.number c.index-as_slice-number.result c.as_slice.ensures r.inside in
-    block_drafted _ _ c.args.world.now c.args.places.now c.args.number r.loadable r.drafted r.inside c.index-as_slice-number.result is c.in-Block.code c.in-Block.fields c.in-Block.is _ _ c.in_ok-at-in-Block.at
+    let is = c.index-as_slice-number.is ∙ object_read c.as_slice.result.now c.args.world.now.objects c.args.number c.index-as_slice-number.result c.as_slice.ensures r.in_range in
+    block_drafted _ _ c.args.world.now c.args.places.now c.args.number r.loadable r.made r.in_range c.index-as_slice-number.result is c.in-Block.code c.in-Block.fields c.in-Block.is _ _ c.in_ok-at-in-Block.at
     (subst (λ (k : ℕ). MakesBlock (g.M.Memory.seen c.args.ground.now.mem) c.args.ground.now.table (g.M.Memory.seen c.make_block.new.ground.mem) c.make_block.new.ground.table c.index-as_slice-number.result.area 0 c.in-Block.code k c.in_ok-at-in-Block.at)
     c.len-length.ensures c.in_ok-at-in-Block.ensures.made)
     c.in_ok-at-in-Block.ensures.preserves.grows r.places c.struct_at.result c.struct_at.ensures
 
-pub returns-in_ok-at-in-Cons-clause-laid : goal.returns-in_ok-at-in-Cons-clause-laid
-returns-in_ok-at-in-Cons-clause-laid g c = λ alone.
+pub returns-in_ok-at-in-Cons-clause-stays_laid : goal.returns-in_ok-at-in-Cons-clause-stays_laid
+returns-in_ok-at-in-Cons-clause-stays_laid g c = λ alone.
     let r = c.requires in
     let kept = (returns-in_ok-at-in-Cons-clause-drafted g c).holds.kept in
     let places = c.args.places.now in
     let place : Place = record { word = c.list_at.result; cell = false } in
-    let is = c.index-as_slice-number.is ∙ object_read c.as_slice.result.now c.args.world.now.objects c.args.number c.index-as_slice-number.result c.as_slice.ensures r.inside in
-    laid_pair _ _ _ _ c.args.world.now places _ c.args.number r.drafted r.laid c.in_ok-at-in-Cons.ensures.live kept.table kept.ground.size
+    let is = c.index-as_slice-number.is ∙ object_read c.as_slice.result.now c.args.world.now.objects c.args.number c.index-as_slice-number.result c.as_slice.ensures r.in_range in
+    laid_pair _ _ _ _ c.args.world.now places _ c.args.number r.made r.laid c.in_ok-at-in-Cons.ensures.live kept.table kept.ground.size
     (λ i before. get_or-set_other places c.args.number i place no_place (λ e. omega arith))
-    c.in-Cons.car c.in-Cons.cdr (whole_cons _ _ c.args.world.now places c.args.number r.loadable r.drafted r.inside c.index-as_slice-number.result is c.in-Cons.car c.in-Cons.cdr c.in-Cons.is)
+    c.in-Cons.car c.in-Cons.cdr (whole_cons _ _ c.args.world.now places c.args.number r.loadable r.made r.in_range c.index-as_slice-number.result is c.in-Cons.car c.in-Cons.cdr c.in-Cons.is)
     c.in_ok-at-in-Cons.at c.word_so_far-car.result c.list_at.result (known_part c.args.number c.in-Cons.car)
-    (ap (λ (p : Parts). value_of r.drafted.holds.map.role p.content) c.word_so_far-car.ensures ∙ given_means _ _ c.args.world.now places c.args.number r.drafted c.in-Cons.car)
+    (ap (λ (p : Parts). value_of r.made.holds.map.role p.content) c.word_so_far-car.ensures ∙ given_means _ _ c.args.world.now places c.args.number r.made c.in-Cons.car)
     c.in_ok-at-in-Cons.ensures.words.0 c.list_at.ensures
-    (get_or-set_same places c.args.number place no_place (let size = r.places in let low = r.inside in omega arith)) alone
+    (get_or-set_same places c.args.number place no_place (let size = r.places in let low = r.in_range in omega arith)) alone
 
-pub returns-in_ok-at-in-Block-clause-laid : goal.returns-in_ok-at-in-Block-clause-laid
-returns-in_ok-at-in-Block-clause-laid g c = λ alone.
+pub returns-in_ok-at-in-Block-clause-stays_laid : goal.returns-in_ok-at-in-Block-clause-stays_laid
+returns-in_ok-at-in-Block-clause-stays_laid g c = λ alone.
     let r = c.requires in
-    let is = c.index-as_slice-number.is ∙ object_read c.as_slice.result.now c.args.world.now.objects c.args.number c.index-as_slice-number.result c.as_slice.ensures r.inside in
+    let is = c.index-as_slice-number.is ∙ object_read c.as_slice.result.now c.args.world.now.objects c.args.number c.index-as_slice-number.result c.as_slice.ensures r.in_range in
     let kept = (returns-in_ok-at-in-Block-clause-drafted g c).holds.kept in
     let places = c.args.places.now in
     let place : Place = record { word = c.struct_at.result; cell = false } in
-    laid_block _ _ _ _ c.args.world.now places _ c.args.number r.drafted r.laid c.in_ok-at-in-Block.ensures.live kept.table kept.ground.size
+    laid_block _ _ _ _ c.args.world.now places _ c.args.number r.made r.laid c.in_ok-at-in-Block.ensures.live kept.table kept.ground.size
     (λ i before. get_or-set_other places c.args.number i place no_place (λ e. omega arith))
-    c.in-Block.code c.in-Block.fields (whole_block _ _ c.args.world.now places c.args.number r.loadable r.drafted r.inside c.index-as_slice-number.result is c.in-Block.code c.in-Block.fields c.in-Block.is)
-    c.in_ok-at-in-Block.at c.struct_at.result c.struct_at.ensures (get_or-set_same places c.args.number place no_place (let size = r.places in let low = r.inside in omega arith))
+    c.in-Block.code c.in-Block.fields (whole_block _ _ c.args.world.now places c.args.number r.loadable r.made r.in_range c.index-as_slice-number.result is c.in-Block.code c.in-Block.fields c.in-Block.is)
+    c.in_ok-at-in-Block.at c.struct_at.result c.struct_at.ensures (get_or-set_same places c.args.number place no_place (let size = r.places in let low = r.in_range in omega arith))
     (subst (λ (k : ℕ). (i : ℕ) → i < k + 1 → word_at (g.M.Memory.seen c.make_block.new.ground.mem).words (c.in_ok-at-in-Block.at + i) ≡ block_word c.in-Block.code k i) c.len-length.ensures c.in_ok-at-in-Block.ensures.words)

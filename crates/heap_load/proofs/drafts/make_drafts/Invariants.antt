@@ -1,5 +1,5 @@
 use Rattle.std.proofs.Common.{◌≡◌, ◌-◌, ◌≤◌}
-use Rattle.mem_port.specs.View.{Quiet}
+use Rattle.mem_port.specs.View.{WithoutFault}
 use Rattle.area_space.specs.View.{view}
 use Rattle.heap_load.specs.Loading.{Drafted, Laid}
 use Rattle.heap_load.proofs.drafts.make_drafts.Given as goal
@@ -11,7 +11,7 @@ invariant-loop-made g l = record {
   drafted : Drafted (g.M.Memory.seen l.ground.mem) l.ground.table l.world l.places l.made;
   laid : Laid (g.M.Memory.seen l.ground.mem).words l.places l.world.objects l.made;
   regions : l.ground.table.regions ≡ l.fn.ground.table.regions;
-  quiet : Quiet (view l.fn.ground).mem (view l.ground).mem l.fn.steps l.steps;
+  quiet : WithoutFault (view l.fn.ground).mem (view l.ground).mem l.fn.steps l.steps;
 }
 
 abbrev pub decreases-loop-made : goal.decreases-loop-made

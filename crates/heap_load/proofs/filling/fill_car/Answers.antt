@@ -12,42 +12,42 @@ use Rattle.heap_load.proofs.filling.fill_car.Goals as goal
 
 -- the place is that of the pair
 stands : (g : Over) (c : After-cons_at-at g) → (place_at c.args.places.now c.args.number).word.content ≡ ListAt c.cons_at-at.result
-stands g c = ap (λ (p : Place). p.word.content) (sym (place_there c.args.places.now c.args.number c.index-places-number.result c.args.world.now.objects c.requires.places c.requires.inside)) ∙ c.cons_at-at.ensures
+stands g c = ap (λ (p : Place). p.word.content) (sym (place_there c.args.places.now c.args.number c.index-places-number.result c.args.world.now.objects c.requires.places c.requires.in_range)) ∙ c.cons_at-at.ensures
 
-pub returns-then-is_known-clause-filled : goal.returns-then-is_known-clause-filled
-returns-then-is_known-clause-filled g c =
+pub returns-then-is_known-clause-stays_filled : goal.returns-then-is_known-clause-stays_filled
+returns-then-is_known-clause-stays_filled g c =
     let r = c.requires in
-    car_given (g.M.Memory.seen c.args.ground.now.mem) c.args.ground.now.table c.args.world.now c.args.places.now c.args.number r.loadable r.places r.inside r.laid c.args.car c.args.cdr r.body r.filled r.pair (sym c.is_known.ensures ∙ c.if-is_known.true)
+    car_given (g.M.Memory.seen c.args.ground.now.mem) c.args.ground.now.table c.args.world.now c.args.places.now c.args.number r.loadable r.places r.in_range r.laid c.args.car c.args.cdr r.agrees r.filled r.pair (sym c.is_known.ensures ∙ c.if-is_known.true)
 
 pub store-requires : goal.store-requires
 store-requires g c =
     let r = c.requires in
-    car_inside (g.M.Memory.seen c.args.ground.now.mem) c.args.ground.now.table c.args.world.now c.args.places.now c.args.number r.loadable r.places r.inside r.laid c.args.car c.args.cdr r.body r.filled c.cons_at-at.result
+    car_inside (g.M.Memory.seen c.args.ground.now.mem) c.args.ground.now.table c.args.world.now c.args.places.now c.args.number r.loadable r.places r.in_range r.laid c.args.car c.args.cdr r.agrees r.filled c.cons_at-at.result
     (stands g (goal.at.store-requires g c).After-cons_at-at)
 
-pub returns-clause-filled : goal.returns-clause-filled
-returns-clause-filled g c =
+pub returns-clause-stays_filled : goal.returns-clause-stays_filled
+returns-clause-stays_filled g c =
     let r = c.requires in
-    let is = stands g (goal.at.returns-clause-filled g c).After-cons_at-at in
+    let is = stands g (goal.at.returns-clause-stays_filled g c).After-cons_at-at in
     on_ok_weaker c.store.result
-    (λ stored. car_done (g.M.Memory.seen c.args.ground.now.mem) c.args.ground.now.table c.args.world.now c.args.places.now c.args.number r.loadable r.places r.inside r.laid c.args.car c.args.cdr r.body r.filled c.cons_at-at.result is Normal
-    (pair_has (g.M.Memory.seen c.args.ground.now.mem) c.args.ground.now.table c.args.world.now c.args.places.now c.args.number r.loadable r.places r.inside r.laid c.args.car c.args.cdr r.body r.filled c.cons_at-at.result is r.pair)
+    (λ stored. car_done (g.M.Memory.seen c.args.ground.now.mem) c.args.ground.now.table c.args.world.now c.args.places.now c.args.number r.loadable r.places r.in_range r.laid c.args.car c.args.cdr r.agrees r.filled c.cons_at-at.result is Normal
+    (pair_has (g.M.Memory.seen c.args.ground.now.mem) c.args.ground.now.table c.args.world.now c.args.places.now c.args.number r.loadable r.places r.in_range r.laid c.args.car c.args.cdr r.agrees r.filled c.cons_at-at.result is r.pair)
     c.word_of.result c.word_of.ensures _ c.with_cdr-first.result c.with_cdr-first.ensures stored r.pair _ c.store.ensures.table)
-    c.store.ensures.stored
+    c.store.ensures.written
 
-pub returns-clause-laid : goal.returns-clause-laid
-returns-clause-laid g c =
+pub returns-clause-stays_laid : goal.returns-clause-stays_laid
+returns-clause-stays_laid g c =
     let r = c.requires in
-    let is = stands g (goal.at.returns-clause-laid g c).After-cons_at-at in
+    let is = stands g (goal.at.returns-clause-stays_laid g c).After-cons_at-at in
     on_ok_weaker c.store.result
-    (car_done_laid (g.M.Memory.seen c.args.ground.now.mem) c.args.ground.now.table c.args.world.now c.args.places.now c.args.number r.loadable r.places r.inside r.laid c.args.car c.args.cdr r.body r.filled c.cons_at-at.result is Normal
-    (pair_has (g.M.Memory.seen c.args.ground.now.mem) c.args.ground.now.table c.args.world.now c.args.places.now c.args.number r.loadable r.places r.inside r.laid c.args.car c.args.cdr r.body r.filled c.cons_at-at.result is r.pair)
+    (car_done_laid (g.M.Memory.seen c.args.ground.now.mem) c.args.ground.now.table c.args.world.now c.args.places.now c.args.number r.loadable r.places r.in_range r.laid c.args.car c.args.cdr r.agrees r.filled c.cons_at-at.result is Normal
+    (pair_has (g.M.Memory.seen c.args.ground.now.mem) c.args.ground.now.table c.args.world.now c.args.places.now c.args.number r.loadable r.places r.in_range r.laid c.args.car c.args.cdr r.agrees r.filled c.cons_at-at.result is r.pair)
     c.word_of.result c.word_of.ensures _ c.with_cdr-first.result c.with_cdr-first.ensures)
-    c.store.ensures.stored
+    c.store.ensures.written
 
 pub returns-clause-left : goal.returns-clause-left
 returns-clause-left g c =
     let r = c.requires in
     on_err_weaker c.store.result
-    (car_left (g.M.Memory.seen c.args.ground.now.mem) c.args.ground.now.table c.args.world.now c.args.places.now c.args.number r.loadable r.places r.inside r.laid c.args.car c.args.cdr r.body r.filled _ _ c.store.ensures.table)
-    c.store.ensures.stays
+    (car_left (g.M.Memory.seen c.args.ground.now.mem) c.args.ground.now.table c.args.world.now c.args.places.now c.args.number r.loadable r.places r.in_range r.laid c.args.car c.args.cdr r.agrees r.filled _ _ c.store.ensures.table)
+    c.store.ensures.unchanged

@@ -17,23 +17,23 @@ use Rattle.heap_load.proofs.filling.fill_cdr.Goals as goal
 
 -- the place is that of the pair
 stands : (g : Over) (c : After-cons_at-at g) → (place_at c.args.places.now c.args.number).word.content ≡ ListAt c.cons_at-at.result
-stands g c = ap (λ (p : Place). p.word.content) (sym (place_there c.args.places.now c.args.number c.index-places-number.result c.args.world.now.objects c.requires.places c.requires.inside)) ∙ c.cons_at-at.ensures
+stands g c = ap (λ (p : Place). p.word.content) (sym (place_there c.args.places.now c.args.number c.index-places-number.result c.args.world.now.objects c.requires.places c.requires.in_range)) ∙ c.cons_at-at.ensures
 
 -- the word has the cdr code of the charge
 coded : (g : Over) (c : After-with_cdr-second g) → c.with_cdr-second.result ≡ record (c.word_of.result) { cdr = second_code (object_at c.args.world.now.objects c.args.number).charge }
 coded g c =
-    let read = object_read c.as_slice.result.now c.args.world.now.objects c.args.number c.index-as_slice-number.result c.as_slice.ensures c.requires.inside in
+    let read = object_read c.as_slice.result.now c.args.world.now.objects c.args.number c.index-as_slice-number.result c.as_slice.ensures c.requires.in_range in
     c.with_cdr-second.ensures ∙ ap (λ (k : CdrCode). let p : Parts = record (c.word_of.result) { cdr = k } in p) (c.second_code.ensures ∙ ap (λ (o : Object). second_code o.charge) read)
 
-pub returns-then-is_known-clause-filled : goal.returns-then-is_known-clause-filled
-returns-then-is_known-clause-filled g c =
+pub returns-then-is_known-clause-stays_filled : goal.returns-then-is_known-clause-stays_filled
+returns-then-is_known-clause-stays_filled g c =
     let r = c.requires in
-    cdr_given (g.M.Memory.seen c.args.ground.now.mem) c.args.ground.now.table c.args.world.now c.args.places.now c.args.number r.loadable r.places r.inside r.laid c.args.car c.args.cdr r.body r.filled (sym c.is_known.ensures ∙ c.if-is_known.true)
+    cdr_given (g.M.Memory.seen c.args.ground.now.mem) c.args.ground.now.table c.args.world.now c.args.places.now c.args.number r.loadable r.places r.in_range r.laid c.args.car c.args.cdr r.agrees r.filled (sym c.is_known.ensures ∙ c.if-is_known.true)
 
 pub overflow_add-at : goal.overflow_add-at
 overflow_add-at g c =
     let r = c.requires in
-    let inside = cdr_inside (g.M.Memory.seen c.args.ground.now.mem) c.args.ground.now.table c.args.world.now c.args.places.now c.args.number r.loadable r.places r.inside r.laid c.args.car c.args.cdr r.body r.filled c.word_of.result c.word_of.ensures r.pair c.cons_at-at.result
+    let inside = cdr_inside (g.M.Memory.seen c.args.ground.now.mem) c.args.ground.now.table c.args.world.now c.args.places.now c.args.number r.loadable r.places r.in_range r.laid c.args.car c.args.cdr r.agrees r.filled c.word_of.result c.word_of.ensures r.pair c.cons_at-at.result
     (stands g (goal.at.overflow_add-at g c).After-cons_at-at) in
     let small = c.args.ground.now.small in
     omega arith
@@ -41,30 +41,30 @@ overflow_add-at g c =
 pub store-requires : goal.store-requires
 store-requires g c =
     let r = c.requires in
-    cdr_inside (g.M.Memory.seen c.args.ground.now.mem) c.args.ground.now.table c.args.world.now c.args.places.now c.args.number r.loadable r.places r.inside r.laid c.args.car c.args.cdr r.body r.filled c.word_of.result c.word_of.ensures r.pair c.cons_at-at.result
+    cdr_inside (g.M.Memory.seen c.args.ground.now.mem) c.args.ground.now.table c.args.world.now c.args.places.now c.args.number r.loadable r.places r.in_range r.laid c.args.car c.args.cdr r.agrees r.filled c.word_of.result c.word_of.ensures r.pair c.cons_at-at.result
     (stands g (goal.at.store-requires g c).After-cons_at-at)
 
-pub returns-clause-filled : goal.returns-clause-filled
-returns-clause-filled g c =
+pub returns-clause-stays_filled : goal.returns-clause-stays_filled
+returns-clause-stays_filled g c =
     let r = c.requires in
-    let at = goal.at.returns-clause-filled g c in
+    let at = goal.at.returns-clause-stays_filled g c in
     on_ok_weaker c.store.result
-    (λ stored. cdr_done (g.M.Memory.seen c.args.ground.now.mem) c.args.ground.now.table c.args.world.now c.args.places.now c.args.number r.loadable r.places r.inside r.laid c.args.car c.args.cdr r.body r.filled c.word_of.result c.word_of.ensures r.pair c.cons_at-at.result
+    (λ stored. cdr_done (g.M.Memory.seen c.args.ground.now.mem) c.args.ground.now.table c.args.world.now c.args.places.now c.args.number r.loadable r.places r.in_range r.laid c.args.car c.args.cdr r.agrees r.filled c.word_of.result c.word_of.ensures r.pair c.cons_at-at.result
     (stands g at.After-cons_at-at) _ c.with_cdr-second.result (coded g at.After-with_cdr-second) stored _ c.store.ensures.table)
-    c.store.ensures.stored
+    c.store.ensures.written
 
-pub returns-clause-laid : goal.returns-clause-laid
-returns-clause-laid g c =
+pub returns-clause-stays_laid : goal.returns-clause-stays_laid
+returns-clause-stays_laid g c =
     let r = c.requires in
-    let at = goal.at.returns-clause-laid g c in
+    let at = goal.at.returns-clause-stays_laid g c in
     on_ok_weaker c.store.result
-    (cdr_done_laid (g.M.Memory.seen c.args.ground.now.mem) c.args.ground.now.table c.args.world.now c.args.places.now c.args.number r.loadable r.places r.inside r.laid c.args.car c.args.cdr r.body r.filled c.word_of.result c.word_of.ensures r.pair c.cons_at-at.result
+    (cdr_done_laid (g.M.Memory.seen c.args.ground.now.mem) c.args.ground.now.table c.args.world.now c.args.places.now c.args.number r.loadable r.places r.in_range r.laid c.args.car c.args.cdr r.agrees r.filled c.word_of.result c.word_of.ensures r.pair c.cons_at-at.result
     (stands g at.After-cons_at-at) _ c.with_cdr-second.result (coded g at.After-with_cdr-second))
-    c.store.ensures.stored
+    c.store.ensures.written
 
 pub returns-clause-left : goal.returns-clause-left
 returns-clause-left g c =
     let r = c.requires in
     on_err_weaker c.store.result
-    (cdr_left (g.M.Memory.seen c.args.ground.now.mem) c.args.ground.now.table c.args.world.now c.args.places.now c.args.number r.loadable r.places r.inside r.laid c.args.car c.args.cdr r.body r.filled _ _ c.store.ensures.table)
-    c.store.ensures.stays
+    (cdr_left (g.M.Memory.seen c.args.ground.now.mem) c.args.ground.now.table c.args.world.now c.args.places.now c.args.number r.loadable r.places r.in_range r.laid c.args.car c.args.cdr r.agrees r.filled _ _ c.store.ensures.table)
+    c.store.ensures.unchanged

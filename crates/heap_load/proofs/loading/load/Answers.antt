@@ -21,18 +21,18 @@ roots_here registers read roots old new e f are =
     subst (λ (l : List Value). (r : ℕ) → r < length l → get_or registers r null_word ≡ word_of new (get_or l r V.Nil)) e
     (subst (λ (places : List Place). (r : ℕ) → r < length read → get_or registers r null_word ≡ word_of places (get_or read r V.Nil)) f are)
 
-pub returns-clause-represents : goal.returns-clause-represents
-returns-clause-represents g c =
+pub returns-clause-represented : goal.returns-clause-represented
+returns-clause-represented g c =
     let world = c.args.world.now in
     let kept = c.set_roots.auto.registers in
     let count = c.requires.empty.represents.count in
     let nils = length-replicate world.space.registers V.Nil in
-    let roots = c.requires.world.roots in
-    represents_loaded _ _ c.set_roots.new.registers world c.deref.result.now (record { is = c.requires.world; fits = c.requires.quotas }) c.in_ok-fill_drafts.ensures.filled (omega arith)
+    let roots = c.requires.accepted.roots in
+    represents_loaded _ _ c.set_roots.new.registers world c.deref.result.now (record { is = c.requires.accepted; fits = c.requires.fits }) c.in_ok-fill_drafts.ensures.filled (omega arith)
     (roots_here c.set_roots.new.registers c.as_slice-2.result.now world.roots c.deref-2.result.now c.deref.result.now c.as_slice-2.ensures (c.deref-2.ensures.value ∙ sym c.deref.ensures.value) c.set_roots.ensures)
 
 pub returns-clause-some : goal.returns-clause-some
-returns-clause-some g c = represents_some _ _ c.set_roots.new.registers c.args.world.now (returns-clause-represents g c)
+returns-clause-some g c = represents_some _ _ c.set_roots.new.registers c.args.world.now (returns-clause-represented g c)
 
 pub returns-clause-groups : goal.returns-clause-groups
 returns-clause-groups g c =
@@ -40,6 +40,6 @@ returns-clause-groups g c =
     let kept = c.set_roots.auto.registers in
     let count = c.requires.empty.represents.count in
     let nils = length-replicate world.space.registers V.Nil in
-    let roots = c.requires.world.roots in
-    groups_loaded _ _ world c.deref.result.now c.in_ok-fill_drafts.ensures.filled c.in_ok-fill_drafts.ensures.laid c.set_roots.new.registers (record { is = c.requires.world; fits = c.requires.quotas }) (omega arith)
+    let roots = c.requires.accepted.roots in
+    groups_loaded _ _ world c.deref.result.now c.in_ok-fill_drafts.ensures.filled c.in_ok-fill_drafts.ensures.stays_laid c.set_roots.new.registers (record { is = c.requires.accepted; fits = c.requires.fits }) (omega arith)
     (roots_here c.set_roots.new.registers c.as_slice-2.result.now world.roots c.deref-2.result.now c.deref.result.now c.as_slice-2.ensures (c.deref-2.ensures.value ∙ sym c.deref.ensures.value) c.set_roots.ensures)

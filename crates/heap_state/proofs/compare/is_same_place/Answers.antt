@@ -6,5 +6,5 @@ use Rattle.heap_state.proofs.compare.is_same_place.Goals as goal
 
 pub returns-clause-value : goal.returns-clause-value
 returns-clause-value g c =
-    let right = subst (λ (ws : List Parts). Final ws c.args.right c.in_ok-b.b) c.in_ok-a.ensures.stays.words c.in_ok-b.ensures.value in
+    let right = subst (λ (ws : List Parts). Final ws c.args.right c.in_ok-b.b) c.in_ok-a.ensures.unchanged.words c.in_ok-b.ensures.value in
     same_place _ _ _ _ _ c.in_ok-a.ensures.value right

@@ -7,17 +7,17 @@ use Rattle.heap_state.proofs.laws.commands_are_steps.Goals as goal
 pub returns-clause-performs : goal.returns-clause-performs
 returns-clause-performs c = performs_is_step c.scans_go_on.ensures.clean c.scans_go_on.ensures.units
 
-pub returns-clause-allocates : goal.returns-clause-allocates
-returns-clause-allocates c = allocation_is_step c.scans_go_on.ensures.clean c.scans_go_on.ensures.units
+pub returns-clause-made : goal.returns-clause-made
+returns-clause-made c = allocation_is_step c.scans_go_on.ensures.clean c.scans_go_on.ensures.units
 
-pub returns-clause-faults : goal.returns-clause-faults
-returns-clause-faults c = fault_is_step
+pub returns-clause-fault : goal.returns-clause-fault
+returns-clause-fault c = fault_is_step
 
 pub returns-clause-last : goal.returns-clause-last
 returns-clause-last c = at_last
 
-pub returns-clause-reach : goal.returns-clause-reach
-returns-clause-reach c = reach_stays
+pub returns-clause-preserves : goal.returns-clause-preserves
+returns-clause-preserves c = reach_stays
 
-pub returns-clause-represents : goal.returns-clause-represents
-returns-clause-represents c = steps_bear
+pub returns-clause-represented : goal.returns-clause-represented
+returns-clause-represented c = steps_bear

@@ -1,7 +1,7 @@
 use Rattle.std.proofs.Common.{refl, subst, sym, ◌∙◌, arith, slice_index}
 use Rattle.store_word.specs.Words.{Parts}
 use Rattle.transporter.specs.Moving.{none}
-use Rattle.transporter.specs.Settling.{HasOld}
+use Rattle.transporter.specs.Settling.{RefersToOld}
 use Rattle.transporter.proofs.Marked.{marks-read, marks-then}
 use Rattle.transporter.proofs.Moving.{moves-more, moves-then, same-stores}
 use Rattle.transporter.proofs.Preserved.{preserves-same, preserves-then}
@@ -26,8 +26,8 @@ loop-i-init g c = record {
 pub returns-in_err-settle_register-clause-represented : goal.returns-in_err-settle_register-clause-represented
 returns-in_err-settle_register-clause-represented g c = represented_then _ _ _ _ _ _ _ _ _ c.loop-i.invariant.represented c.in_err-settle_register.ensures.represented
 
-pub returns-in_err-settle_register-clause-others : goal.returns-in_err-settle_register-clause-others
-returns-in_err-settle_register-clause-others g c = registers_then _ _ _ _ _ c.in_err-settle_register.ensures.preserves.grows c.loop-i.invariant.others c.in_err-settle_register.ensures.others
+pub returns-in_err-settle_register-clause-registers : goal.returns-in_err-settle_register-clause-registers
+returns-in_err-settle_register-clause-registers g c = registers_then _ _ _ _ _ c.in_err-settle_register.ensures.preserves.grows c.loop-i.invariant.others c.in_err-settle_register.ensures.registers
 
 pub returns-in_err-settle_register-clause-preserves : goal.returns-in_err-settle_register-clause-preserves
 returns-in_err-settle_register-clause-preserves g c = preserves-then c.loop-i.invariant.preserves c.in_err-settle_register.ensures.preserves
@@ -46,23 +46,23 @@ pub loop-i-preserved : goal.loop-i-preserved
 loop-i-preserved g c =
     let x = c.in_ok-settle_register.ensures in
     let y = c.loop-i.invariant in
-    let few = x.few in
+    let few = x.at_most in
     let early = y.few in
     let cost = x.cost in
     let before = y.cost in
     let grows = x.preserves.grows.placed in
     let grew = y.preserves.grows.placed in
     let settled : IsSettled c.settle_register.new.ground.table c.settle_register.new.registers (slice_index c.args.items.now c.loop-i.i) =
-    (subst (λ (w : Parts). HasOld c.settle_register.new.ground.table w → ⊥) (sym x.word) x.fresh) in
+    (subst (λ (w : Parts). RefersToOld c.settle_register.new.ground.table w → ⊥) (sym x.word) x.fresh) in
     record {
       represented = represented_then _ _ _ _ _ _ _ _ _ y.represented x.represented;
-      fresh = one_more _ _ _ _ c.args.items.now c.loop-i.i x.preserves.grows x.others (item_within c.loop-i.ground.table _ _ _ y.others c.requires.inside) c.loop-i-test.true y.fresh settled;
-      others = registers_then _ _ _ _ _ x.preserves.grows y.others x.others;
+      fresh = one_more _ _ _ _ c.args.items.now c.loop-i.i x.preserves.grows x.registers (item_within c.loop-i.ground.table _ _ _ y.others c.requires.in_range) c.loop-i-test.true y.fresh settled;
+      others = registers_then _ _ _ _ _ x.preserves.grows y.others x.registers;
       preserves = preserves-then y.preserves x.preserves;
       stays_fresh = λ fresh words. x.stays_fresh (registers_fresh _ _ _ _ y.preserves.grows y.others fresh) (y.stays_fresh fresh words);
       marks = marks-then y.marks x.marks;
       moves = moves-then y.moves x.moves;
-      quiet = record { faults = x.tells.cause.quiet ∙ y.quiet.faults; honest = (let a = y.quiet.honest in let b = x.tells.honest in omega arith); room = (let a = y.quiet.room in let b = x.tells.room.answered in omega arith) };
+      quiet = record { faults = x.accounted.cause.quiet ∙ y.quiet.faults; honest = (let a = y.quiet.honest in let b = x.accounted.honest in omega arith); room = (let a = y.quiet.room in let b = x.accounted.room.answered in omega arith) };
       few = omega arith;
       cost = omega arith;
     }

@@ -12,6 +12,6 @@ returns-in_ok-header-in-Struct-clause-value g c =
     let is : c.args.word.content ≡ Struct c.in-Struct.at = sym c.content.ensures.value ∙ c.in-Struct.is in
     let block = c.in_ok-block-in-Struct.ensures in
     let shows : Shows words (Struct c.in-Struct.at) c.header_reply.result = λ to final.
-    let found = read_final _ _ _ _ to _ block.stays.words c.in_ok-header-in-Struct.ensures.value block.value final in
+    let found = read_final _ _ _ _ to _ block.unchanged.words c.in_ok-header-in-Struct.ensures.value block.value final in
     c.header_reply.ensures.value ∙ ap (λ (w : Parts). header_reply w.content) (sym found) in
     subst (λ (content : Content). Shows words content c.header_reply.result) (sym is) shows

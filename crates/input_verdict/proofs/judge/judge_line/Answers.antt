@@ -1,17 +1,17 @@
 use Rattle.std.proofs.Common.{arith}
 use Rattle.input_verdict.proofs.judge.judge_line.Goals as goal
 
-pub passed-requires-clause-place : goal.passed-requires-clause-place
-passed-requires-clause-place c = record {
-  few = omega (arith, c.in_ok-step.ensures.counts.0, c.in_ok-step.ensures.counts.1, c.requires.place.counts.few);
-  within = omega (arith, c.in_ok-step.ensures.counts.1, c.requires.place.counts.within);
+pub advance-requires-clause-sound : goal.advance-requires-clause-sound
+advance-requires-clause-sound c = record {
+  few = omega (arith, c.in_ok-step.ensures.count.0, c.in_ok-step.ensures.count.1, c.requires.sound.counts.few);
+  within = omega (arith, c.in_ok-step.ensures.count.1, c.requires.sound.counts.within);
 }
 
-pub passed-requires-clause-within : goal.passed-requires-clause-within
-passed-requires-clause-within c = omega (arith, c.in_ok-step.ensures.counts.1, c.broken.ensures.within c.in_default.is c.requires.close)
+pub advance-requires-clause-in_range : goal.advance-requires-clause-in_range
+advance-requires-clause-in_range c = omega (arith, c.in_ok-step.ensures.count.1, c.broken_limit.ensures.in_range c.in_default.is c.requires.at_most)
 
-pub returns-clause-place : goal.returns-clause-place
-returns-clause-place c = record {
-  counts = c.passed.ensures.place;
-  accepted = rw c.passed.ensures.further c.in_ok-step.ensures.open;
+pub returns-clause-stays_sound : goal.returns-clause-stays_sound
+returns-clause-stays_sound c = record {
+  counts = c.advance.ensures.stays_sound;
+  accepted = rw c.advance.ensures.after c.in_ok-step.ensures.accepted;
 }

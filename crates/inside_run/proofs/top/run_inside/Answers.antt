@@ -4,7 +4,7 @@ use Rattle.inside_run.proofs.Reading.{breaks_off_shown, completes_shown, early_s
 use Rattle.inside_run.proofs.top.run_inside.Goals as goal
 
 pub returns-clause-ran : goal.returns-clause-ran
-returns-clause-ran g c = λ fail taken. (c.answer_shown.result, c.code-status-2.ensures, shows_from c.idle-machine.result.faults _ c.answer_shown.new.machine.faults c.idle-machine.ensures.faults c.answer_shown.ensures.ran)
+returns-clause-ran g c = λ fail taken. (c.answer_shown.result, c.code-status-2.ensures, shows_from c.idle-machine.result.faults _ c.answer_shown.new.machine.faults c.idle-machine.ensures.no_fault c.answer_shown.ensures.ran)
 
 pub returns-clause-only : goal.returns-clause-only
 returns-clause-only g c = λ seven. absurd (never_usage c.code-status-2.result c.answer_shown.result c.code-status-2.ensures c.answer_shown.ensures.ran seven)
@@ -14,7 +14,7 @@ returns-clause-complete g c = λ fail i taken tells whole none_read none_write n
     let e = c.answer_shown.ensures in
     let status = c.answer_shown.result in
     let is = c.code-status-2.ensures in
-    completes_shown c.code-status-2.result none_read none_write none_swap (λ n. e.read (same_status status ReadFailed (sym is ∙ n))) (λ n. e.write (same_status status WriteFailed (sym is ∙ n))) (λ n. omega (arith, c.idle-machine.ensures.faults, e.swap (same_status status SwapFailed (sym is ∙ n))))
+    completes_shown c.code-status-2.result none_read none_write none_swap (λ n. e.read (same_status status ReadFailed (sym is ∙ n))) (λ n. e.write (same_status status WriteFailed (sym is ∙ n))) (λ n. omega (arith, c.idle-machine.ensures.no_fault, e.swap (same_status status SwapFailed (sym is ∙ n))))
     _ _ _ _ _ status i is e.ran tells whole
 
 pub returns-clause-refused : goal.returns-clause-refused
@@ -22,7 +22,7 @@ returns-clause-refused g c = λ fail i trouble taken tells breaks none_read none
     let e = c.answer_shown.ensures in
     let status = c.answer_shown.result in
     let is = c.code-status-2.ensures in
-    breaks_off_shown c.code-status-2.result none_read none_write none_swap (λ n. e.read (same_status status ReadFailed (sym is ∙ n))) (λ n. e.write (same_status status WriteFailed (sym is ∙ n))) (λ n. omega (arith, c.idle-machine.ensures.faults, e.swap (same_status status SwapFailed (sym is ∙ n))))
+    breaks_off_shown c.code-status-2.result none_read none_write none_swap (λ n. e.read (same_status status ReadFailed (sym is ∙ n))) (λ n. e.write (same_status status WriteFailed (sym is ∙ n))) (λ n. omega (arith, c.idle-machine.ensures.no_fault, e.swap (same_status status SwapFailed (sym is ∙ n))))
     _ _ _ _ _ status i trouble is e.ran tells breaks
 
 pub returns-clause-early : goal.returns-clause-early

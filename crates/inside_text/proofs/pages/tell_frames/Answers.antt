@@ -24,7 +24,7 @@ returns-in_err-tell_frame-in-Some-clause-gathers g c =
 pub loop-turn-preserved : goal.loop-turn-preserved
 loop-turn-preserved g c = (
   omega (arith, c.in_ok-tell_frame-in-Some.ensures.cause.quiet, c.loop-turn.invariant.0),
-  told_more (frame_of c.args.mem.now.0) (resident_of c.args.mem.now.0) c.args.buffer.now.pending c.frames-turn-end.ensures.once c.loop-turn.invariant.1 c.in-Some.page c.in-Some.is _ c.after-next.ensures c.in_ok-tell_frame-in-Some.ensures.gathers.whole,
+  told_more (frame_of c.args.mem.now.0) (resident_of c.args.mem.now.0) c.args.buffer.now.pending c.frames-turn-end.ensures.sound c.loop-turn.invariant.1 c.in-Some.page c.in-Some.is _ c.after-next.ensures c.in_ok-tell_frame-in-Some.ensures.gathers.whole,
 )
 
 pub loop-turn-init : goal.loop-turn-init
@@ -32,4 +32,4 @@ loop-turn-init g c = (search rules, told_start (frame_of c.args.mem.now.0) (resi
 
 pub returns-clause-gathers : goal.returns-clause-gathers
 returns-clause-gathers g c =
-    record { whole = told_end (frame_of c.args.mem.now.0) (resident_of c.args.mem.now.0) c.args.buffer.now.pending c.loop-turn.invariant.1 (let few = c.frames-turn-end.ensures.few in omega (arith, few)); part = _ }
+    record { whole = told_end (frame_of c.args.mem.now.0) (resident_of c.args.mem.now.0) c.args.buffer.now.pending c.loop-turn.invariant.1 (let few = c.frames-turn-end.ensures.at_most in omega (arith, few)); part = _ }

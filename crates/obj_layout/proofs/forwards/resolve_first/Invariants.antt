@@ -1,5 +1,5 @@
 use Rattle.std.proofs.Common.{◌+◌, ◌≤◌}
-use Rattle.mem_port.specs.View.{Quiet, shown}
+use Rattle.mem_port.specs.View.{WithoutFault, shown}
 use Rattle.mem_port.specs.Store.{StoresNothing}
 use Rattle.obj_layout.proofs.Following.{Way}
 use Rattle.obj_layout.proofs.forwards.resolve_first.Given as goal
@@ -9,6 +9,6 @@ abbrev pub invariant-loop-turn : goal.invariant-loop-turn
 invariant-loop-turn g l = record {
   way : Way (g.M.Memory.seen l.fn.mem).words l.at l._turn l.here;
   stays : StoresNothing (g.M.Memory.seen l.fn.mem) (g.M.Memory.seen l.mem);
-  quiet : Quiet (shown g.M.Memory l.fn.mem) (shown g.M.Memory l.mem) l.fn.steps l.steps;
+  quiet : WithoutFault (shown g.M.Memory l.fn.mem) (shown g.M.Memory l.mem) l.fn.steps l.steps;
   cost : l.steps ≤ l.fn.steps + l._turn;
 }

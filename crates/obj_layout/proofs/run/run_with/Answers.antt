@@ -10,7 +10,7 @@ loop-behind-init g c =
     let place : c.args.at + 1 - 1 ≡ c.args.at = omega arith in
     let words = (g.M.Memory.seen c.args.mem.now).words in
     record {
-      found = found-one words c.args.at c.requires.run;
+      found = found-one words c.args.at c.requires.can;
       word = ap (word_at words) place ∙ sym c.requires.first;
       stays = record { words = refl; levels = refl; top = refl; unmarked = λ page none. none };
       quiet = record { faults = refl; honest = refl; room = omega arith };
@@ -33,14 +33,14 @@ resolve-requires g c =
     let i = c.loop-behind.invariant in
     let read = c.in_ok-word.ensures in
     let behind = behind-read i.found i.word c.cdr_code.ensures c.loop-behind-test.ensures i.stays.words read.value c.forward.ensures c.if-is_some.ensures in
-    subst (λ (ws : List Parts). HasFinal ws (c.args.at + c.loop-behind.cells)) (sym (read.stays.words ∙ i.stays.words)) (run-forward behind)
+    subst (λ (ws : List Parts). HasFinal ws (c.args.at + c.loop-behind.cells)) (sym (read.unchanged.words ∙ i.stays.words)) (run-forward behind)
 
 pub returns-then-is_some-clause-value : goal.returns-then-is_some-clause-value
 returns-then-is_some-clause-value g c =
     let i = c.loop-behind.invariant in
     let read = c.in_ok-word.ensures in
     let behind = behind-read i.found i.word c.cdr_code.ensures c.loop-behind-test.ensures i.stays.words read.value c.forward.ensures c.if-is_some.ensures in
-    let same = read.stays.words ∙ i.stays.words in
+    let same = read.unchanged.words ∙ i.stays.words in
     let final = subst (λ (ws : List Parts). Final ws (c.args.at + c.loop-behind.cells) c.in_ok-to.to) same c.in_ok-to.ensures.value in
     let last = subst (λ (ws : List Parts). IsFinal ws c.in_ok-to.to) same c.in_ok-to.ensures.last in
     run-forwarded behind final last
@@ -69,7 +69,7 @@ loop-behind-preserved g c =
     record {
       found = found-more behind c.cdr_code-in-loop-behind.ensures c.if-eq.ensures;
       word = ap (word_at (g.M.Memory.seen c.args.mem.now).words) place ∙ behind.word_is;
-      stays = stores_nothing-twice i.stays read.stays;
+      stays = stores_nothing-twice i.stays read.unchanged;
       quiet = record { faults = read.cause.quiet ∙ i.quiet.faults; honest = (let a = i.quiet.honest in let b = read.taken in let d = read.cost in omega arith); room = (let a = i.quiet.room in let b = read.room.answered in omega arith) };
       cost = (let a = i.cost in let b = read.cost in omega arith);
     }

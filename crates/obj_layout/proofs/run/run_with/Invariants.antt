@@ -1,5 +1,5 @@
 use Rattle.std.proofs.Common.{◌≡◌, ◌+◌, ◌-◌, ◌≤◌}
-use Rattle.mem_port.specs.View.{Quiet, shown}
+use Rattle.mem_port.specs.View.{WithoutFault, shown}
 use Rattle.mem_port.specs.Store.{StoresNothing}
 use Rattle.obj_layout.specs.Forwards.{word_at}
 use Rattle.obj_layout.specs.declared.run.TheConstants.{RUN_LIMIT}
@@ -12,7 +12,7 @@ invariant-loop-behind g l = record {
   found : Found (g.M.Memory.seen l.fn.mem).words l.at l.cells;
   word : word_at (g.M.Memory.seen l.fn.mem).words (l.at + l.cells - 1) ≡ l.word;
   stays : StoresNothing (g.M.Memory.seen l.fn.mem) (g.M.Memory.seen l.mem);
-  quiet : Quiet (shown g.M.Memory l.fn.mem) (shown g.M.Memory l.mem) l.fn.steps l.steps;
+  quiet : WithoutFault (shown g.M.Memory l.fn.mem) (shown g.M.Memory l.mem) l.fn.steps l.steps;
   cost : l.steps + 1 ≤ l.fn.steps + l.cells;
 }
 

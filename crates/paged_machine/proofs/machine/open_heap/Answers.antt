@@ -1,5 +1,5 @@
 use Rattle.paged_machine.proofs.Openable.{formed}
 use Rattle.paged_machine.proofs.machine.open_heap.Goals as goal
 
-pub open-requires-2-clause-form : goal.open-requires-2-clause-form
-open-requires-2-clause-form g c = formed c.args.world.now c.requires
+pub open-requires-2-clause-sound : goal.open-requires-2-clause-sound
+open-requires-2-clause-sound g c = formed c.args.world.now c.requires

@@ -4,10 +4,10 @@ use Rattle.input_verdict.proofs.Accepted.{goes_on, none_open}
 use Rattle.replay_run.proofs.Events.{stands_command, takes_command}
 use Rattle.replay_run.proofs.line.answer_line.Goals as goal
 
-pub returns-in-Err-clause-stopped : goal.returns-in-Err-clause-stopped
-returns-in-Err-clause-stopped g c =
+pub returns-in-Err-clause-err : goal.returns-in-Err-clause-err
+returns-in-Err-clause-err g c =
     let fault = c.in-Err.fault in
-    let told = c.trouble.ensures.is ∙ ap (λ place. trouble_at place fault) c.in-Err.ensures.same in
+    let told = c.run_error_of.ensures.value ∙ ap (λ place. trouble_at place fault) c.in-Err.ensures.unchanged in
     rw told (inl (record {
       trouble = trouble_at c.args.place.now fault;
       stops = refl;
@@ -17,10 +17,10 @@ returns-in-Err-clause-stopped g c =
       still = (refl, refl, refl);
     }))
 
-pub act-requires-clause-takes : goal.act-requires-clause-takes
-act-requires-clause-takes g c = λ is.
-    takes_command c.args.place.now c.judge_line.new.place (g.E.Engine.takes c.args.engine.now) c.requires.takes (event_of c.in-Ok.step c.judge_line.new.command)
-    (goes_on c.args.place.now c.args.text.now c.args.size _ c.in-Ok.ensures.judged) c.in-Ok.ensures.may c.judge_line.new.command (ap (λ step. event_of step c.judge_line.new.command) is)
+pub act-requires-clause-can : goal.act-requires-clause-can
+act-requires-clause-can g c = λ is.
+    takes_command c.args.place.now c.judge_line.new.place (g.E.Engine.takes c.args.engine.now) c.requires.can (event_of c.in-Ok.step c.judge_line.new.command)
+    (goes_on c.args.place.now c.args.text.now c.args.size _ c.in-Ok.ensures.judged) c.in-Ok.ensures.allowed c.judge_line.new.command (ap (λ step. event_of step c.judge_line.new.command) is)
 
 pub act-requires-clause-stands : goal.act-requires-clause-stands
 act-requires-clause-stands g c = λ is.

@@ -5,7 +5,7 @@ use Rattle.sexpr_print.proofs.RootLines.{lines_end, lines_next, lines_none}
 use Rattle.sexpr_print.proofs.print.print_roots.Goals as goal
 
 pub loop-register-init : goal.loop-register-init
-loop-register-init c = lines_none c.args.world.now c.as_slice-roots.result.now c.args.printer.now c.requires.joined c.requires.idle
+loop-register-init c = lines_none c.args.world.now c.as_slice-roots.result.now c.args.printer.now c.requires.open c.requires.idle
 
 pub loop-register-preserved : goal.loop-register-preserved
 loop-register-preserved c =

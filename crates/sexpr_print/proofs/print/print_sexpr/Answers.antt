@@ -8,8 +8,8 @@ pub returns : goal.returns
 returns c =
     let world = c.args.world.now in
     let names = c.in_ok-numbering.numbering.keys in
-    let shared = same_shared world names c.in_ok-counts.counts c.requires.graph c.in_ok-numbering.ensures.below c.in_ok-counts.ensures.is c.in_ok-counts.ensures.size in
+    let shared = same_shared world names c.in_ok-counts.counts c.requires.graph c.in_ok-numbering.ensures.in_range c.in_ok-counts.ensures.value c.in_ok-counts.ensures.size in
     record {
-      is = printed_whole world names _ c.print_roots.new.printer c.print_end.new.line.text c.in_ok-numbering.ensures.is (ap shared_in c.in_ok-new.ensures.counts ∙ shared) c.in_ok-new.ensures.names c.in_ok-header.ensures.text
+      value = printed_whole world names _ c.print_roots.new.printer c.print_end.new.line.text c.in_ok-numbering.ensures.value (ap shared_in c.in_ok-new.ensures.value ∙ shared) c.in_ok-new.ensures.empty c.in_ok-header.ensures.text
           c.in_ok-print_roots.ensures c.in_ok-print_end.ensures;
     }

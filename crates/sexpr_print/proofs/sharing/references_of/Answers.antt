@@ -10,8 +10,8 @@ use Rattle.sexpr_print.specs.declared.sharing.References.TheVariants.{No}
 use Rattle.sexpr_print.proofs.Counting.{counted_all, counts_then}
 use Rattle.sexpr_print.proofs.sharing.references_of.Goals as goal
 
-pub returns-clause-is : goal.returns-clause-is
-returns-clause-is c =
+pub returns-clause-value : goal.returns-clause-value
+returns-clause-value c =
     let first = c.pad.new.self in
     let middle = c.count_all.new.counts in
     let last = c.count_objects.new.counts in

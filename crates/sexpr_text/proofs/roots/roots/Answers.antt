@@ -17,8 +17,8 @@ loop-forms-preserved c =
     let next = rooted c.root.new.registers c.root.new.forms in
     let rest = c.root.new.forms.pieces in
     let less : length rest < length pieces = omega (arith, c.in_ok-root-in-Root.ensures.takes, ap length c.advance.ensures, length-drop 1 pieces) in (
-      goes_root whole now next pieces rest c.loop-forms.invariant.0 (sym c.token.ensures ∙ c.in-Root.is) (ap (root_at now) (sym c.advance.ensures) ∙ c.in_ok-root-in-Root.ensures.is) less,
-      c.in_ok-root-in-Root.ensures.idle,
+      goes_root whole now next pieces rest c.loop-forms.invariant.0 (sym c.token.ensures ∙ c.in-Root.is) (ap (root_at now) (sym c.advance.ensures) ∙ c.in_ok-root-in-Root.ensures.value) less,
+      c.in_ok-root-in-Root.ensures.done,
       omega (arith, c.in_ok-root-in-Root.ensures.count, c.loop-forms.invariant.2),
     )
 
@@ -31,7 +31,7 @@ returns-in_err-root-in-Root c =
     let fault = c.in_err-root-in-Root.field-0.0 in
     let P : Result (Rooted × List Piece) SexprFault → Type 0 = λ r. IsFault fault r in
     may_pass _ c.from_residual.result whole fault p.0 p.1 p.2
-    (goes_fails fault whole now pieces c.loop-forms.invariant.0 (sym c.token.ensures ∙ c.in-Root.is) (subst P (ap (root_at now) c.advance.ensures) c.in_err-root-in-Root.ensures.is))
+    (goes_fails fault whole now pieces c.loop-forms.invariant.0 (sym c.token.ensures ∙ c.in-Root.is) (subst P (ap (root_at now) c.advance.ensures) c.in_err-root-in-Root.ensures.value))
 
 pub returns-in-EndSexpr : goal.returns-in-EndSexpr
 returns-in-EndSexpr c =

@@ -9,4 +9,4 @@ returns-in-Answered g c = record { command = C.Grow c.args.target c.args.fields;
 pub returns-in-Wants : goal.returns-in-Wants
 returns-in-Wants g c =
     let x = c.find_growing.ensures in
-    performed_after (record { represented = x.represented; preserves = x.preserves; others = x.others; stays_fresh = x.stays_fresh; marks = x.marks }) c.grow_found.ensures
+    performed_after (record { represented = x.represented; preserves = x.preserves; others = x.registers; stays_fresh = x.stays_fresh; marks = x.marks }) c.grow_found.ensures

@@ -9,5 +9,5 @@ use Rattle.test_text.proofs.holding.told.Goals as goal
 pub census_text-requires : goal.census_text-requires
 census_text-requires c =
     let P : Graph → Type 0 = λ graph. IsReachedCensus (keyed graph) c.in_ok-some.some in
-    let some = subst P c.new-walk.ensures c.in_ok-some.ensures.is in
+    let some = subst P c.new-walk.ensures c.in_ok-some.ensures.value in
     (map (counted_key (keyed (opening c.args.world))) some.keys, reached_part (opening c.args.world) some.keys c.in_ok-rows.rows c.in_ok-some.some c.requires.accepted.limits.graph some.reached c.in_ok-rows.ensures some.census)

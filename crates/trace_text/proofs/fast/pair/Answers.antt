@@ -9,4 +9,4 @@ returns c = λ same areas.
     let w = c.in-Some-two_registers in
     let e = c.in-Some-two_registers.ensures in
     pair_line c.args.space.now areas c.args.line.now c.in-Some.text.now c.in-Some.kind w.first w.second c.requires e.0 e.1 c.in-Some.ensures e.2
-    ∙ ap (λ (said : Command). Ok (Run said)) (sym (c.set.ensures ∙ c.with.ensures.is))
+    ∙ ap (λ (said : Command). Ok (Run said)) (sym (c.set.ensures ∙ c.with.ensures.value))

@@ -6,8 +6,8 @@ use Rattle.trace_text.proofs.Chosen.{line_levels}
 use Rattle.trace_text.proofs.Sayings.{given_line}
 use Rattle.trace_text.proofs.read.read_request.Goals as goal
 
-pub returns-then-read_fast-clause-said : goal.returns-then-read_fast-clause-said
-returns-then-read_fast-clause-said c =
+pub returns-then-read_fast-clause-ok : goal.returns-then-read_fast-clause-ok
+returns-then-read_fast-clause-ok c =
     given_line c.args.space.now c.args.areas.now c.args.line.now (Ok kinds.Command) c.read_fast.new.command c.requires (c.read_fast.ensures c.if-read_fast.true)
 
 pub returns-then-read_fast-clause-levels : goal.returns-then-read_fast-clause-levels
@@ -15,8 +15,8 @@ returns-then-read_fast-clause-levels c named =
     line_levels c.args.space.now c.args.areas.now c.args.line.now (Ok kinds.Command) c.read_fast.new.command
     (given_line c.args.space.now c.args.areas.now c.args.line.now (Ok kinds.Command) c.read_fast.new.command c.requires (c.read_fast.ensures c.if-read_fast.true) named)
 
-pub returns-clause-said : goal.returns-clause-said
-returns-clause-said c =
+pub returns-clause-ok : goal.returns-clause-ok
+returns-clause-ok c =
     let is : Gives (λ kind. said_by kind c.line_in.new.command) c.line_in.result (trace_line c.args.space.now c.args.areas.now c.args.line.now) = search rules in
     given_line c.args.space.now c.args.areas.now c.args.line.now c.line_in.result c.line_in.new.command c.requires is
 

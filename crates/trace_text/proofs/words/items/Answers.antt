@@ -13,17 +13,17 @@ pub returns-in_err-item-clause-items : goal.returns-in_err-item-clause-items
 returns-in_err-item-clause-items c =
     let some : 0 < length c.loop-rest.rest.now = grind (arith, nat_tests, c.loop-rest-test.ensures) in
     let p = err_from_is_err_and c.from_residual.result c.from_residual.ensures.1 in
-    rw (p.1, p.2) (sym c.loop-rest.invariant.reads ∙ each_fails (a_register c.args.registers) (items_of c.loop-rest.command) (words_of c.loop-rest.rest.now) c.in_err-item.field-0.0 (words_some _ some) c.in_err-item.ensures.is)
+    rw (p.1, p.2) (sym c.loop-rest.invariant.reads ∙ each_fails (a_register c.args.registers) (items_of c.loop-rest.command) (words_of c.loop-rest.rest.now) c.in_err-item.field-0.0 (words_some _ some) c.in_err-item.ensures.value)
 
 pub push-requires : goal.push-requires
 push-requires c =
     let some : 0 < length c.loop-rest.rest.now = grind (arith, nat_tests, c.loop-rest-test.ensures) in
-    has_room c.loop-rest.command c.args.to c.args.area c.loop-rest.invariant.list (omega (arith, words_some _ some, c.loop-rest.invariant.count, c.requires.few))
+    has_room c.loop-rest.command c.args.to c.args.area c.loop-rest.invariant.list (omega (arith, words_some _ some, c.loop-rest.invariant.count, c.requires.at_most))
 
 pub loop-rest-smaller : goal.loop-rest-smaller
 loop-rest-smaller c =
     let some : 0 < length c.loop-rest.rest.now = grind (arith, nat_tests, c.loop-rest-test.ensures) in
-    omega (arith, words_some _ some, c.in_ok-item.ensures.fewer)
+    omega (arith, words_some _ some, c.in_ok-item.ensures.left)
 
 pub loop-rest-preserved : goal.loop-rest-preserved
 loop-rest-preserved c =
@@ -34,8 +34,8 @@ loop-rest-preserved c =
     record {
       list = listed c.push.new.self c.args.to c.args.area _ is;
       reads = rw (ap items_of is)
-          (sym (each_goes (a_register c.args.registers) had (words_of c.loop-rest.rest.now) c.in_ok-item.item (words_of c.in_ok-item.after.now) more c.in_ok-item.ensures.is) ∙ c.loop-rest.invariant.reads);
-      count = rw (ap items_of is) (omega (arith, more, c.in_ok-item.ensures.fewer, c.loop-rest.invariant.count, length-append had (c.in_ok-item.item ∷ [])));
+          (sym (each_goes (a_register c.args.registers) had (words_of c.loop-rest.rest.now) c.in_ok-item.item (words_of c.in_ok-item.after.now) more c.in_ok-item.ensures.value) ∙ c.loop-rest.invariant.reads);
+      count = rw (ap items_of is) (omega (arith, more, c.in_ok-item.ensures.left, c.loop-rest.invariant.count, length-append had (c.in_ok-item.item ∷ [])));
     }
 
 pub returns-clause-items : goal.returns-clause-items

@@ -16,15 +16,15 @@ loop-done-preserved g c =
     let piece = c.on_one_page-piece.ensures in
     let below = c.loop-done-test.true in
     let same : (k : ℕ) → k < c.on_one_page-piece.result → word_at (g.M.Memory.seen c.loop-done.mem).words (c.args.from + c.loop-done.done + k) ≡ word_at (g.M.Memory.seen c.args.mem.now).words (c.args.from + (c.loop-done.done + k)) = λ k l.
-    let few = piece.few in
+    let few = piece.at_most in
     let place : c.args.from + c.loop-done.done + k ≡ c.args.from + (c.loop-done.done + k) = omega arith in
     i.copied.others (c.args.from + c.loop-done.done + k) (λ x. (let a = x.0 in let b = x.1 in go c.args.from c.args.to c.args.count c.loop-done.done k c.requires.apart (omega arith) a b)) ∙ ap (word_at (g.M.Memory.seen c.args.mem.now).words) place in
     record {
-      low = (let few = piece.few in omega arith);
-      copied = writes-span i.copied call.copied piece.to same;
-      held = λ page h. call.kept page (i.held page h);
+      low = (let few = piece.at_most in omega arith);
+      copied = writes-span i.copied call.written piece.to same;
+      held = λ page h. call.stays_held page (i.held page h);
       quiet = record {
-        faults = call.faults ∙ i.quiet.faults;
+        faults = call.no_fault ∙ i.quiet.faults;
         honest = (let a = i.quiet.honest in let b = call.taken in let d = call.cost in omega arith);
         room = (let a = i.quiet.room in let b = call.resident in omega arith);
       };

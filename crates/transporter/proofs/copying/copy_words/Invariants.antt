@@ -1,5 +1,5 @@
 use Rattle.std.proofs.Common.{ℕ, ◌≡◌, ◌+◌, ◌*◌, ◌≤◌, ◌-◌}
-use Rattle.mem_port.specs.View.{Quiet, shown}
+use Rattle.mem_port.specs.View.{WithoutFault, shown}
 use Rattle.obj_layout.specs.Forwards.{word_at}
 use Rattle.transporter.specs.Writes.{Writes}
 use Rattle.transporter.proofs.copying.copy_words.Given as goal
@@ -10,7 +10,7 @@ invariant-loop-done g l = record {
   low : l.done ≤ l.count;
   copied : Writes (g.M.Memory.seen l.fn.mem) (g.M.Memory.seen l.mem) l.to l.done (λ i. word_at (g.M.Memory.seen l.fn.mem).words (l.from + i));
   held : (page : ℕ) → g.M.Memory.held l.fn.mem page → g.M.Memory.held l.mem page;
-  quiet : Quiet (shown g.M.Memory l.fn.mem) (shown g.M.Memory l.mem) l.fn.steps l.steps;
+  quiet : WithoutFault (shown g.M.Memory l.fn.mem) (shown g.M.Memory l.mem) l.fn.steps l.steps;
   cost : l.steps ≡ l.fn.steps + 2 * l.done;
 }
 

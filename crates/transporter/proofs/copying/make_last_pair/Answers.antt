@@ -11,4 +11,4 @@ returns-clause-pair g c =
     let words = (g.M.Memory.seen c.args.mem.now).words in
     let read = c.in_ok-car.ensures in
     let car = word_at-read words words c.args.from c.in_ok-car.car refl read.value in
-    writes-pair (word_at words c.args.from) c.args.rest read.stays c.in_ok-write.ensures.ok c.in_ok-write-2.ensures.ok c.requires.to_inside (c.with_cdr.ensures ∙ ap (λ (w : Parts). record { cdr = Normal; content = w.content }) (sym car)) c.list_at.ensures
+    writes-pair (word_at words c.args.from) c.args.rest read.unchanged c.in_ok-write.ensures.ok c.in_ok-write-2.ensures.ok c.requires.to (c.with_cdr.ensures ∙ ap (λ (w : Parts). record { cdr = Normal; content = w.content }) (sym car)) c.list_at.ensures

@@ -4,4 +4,4 @@ use Rattle.transporter.proofs.Writing.{writes-two}
 use Rattle.transporter.proofs.copying.write_pair.Goals as goal
 
 pub returns-clause-written : goal.returns-clause-written
-returns-clause-written g c = writes-two (two_words c.args.pair.first c.args.pair.second) c.in_ok-write.ensures.ok c.in_ok-write-2.ensures.ok c.requires.inside refl refl
+returns-clause-written g c = writes-two (two_words c.args.pair.first c.args.pair.second) c.in_ok-write.ensures.ok c.in_ok-write-2.ensures.ok c.requires.in_range refl refl

@@ -10,4 +10,4 @@ returns-in-BlockOf-clause-value g c = parcel-block (c.shape_from.ensures.value �
 
 pub returns-in_ok-parcel-in-Cell-clause-value : goal.returns-in_ok-parcel-in-Cell-clause-value
 returns-in_ok-parcel-in-Cell-clause-value g c =
-    subst (λ (ws : List Parts). IsParcel ws c.args.object.at c.in_ok-parcel-in-Cell.parcel) c.in_ok-first.ensures.stays.words c.in_ok-parcel-in-Cell.ensures.value
+    subst (λ (ws : List Parts). IsParcel ws c.args.object.at c.in_ok-parcel-in-Cell.parcel) c.in_ok-first.ensures.unchanged.words c.in_ok-parcel-in-Cell.ensures.value

@@ -10,15 +10,15 @@ use Rattle.transporter.proofs.Parcels.{pair-stays}
 use Rattle.transporter.proofs.Places.{end_inside, end_apart, some_words, origin_allowed, moves-after_read, commits-noted}
 use Rattle.transporter.proofs.relocation.put.Goals as goal
 
-pub hold_spans-requires-clause-second_inside : goal.hold_spans-requires-clause-second_inside
-hold_spans-requires-clause-second_inside g c =
+pub hold_spans-requires-clause-second_in_range : goal.hold_spans-requires-clause-second_in_range
+hold_spans-requires-clause-second_in_range g c =
     let r = c.requires.can in
     let size = c.new_words-words.ensures in
     let room = end_inside c.args.ground.now.table (slot_of c.args.ground.now.table c.args.class.area (survivor c.args.ground.now.table c.args.class.level)) c.args.placed.now.at (word_count_of c.args.parcel.now) _ r.sound r.end r.size in
     omega arith
 
-pub commit-requires-clause-origin : goal.commit-requires-clause-origin
-commit-requires-clause-origin g c = λ slot e.
+pub commit-requires-clause-allowed : goal.commit-requires-clause-allowed
+commit-requires-clause-allowed g c = λ slot e.
     let r = c.requires.can in
     let t = c.args.ground.now.table in
     origin_allowed t slot c.args.class.area (survivor t c.args.class.level) c.args.parcel.now.at c.args.placed.now.at (word_count_of c.args.parcel.now) c.args.parcel.now.charge c.args.class r.sound r.stale_is r.old r.level_in r.charged r.end
@@ -34,19 +34,19 @@ move_words-requires-clause-can g c =
     let b = fits.each in
     let room = end_inside c.args.ground.now.table (slot_of c.args.ground.now.table c.args.class.area (survivor c.args.ground.now.table c.args.class.level)) c.args.placed.now.at (word_count_of c.args.parcel.now) _ r.sound r.end r.size in
     let held = c.in_ok-hold_spans.ensures in
-    let words : length (g.M.Memory.seen c.hold_spans.new.mem).words ≡ length (g.M.Memory.seen c.args.ground.now.mem).words = ap length held.stays.words in
+    let words : length (g.M.Memory.seen c.hold_spans.new.mem).words ≡ length (g.M.Memory.seen c.args.ground.now.mem).words = ap length held.unchanged.words in
     rw c.commit.ensures.memory (record {
       fits = r.fits;
       from_inside = (let within = r.inside in omega arith);
       to_inside = omega arith;
-      rest_inside = subst (λ (ws : List Parts). IfSome c.args.parcel.now.rest (λ rest. rest < length ws)) (sym held.stays.words) r.rest_inside;
+      rest_inside = subst (λ (ws : List Parts). IfSome c.args.parcel.now.rest (λ rest. rest < length ws)) (sym held.unchanged.words) r.rest_inside;
       apart = end_apart t _ to (word_count_of c.args.parcel.now) _ c.args.parcel.now.at c.args.parcel.now.words r.sound r.end r.old.region r.one_region (omega arith);
-      from_held = held.first;
-      to_held = subst (λ (n : ℕ). HoldsSpan (g.M.Memory.held c.hold_spans.new.mem) (record { at = c.args.placed.now.at; words = n })) c.new_words-words.ensures held.second;
+      from_held = held.first_held;
+      to_held = subst (λ (n : ℕ). HoldsSpan (g.M.Memory.held c.hold_spans.new.mem) (record { at = c.args.placed.now.at; words = n })) c.new_words-words.ensures held.second_held;
     })
 
 pub move_words-requires-clause-pair : goal.move_words-requires-clause-pair
-move_words-requires-clause-pair g c = rw c.commit.ensures.memory (pair-stays c.args.parcel.now c.args.pair c.in_ok-hold_spans.ensures.stays.words c.requires.pair)
+move_words-requires-clause-pair g c = rw c.commit.ensures.memory (pair-stays c.args.parcel.now c.args.pair c.in_ok-hold_spans.ensures.unchanged.words c.requires.pair)
 
 pub note_moved-requires : goal.note_moved-requires
 note_moved-requires g c =
@@ -60,10 +60,10 @@ note_moved-requires g c =
 pub returns-clause-moved : goal.returns-clause-moved
 returns-clause-moved g c =
     let moved = c.in_ok-move_words.ensures.moved in
-    moves-after_read c.in_ok-hold_spans.ensures.stays (rw (← c.commit.ensures.memory) moved)
+    moves-after_read c.in_ok-hold_spans.ensures.unchanged (rw (← c.commit.ensures.memory) moved)
 
-pub returns-clause-committed : goal.returns-clause-committed
-returns-clause-committed g c =
+pub returns-clause-placed : goal.returns-clause-placed
+returns-clause-placed g c =
     let r = c.requires.can in
     let size = c.new_words-words.ensures in
     let t = c.args.ground.now.table in

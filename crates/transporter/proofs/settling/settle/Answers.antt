@@ -1,7 +1,7 @@
 use Rattle.std.proofs.Common.{ℕ, ◌≡◌, ◌/◌, refl, sym, ◌∙◌, subst}
 use Rattle.area_space.specs.Table.{IsOld}
 use Rattle.transporter.specs.Moving.{stays as stays_put}
-use Rattle.transporter.specs.Settling.{HasOld}
+use Rattle.transporter.specs.Settling.{RefersToOld}
 use Rattle.transporter.proofs.Marked.{marks-read}
 use Rattle.transporter.proofs.Moving.{same-stores, read-once}
 use Rattle.transporter.proofs.Settled.{reference-inside, settles-same}
@@ -11,14 +11,14 @@ use Rattle.transporter.proofs.settling.settle.Goals as goal
 pub is_old-requires : goal.is_old-requires
 is_old-requires g c = reference-inside c.in-Some.at c.requires (sym c.reference.ensures ∙ c.in-Some.is)
 
-pub settle_old-requires-clause-at : goal.settle_old-requires-clause-at
-settle_old-requires-clause-at g c = sym c.reference.ensures ∙ c.in-Some.is
+pub settle_old-requires-clause-agrees : goal.settle_old-requires-clause-agrees
+settle_old-requires-clause-agrees g c = sym c.reference.ensures ∙ c.in-Some.is
 
-pub settle_old-requires-clause-old : goal.settle_old-requires-clause-old
-settle_old-requires-clause-old g c = c.is_old.ensures.0 c.if-is_old.true
+pub settle_old-requires-clause-in_range : goal.settle_old-requires-clause-in_range
+settle_old-requires-clause-in_range g c = c.is_old.ensures.0 c.if-is_old.true
 
-pub returns-in-Some-clause-still : goal.returns-in-Some-clause-still
-returns-in-Some-clause-still g c = λ none. absurd (none (c.in-Some.at, sym c.reference.ensures ∙ c.in-Some.is, c.is_old.ensures.0 c.if-is_old.true))
+pub returns-in-Some-clause-unchanged : goal.returns-in-Some-clause-unchanged
+returns-in-Some-clause-unchanged g c = λ none. absurd (none (c.in-Some.at, sym c.reference.ensures ∙ c.in-Some.is, c.is_old.ensures.0 c.if-is_old.true))
 
 pub returns-in-Some-clause-stays_fresh : goal.returns-in-Some-clause-stays_fresh
 returns-in-Some-clause-stays_fresh g c = λ none. absurd (none (c.in-Some.at, sym c.reference.ensures ∙ c.in-Some.is, c.is_old.ensures.0 c.if-is_old.true))
@@ -29,7 +29,7 @@ returns-in_default-clause-settles g c = λ k top areas registers s aim v can. se
 pub returns-in_default-clause-words : goal.returns-in_default-clause-words
 returns-in_default-clause-words g c = stays_put young same-stores refl refl
   where
-    young : HasOld c.args.ground.now.table c.args.word → ⊥
+    young : RefersToOld c.args.ground.now.table c.args.word → ⊥
     young h = elim c.in_default.branch [
       | in_default-via-in-Some+else-is_old w ↦
           let same : h.0 ≡ w.in-Some.at = (let e = sym h.1 ∙ (sym c.reference.ensures ∙ w.in-Some.is) in cc) in

@@ -6,12 +6,12 @@ use Rattle.transporter.proofs.Settled.{names-of, settle-transport, settle-transp
 use Rattle.transporter.proofs.settling.settle_old.Goals as goal
 
 pub transport-requires : goal.transport-requires
-transport-requires g c = settle-transportable c.args.at c.requires.word c.requires.at c.requires.old
+transport-requires g c = settle-transportable c.args.at c.requires.can c.requires.agrees c.requires.in_range
 
 pub with_address-requires : goal.with_address-requires
 with_address-requires g c =
-    let x = settle-transportable c.args.at c.requires.word c.requires.at c.requires.old in
-    let r = c.in_ok-to.ensures.reaches x.map x.top x.areas x.registers x.store x.aim x.kind x.name x.can in
+    let x = settle-transportable c.args.at c.requires.can c.requires.agrees c.requires.in_range in
+    let r = c.in_ok-to.ensures.settles x.map x.top x.areas x.registers x.store x.aim x.kind x.name x.can in
     live-small r.later.kept.table r.live
 
 pub returns-clause-settles : goal.returns-clause-settles
@@ -20,19 +20,19 @@ returns-clause-settles g c = λ k top areas registers s aim v can.
     let m' = g.M.Memory.seen c.transport.new.ground.mem in
     let t = c.args.ground.now.table in
     let t' = c.transport.new.ground.table in
-    let value = can.value c.args.at c.requires.at in
-    let names = names-of k.role c.args.word.content c.args.at v c.requires.at value in
-    let r = c.in_ok-to.ensures.reaches k top areas registers s aim names.kind names.name (settle-transport m t k top areas registers s aim c.args.word v c.args.at can c.requires.at c.requires.old names) in
+    let value = can.value c.args.at c.requires.agrees in
+    let names = names-of k.role c.args.word.content c.args.at v c.requires.agrees value in
+    let r = c.in_ok-to.ensures.settles k top areas registers s aim names.kind names.name (settle-transport m t k top areas registers s aim c.args.word v c.args.at can c.requires.agrees c.requires.in_range names) in
     let P : Parts → Type 0 = λ w. SettlesOn (g.M.Memory.seen c.args.ground.now.mem) c.args.ground.now.table (g.M.Memory.seen c.transport.new.ground.mem) c.transport.new.ground.table k top areas s aim c.args.word w in
-    subst P (sym c.with_address.ensures) (settles-moved m m' t t' k top areas s aim c.args.word v c.args.at c.in_ok-to.to c.requires.at value names r)
+    subst P (sym c.with_address.ensures) (settles-moved m m' t t' k top areas s aim c.args.word v c.args.at c.in_ok-to.to c.requires.agrees value names r)
 
 pub returns-clause-word : goal.returns-clause-word
 returns-clause-word g c =
-    let x = settle-transportable c.args.at c.requires.word c.requires.at c.requires.old in
-    let r = c.in_ok-to.ensures.reaches x.map x.top x.areas x.registers x.store x.aim x.kind x.name x.can in
-    let names = names-of c.requires.word.map.role c.args.word.content c.args.at c.requires.word.value c.requires.at (c.requires.word.can.value c.args.at c.requires.at) in
+    let x = settle-transportable c.args.at c.requires.can c.requires.agrees c.requires.in_range in
+    let r = c.in_ok-to.ensures.settles x.map x.top x.areas x.registers x.store x.aim x.kind x.name x.can in
+    let names = names-of c.requires.can.map.role c.args.word.content c.args.at c.requires.can.value c.requires.agrees (c.requires.can.can.value c.args.at c.requires.agrees) in
     let P : Parts → Type 0 = λ w. Settles c.args.ground.now.table c.transport.new.ground.table c.args.word w in
-    subst P (sym c.with_address.ensures) (settles-word c.in_ok-to.to names.other c.requires.at c.requires.old r.later.kept.table r.live)
+    subst P (sym c.with_address.ensures) (settles-word c.in_ok-to.to names.other c.requires.agrees c.requires.in_range r.later.kept.table r.live)
 
 pub returns-clause-words : goal.returns-clause-words
-returns-clause-words g c = moves_for c.args.at c.in_ok-to.to c.requires.at c.requires.old c.in_ok-to.ensures.words c.with_address.ensures
+returns-clause-words g c = moves_for c.args.at c.in_ok-to.to c.requires.agrees c.requires.in_range c.in_ok-to.ensures.words c.with_address.ensures

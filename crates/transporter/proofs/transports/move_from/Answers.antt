@@ -5,10 +5,10 @@ use Rattle.transporter.proofs.transports.move_from.Goals as goal
 pub relocate-requires-clause-can : goal.relocate-requires-clause-can
 relocate-requires-clause-can g c =
     let read = c.in_ok-found.ensures in
-    can-read read.stays (c.requires.movable _ read.value read.fits)
+    can-read read.unchanged (c.requires.can _ read.value read.fits)
 
 pub relocate-requires-clause-pair : goal.relocate-requires-clause-pair
-relocate-requires-clause-pair g c = pair-stays c.in_ok-found.found.parcel c.in_ok-found.found.pair c.in_ok-found.ensures.stays.words c.in_ok-found.ensures.pair
+relocate-requires-clause-pair g c = pair-stays c.in_ok-found.found.parcel c.in_ok-found.found.pair c.in_ok-found.ensures.unchanged.words c.in_ok-found.ensures.pair
 
 pub returns-clause-moved : goal.returns-clause-moved
 returns-clause-moved g c =
@@ -17,8 +17,8 @@ returns-clause-moved g c =
       parcel = c.in_ok-found.found.parcel;
       is = read.value;
       fits = read.fits;
-      one_region = (c.requires.movable c.in_ok-found.found.parcel read.value read.fits).one_region;
+      one_region = (c.requires.can c.in_ok-found.found.parcel read.value read.fits).one_region;
       read = g.M.Memory.seen c.parcel_of.new.mem;
-      stays = read.stays;
+      stays = read.unchanged;
       relocates = moved;
     }) c.relocate.ensures.moved

@@ -19,4 +19,4 @@ pub returns-clause-whole : goal.returns-clause-whole
 returns-clause-whole c = λ w.
     let P : List (Option ℕ) → Type 0 = λ xs. AreDepths (opening c.args.world.now) xs in
     let right = subst P (sym c.as_slice-depths.ensures) w.depths in
-    c.is_answered.ensures.1 (held_answered (opening c.args.world.now) c.as_slice-depths.result.now c.args.object c.args.answer.now.held (right.right c.args.object c.requires.object) w.held)
+    c.is_answered.ensures.1 (held_answered (opening c.args.world.now) c.as_slice-depths.result.now c.args.object c.args.answer.now.held (right.right c.args.object c.requires.in_range) w.held)

@@ -27,4 +27,4 @@ returns c =
     take_all c.loop-object.object-index c.as_slice-object-items.result.now c.loop-object-test.false ∙ c.as_slice-object-items.ensures in
     let P : List Object → Type 0 = λ objects. AreTallies (map counted_object objects) c.loop-object.tallies in
     IfOk-weaker c.rows_of.result _ (λ rows. IsCensus (map counted_object c.args.world.now.objects) rows)
-    (λ rows e. tallies_census (map counted_object c.args.world.now.objects) c.loop-object.tallies (subst P all c.loop-object.invariant) c.rows_of.ensures.ordered rows e) c.rows_of.ensures.rows
+    (λ rows e. tallies_census (map counted_object c.args.world.now.objects) c.loop-object.tallies (subst P all c.loop-object.invariant) c.rows_of.ensures.order rows e) c.rows_of.ensures.value

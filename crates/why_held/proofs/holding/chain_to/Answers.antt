@@ -17,16 +17,16 @@ loop-place-init c =
     ap length (padded (c.args.depth + 1) (c.args.depth + 1) _ c.new-hops.result c.pad.new.self c.in_ok-pad.ensures.ok c.new-hops.ensures refl) ∙ length-replicate (c.args.depth + 1) _ in (
       c.as_slice-objects.ensures,
       near_along c.as_slice-objects.result.now c.args.world.now.objects c.args.depths.now c.in_ok-found.found c.as_slice-nearest.result.now c.in_ok-found.ensures c.as_slice-objects.ensures c.as_slice-nearest.ensures,
-      ending_first (opening c.args.world.now) c.args.depths.now c.requires.levels c.args.object c.args.depth c.pad.new.self size c.requires.depth,
+      ending_first (opening c.args.world.now) c.args.depths.now c.requires.levels c.args.object c.args.depth c.pad.new.self size c.requires.agrees,
     )
 
-pub found_for-from-requires-clause-within : goal.found_for-from-requires-clause-within
-found_for-from-requires-clause-within c =
+pub found_for-from-requires-clause-in_range : goal.found_for-from-requires-clause-in_range
+found_for-from-requires-clause-in_range c =
     let l = depth_below c.args.depths.now c.loop-place.to c.loop-place.place c.loop-place.invariant.2.deep in
     omega (arith, l, c.requires.levels.each, c.loop-place.invariant.1.size)
 
-pub found_for-from-requires-clause-some : goal.found_for-from-requires-clause-some
-found_for-from-requires-clause-some c =
+pub found_for-from-requires-clause-at_least : goal.found_for-from-requires-clause-at_least
+found_for-from-requires-clause-at_least c =
     let deep : depth_at c.args.depths.now c.loop-place.to ≡ Some (suc (c.loop-place.place - 1)) =
     c.loop-place.invariant.2.deep ∙ (let e : c.loop-place.place ≡ suc (c.loop-place.place - 1) = omega (arith, c.loop-place-test.true) in ap Some e) in
     nearest_some (opening c.args.world.now) c.args.depths.now c.requires.levels c.as_slice-nearest.result.now c.loop-place.invariant.1 c.loop-place.to (c.loop-place.place - 1) deep
@@ -71,22 +71,22 @@ first_hop-requires-clause-refers c =
 pub set-requires-2 : goal.set-requires-2
 set-requires-2 c = omega (arith, c.loop-place.invariant.2.size)
 
-pub returns-clause-shortest : goal.returns-clause-shortest
-returns-clause-shortest c =
+pub returns-clause-lowest : goal.returns-clause-lowest
+returns-clause-lowest c =
     let zero_is : c.loop-place.place ≡ 0 = omega (arith, c.loop-place-test.false) in
     let ending : Ending (opening c.args.world.now) c.args.depths.now c.args.object c.args.depth c.loop-place.hops 0 c.loop-place.to =
     (let P : ℕ → Type 0 = λ n. Ending (opening c.args.world.now) c.args.depths.now c.args.object c.args.depth c.loop-place.hops n c.loop-place.to in subst P zero_is c.loop-place.invariant.2) in
     let stands : register_value c.args.world.now.roots c.first_hop.result.part ≡ Ref c.loop-place.to = sym (ap (λ (vs : List Value). register_value vs c.first_hop.result.part) c.as_slice.ensures) ∙ c.first_hop.ensures.stands in
     let first : IsFirst (λ register. is_ref c.loop-place.to (value_at c.args.world.now.roots register)) (place_of c.first_hop.result.part) =
     (let P : List Value → Type 0 = λ vs. IsFirst (λ register. is_ref c.loop-place.to (value_at vs register)) (place_of c.first_hop.result.part) in subst P c.as_slice.ensures c.first_hop.ensures.first) in
-    (ending_last (opening c.args.world.now) c.args.depths.now c.requires.levels c.args.object c.args.depth c.loop-place.to c.loop-place.hops c.set-2.new.self c.first_hop.result ending c.requires.depth c.first_hop.ensures.to stands first c.set-2.ensures).0
+    (ending_last (opening c.args.world.now) c.args.depths.now c.requires.levels c.args.object c.args.depth c.loop-place.to c.loop-place.hops c.set-2.new.self c.first_hop.result ending c.requires.agrees c.first_hop.ensures.to stands first c.set-2.ensures).0
 
-pub returns-clause-chosen : goal.returns-clause-chosen
-returns-clause-chosen c =
+pub returns-clause-value : goal.returns-clause-value
+returns-clause-value c =
     let zero_is : c.loop-place.place ≡ 0 = omega (arith, c.loop-place-test.false) in
     let ending : Ending (opening c.args.world.now) c.args.depths.now c.args.object c.args.depth c.loop-place.hops 0 c.loop-place.to =
     (let P : ℕ → Type 0 = λ n. Ending (opening c.args.world.now) c.args.depths.now c.args.object c.args.depth c.loop-place.hops n c.loop-place.to in subst P zero_is c.loop-place.invariant.2) in
     let stands : register_value c.args.world.now.roots c.first_hop.result.part ≡ Ref c.loop-place.to = sym (ap (λ (vs : List Value). register_value vs c.first_hop.result.part) c.as_slice.ensures) ∙ c.first_hop.ensures.stands in
     let first : IsFirst (λ register. is_ref c.loop-place.to (value_at c.args.world.now.roots register)) (place_of c.first_hop.result.part) =
     (let P : List Value → Type 0 = λ vs. IsFirst (λ register. is_ref c.loop-place.to (value_at vs register)) (place_of c.first_hop.result.part) in subst P c.as_slice.ensures c.first_hop.ensures.first) in
-    (ending_last (opening c.args.world.now) c.args.depths.now c.requires.levels c.args.object c.args.depth c.loop-place.to c.loop-place.hops c.set-2.new.self c.first_hop.result ending c.requires.depth c.first_hop.ensures.to stands first c.set-2.ensures).1
+    (ending_last (opening c.args.world.now) c.args.depths.now c.requires.levels c.args.object c.args.depth c.loop-place.to c.loop-place.hops c.set-2.new.self c.first_hop.result ending c.requires.agrees c.first_hop.ensures.to stands first c.set-2.ensures).1

@@ -7,7 +7,7 @@ use Rattle.why_held.proofs.nearest.offer.Goals as goal
 
 pub returns-in-None : goal.returns-in-None
 returns-in-None c =
-    let within = rw c.in-Ref.is at c.requires.value in
+    let within = rw c.in-Ref.is at c.requires.refers in
     let fresh = sym (ap (λ (xs : List (Option ℕ)). nearest_at xs c.in-Ref.to) c.as_slice.ensures) ∙ sym c.nearest_at.ensures ∙ c.in-None.is in
     let less : is_one_less (depth_at c.args.depths.now c.args.from) (depth_at c.args.depths.now c.in-Ref.to) ≡ true =
     sym (ap₂ is_one_less c.depth_at.ensures c.depth_at-in-Ref.ensures) ∙ sym c.is_one_less.ensures ∙ c.if-is_one_less.true in

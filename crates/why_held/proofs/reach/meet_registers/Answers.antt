@@ -11,10 +11,10 @@ loop-register-preserved g c =
     let first = c.loop-register.invariant.0 in
     let shows = rw first at c.in_ok-value.ensures.shows in
     let is : slice_get G.registers c.loop-register.register ≡ Some c.in_ok-value.value =
-    ap (λ (graph : KeyedGraph). slice_get graph.registers c.loop-register.register) (sym first) ∙ c.in_ok-value.ensures.is in (
-      c.value_of_register.ensures.same ∙ first,
+    ap (λ (graph : KeyedGraph). slice_get graph.registers c.loop-register.register) (sym first) ∙ c.in_ok-value.ensures.value in (
+      c.value_of_register.ensures.unchanged ∙ first,
       omega (arith, c.in_ok-value.ensures.cause.quiet, c.loop-register.invariant.1),
-      c.in_ok-meet_value.ensures.known G shows c.loop-register.invariant.2,
+      c.in_ok-meet_value.ensures.stays_known G shows c.loop-register.invariant.2,
       meets_more (take c.loop-register.register G.registers) (take (c.loop-register.register + 1) G.registers) c.in_ok-value.value c.args.met.now c.loop-register.met c.meet_value.new.met
           (registers_more G.registers c.loop-register.register (c.loop-register.register + 1) c.in_ok-value.value is refl) c.loop-register.invariant.3 c.in_ok-meet_value.ensures.ok,
     )

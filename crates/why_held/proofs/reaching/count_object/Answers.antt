@@ -7,6 +7,6 @@ use Rattle.why_held.proofs.reaching.count_object.Goals as goal
 
 pub count-requires : goal.count-requires
 count-requires g c =
-    let is = c.counted_form.ensures ∙ ap₂ counted_form c.in_ok-form.ensures.is c.requires.cons in
+    let is = c.counted_form.ensures ∙ ap₂ counted_form c.in_ok-form.ensures.value c.requires.agrees in
     let P : Counted → Type 0 = λ one. HasRoom (get kind_cmp c.args.tallies.now (one.area, one.code)) in
     subst P (sym is) c.requires.room

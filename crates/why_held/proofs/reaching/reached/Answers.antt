@@ -6,18 +6,18 @@ use Rattle.why_held.proofs.ReachedKeys.{reaching_first}
 use Rattle.why_held.proofs.Tallied.{tallies_census}
 use Rattle.why_held.proofs.reaching.reached.Goals as goal
 
-pub count_objects-requires-clause-reaching : goal.count_objects-requires-clause-reaching
-count_objects-requires-clause-reaching g c =
+pub count_objects-requires-clause-fresh : goal.count_objects-requires-clause-fresh
+count_objects-requires-clause-fresh g c =
     let P : KeyedGraph → Type 0 = λ graph. IsReaching graph 0 c.meet_registers.new.met in
-    subst P (sym c.meet_registers.ensures.same) (reaching_first (g.W.Walk.graph c.args.walk.now) c.new-met.result c.meet_registers.new.met c.new-met.ensures.keys c.in_ok-meet_registers.ensures.ok)
+    subst P (sym c.meet_registers.ensures.unchanged) (reaching_first (g.W.Walk.graph c.args.walk.now) c.new-met.result c.meet_registers.new.met c.new-met.ensures.empty c.in_ok-meet_registers.ensures.ok)
 
-pub returns-clause-is : goal.returns-clause-is
-returns-clause-is g c =
+pub returns-clause-value : goal.returns-clause-value
+returns-clause-value g c =
     let G = g.W.Walk.graph c.args.walk.now in
     let P : KeyedGraph → Type 0 = λ graph. AreReached graph c.count_objects.new.met.keys in
     let Q : KeyedGraph → Type 0 = λ graph. AreTallies (map (counted_key graph) c.count_objects.new.met.keys) c.count_objects.new.tallies in
     record {
       keys = c.count_objects.new.met.keys;
-      reached = subst P c.meet_registers.ensures.same c.in_ok-count_objects.ensures.reached;
-      census = tallies_census (map (counted_key G) c.count_objects.new.met.keys) c.count_objects.new.tallies (subst Q c.meet_registers.ensures.same c.in_ok-count_objects.ensures.counted) c.rows_of.ensures.ordered c.in_ok-rows.rows c.in_ok-rows.ensures.rows;
+      reached = subst P c.meet_registers.ensures.unchanged c.in_ok-count_objects.ensures.sound;
+      census = tallies_census (map (counted_key G) c.count_objects.new.met.keys) c.count_objects.new.tallies (subst Q c.meet_registers.ensures.unchanged c.in_ok-count_objects.ensures.after) c.rows_of.ensures.order c.in_ok-rows.rows c.in_ok-rows.ensures.value;
     }

@@ -15,10 +15,10 @@ loop-start-init c =
 pub overflow_add-depth : goal.overflow_add-depth
 overflow_add-depth c =
     let level = c.loop-start.invariant.1 in
-    omega (arith, level.ahead, c.loop-start-test.true, c.len.ensures, level_few (opening c.args.world.now) c.loop-start.depth c.loop-start.start c.loop-start.search level, c.requires.few)
+    omega (arith, level.ahead, c.loop-start-test.true, c.len.ensures, level_few (opening c.args.world.now) c.loop-start.depth c.loop-start.start c.loop-start.search level, c.requires.at_most)
 
-pub find_next-requires-clause-within : goal.find_next-requires-clause-within
-find_next-requires-clause-within c = λ k d l.
+pub find_next-requires-clause-in_range : goal.find_next-requires-clause-in_range
+find_next-requires-clause-in_range c = λ k d l.
     let w = level_within (opening c.args.world.now) c.loop-start.depth c.loop-start.start c.loop-start.search c.loop-start.invariant.1 k d l in
     omega (arith, ap length c.loop-start.invariant.0, w)
 

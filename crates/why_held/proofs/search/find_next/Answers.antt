@@ -12,21 +12,21 @@ loop-place-init c =
     let none : c.args.start - c.args.start ≡ 0 = omega arith in
     let names = drop c.args.start c.args.search.now.found in (
       omega arith,
-      (let e = c.len-end.ensures in let l = c.requires.start in omega arith),
+      (let e = c.len-end.ensures in let l = c.requires.at_most in omega arith),
       (let P : ℕ → Type 0 = λ n. Finds c.args.depth (all_parts c.args.objects.now (take n names)) c.args.search.now c.args.search.now in subst P (sym none) (finds_none c.args.depth c.args.search.now)),
     )
 
 pub object_at-requires : goal.object_at-requires
 object_at-requires c =
-    let w = found_within c.args.depth (length c.args.objects.now) _ c.args.search.now c.loop-place.search c.args.start c.loop-place.place c.loop-place.invariant.2 c.requires.within c.loop-place.invariant.0 (omega (arith, c.loop-place-test.true, c.len-end.ensures)) in
+    let w = found_within c.args.depth (length c.args.objects.now) _ c.args.search.now c.loop-place.search c.args.start c.loop-place.place c.loop-place.invariant.2 c.requires.in_range c.loop-place.invariant.0 (omega (arith, c.loop-place-test.true, c.len-end.ensures)) in
     omega (arith, w, ap (λ (xs : List ℕ). get_or xs c.loop-place.place 0) c.as_slice.ensures)
 
 pub find_parts-requires : goal.find_parts-requires
 find_parts-requires c =
     let name = get_or c.as_slice.result.now c.loop-place.place 0 in
-    let w = found_within c.args.depth (length c.args.objects.now) _ c.args.search.now c.loop-place.search c.args.start c.loop-place.place c.loop-place.invariant.2 c.requires.within c.loop-place.invariant.0 (omega (arith, c.loop-place-test.true, c.len-end.ensures)) in
+    let w = found_within c.args.depth (length c.args.objects.now) _ c.args.search.now c.loop-place.search c.args.start c.loop-place.place c.loop-place.invariant.2 c.requires.in_range c.loop-place.invariant.0 (omega (arith, c.loop-place-test.true, c.len-end.ensures)) in
     let l : name < length c.args.objects.now = omega (arith, w, ap (λ (xs : List ℕ). get_or xs c.loop-place.place 0) c.as_slice.ensures) in
-    let o = All-get_or (IsObject (length c.args.objects.now)) c.args.objects.now name no_object l c.requires.objects in
+    let o = All-get_or (IsObject (length c.args.objects.now)) c.args.objects.now name no_object l c.requires.sound in
     let e : length c.loop-place.search.depths ≡ length c.args.objects.now = c.loop-place.invariant.2.size ∙ c.requires.size in
     rw c.object_at.ensures (rw e o.refers)
 

@@ -10,19 +10,19 @@ pub charge_behind-requires-clause-first : goal.charge_behind-requires-clause-fir
 charge_behind-requires-clause-first g c =
     let words = (g.M.Memory.seen c.args.ground.now.mem).words in
     let first = word_at-read words words c.args.key c.in_ok-first.first refl c.in_ok-first.ensures.value in
-    sym first ∙ ap (λ (ws : List Parts). word_at ws c.args.key) (sym c.in_ok-first.ensures.stays.words)
+    sym first ∙ ap (λ (ws : List Parts). word_at ws c.args.key) (sym c.in_ok-first.ensures.unchanged.words)
 
 pub charge_behind-requires-clause-whole : goal.charge_behind-requires-clause-whole
 charge_behind-requires-clause-whole g c =
-    subst (λ (words : List Parts). IsWhole words c.args.key) (sym c.in_ok-first.ensures.stays.words) (object_whole (g.M.Memory.seen c.args.ground.now.mem) c.args.ground.now.table c.args.key c.requires)
+    subst (λ (words : List Parts). IsWhole words c.args.key) (sym c.in_ok-first.ensures.unchanged.words) (object_whole (g.M.Memory.seen c.args.ground.now.mem) c.args.ground.now.table c.args.key c.requires)
 
 pub unreachable-requires : goal.unreachable-requires
 unreachable-requires g c = object_classed (g.M.Memory.seen c.args.ground.now.mem) c.args.ground.now.table c.args.key c.requires c.in-None.ensures.none
 
-pub returns-clause-is : goal.returns-clause-is
-returns-clause-is g c =
+pub returns-clause-value : goal.returns-clause-value
+returns-clause-value g c =
     let m = g.M.Memory.seen c.args.ground.now.mem in
     let first = word_at-read m.words m.words c.args.key c.in_ok-first.first refl c.in_ok-first.ensures.value in
-    let charge : c.in_ok-charge.charge ≡ charge_at m.words c.args.key = c.in_ok-charge.ensures.value ∙ ap (λ (words : List Parts). charge_at words c.args.key) c.in_ok-first.ensures.stays.words in
+    let charge : c.in_ok-charge.charge ≡ charge_at m.words c.args.key = c.in_ok-charge.ensures.value ∙ ap (λ (words : List Parts). charge_at words c.args.key) c.in_ok-first.ensures.unchanged.words in
     form_told m c.args.ground.now.table c.args.key c.requires c.in-Some.class c.in_ok-first.first c.header_told-code.result.0 c.header_told-code.result.1 c.in_ok-charge.charge
-    c.in-Some.ensures.some c.in-Some.ensures.level_in first c.header_told-code.ensures.code c.header_told-code.ensures.count charge
+    c.in-Some.ensures.some c.in-Some.ensures.level first c.header_told-code.ensures.first c.header_told-code.ensures.second charge

@@ -8,10 +8,10 @@ resolve-requires g c = list_final (g.M.Memory.seen c.args.ground.now.mem) c.args
 pub resolve-requires-in-Struct : goal.resolve-requires-in-Struct
 resolve-requires-in-Struct g c = struct_final (g.M.Memory.seen c.args.ground.now.mem) c.args.ground.now.table c.args.word.content c.in-Struct.at c.requires (sym c.content.ensures.value ∙ c.in-Struct.is)
 
-pub returns-in_ok-cons-in-List-clause-is : goal.returns-in_ok-cons-in-List-clause-is
-returns-in_ok-cons-in-List-clause-is g c =
+pub returns-in_ok-cons-in-List-clause-value : goal.returns-in_ok-cons-in-List-clause-value
+returns-in_ok-cons-in-List-clause-value g c =
     told_cons (g.M.Memory.seen c.args.ground.now.mem) c.args.ground.now.table c.args.word.content c.in-List.at c.in_ok-cons-in-List.cons c.requires (sym c.content.ensures.value ∙ c.in-List.is) c.in_ok-cons-in-List.ensures.value
 
-pub returns-in_ok-block-in-Struct-clause-is : goal.returns-in_ok-block-in-Struct-clause-is
-returns-in_ok-block-in-Struct-clause-is g c =
+pub returns-in_ok-block-in-Struct-clause-value : goal.returns-in_ok-block-in-Struct-clause-value
+returns-in_ok-block-in-Struct-clause-value g c =
     told_block (g.M.Memory.seen c.args.ground.now.mem) c.args.ground.now.table c.args.word.content c.in-Struct.at c.in_ok-block-in-Struct.block c.requires (sym c.content.ensures.value ∙ c.in-Struct.is) c.in_ok-block-in-Struct.ensures.value

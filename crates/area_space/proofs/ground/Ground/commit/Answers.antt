@@ -16,14 +16,14 @@ charge_by-requires-clause-placed g c =
     let e = c.requires.end in
     let t = c.args.self.now.table in
     let held = end_in_chain t e.0 c.args.placed.now.at c.args.words e.1 in
-    subst (λ (s : ℕ). chain t (live s) ≢ []) (sym (c.slot_at-slot.ensures.slot e.0 held)) (not_empty (chain t (live e.0)) (c.args.placed.now.at / 4096) held)
+    subst (λ (s : ℕ). chain t (live s) ≢ []) (sym (c.slot_at-slot.ensures.value e.0 held)) (not_empty (chain t (live e.0)) (c.args.placed.now.at / 4096) held)
 
-pub charge_by-requires-clause-origin : goal.charge_by-requires-clause-origin
-charge_by-requires-clause-origin g c =
+pub charge_by-requires-clause-allowed : goal.charge_by-requires-clause-allowed
+charge_by-requires-clause-allowed g c =
     let e = c.requires.end in
     let t = c.args.self.now.table in
     let held = end_in_chain t e.0 c.args.placed.now.at c.args.words e.1 in
-    subst (λ (s : ℕ). AllowsOrigin t s c.args.charge c.args.origin) (sym (c.slot_at-slot.ensures.slot e.0 held)) (c.requires.origin e.0 e.1)
+    subst (λ (s : ℕ). AllowsOrigin t s c.args.charge c.args.origin) (sym (c.slot_at-slot.ensures.value e.0 held)) (c.requires.allowed e.0 e.1)
 
 pub extend-requires-clause-end : goal.extend-requires-clause-end
 extend-requires-clause-end g c =
@@ -35,23 +35,23 @@ pub returns-clause-table : goal.returns-clause-table
 returns-clause-table g c = λ slot e.
     let t = c.args.self.now.table in
     commit_equation t c.charge_by.new.self c.extend.new.self c.slot_at-slot.result slot c.args.placed.now.at c.args.words c.args.charge c.args.origin
-    (c.slot_at-slot.ensures.slot slot (end_in_chain t slot c.args.placed.now.at c.args.words e)) c.charge_by.ensures c.extend.ensures.extended
+    (c.slot_at-slot.ensures.value slot (end_in_chain t slot c.args.placed.now.at c.args.words e)) c.charge_by.ensures c.extend.ensures.after
 
 pub returns-clause-pages : goal.returns-clause-pages
 returns-clause-pages g c = subst (λ (p : PageList). Adds p (page_list c.extend.new.self) (c.args.placed.now.at / 256) ((c.args.placed.now.at + c.args.words - 1) / 256)) (ap page_list c.charge_by.ensures ∙ pages_charged c.args.self.now.table c.slot_at-slot.result c.args.charge c.args.origin) c.extend.ensures.pages
 
-pub returns-clause-ground : goal.returns-clause-ground
-returns-clause-ground g c =
+pub returns-clause-stays_ground : goal.returns-clause-stays_ground
+returns-clause-stays_ground g c =
     let e = c.requires.end in
     let t = c.args.self.now.table in
     ground_committed (g.M.Memory.seen c.args.self.now.mem) t c.extend.new.self e.0 c.args.placed.now.at c.args.words c.args.charge c.args.origin c.slot_at-slot.ensures.sound e.1
     (commit_equation t c.charge_by.new.self c.extend.new.self c.slot_at-slot.result e.0 c.args.placed.now.at c.args.words c.args.charge c.args.origin
-    (c.slot_at-slot.ensures.slot e.0 (end_in_chain t e.0 c.args.placed.now.at c.args.words e.1)) c.charge_by.ensures c.extend.ensures.extended)
+    (c.slot_at-slot.ensures.value e.0 (end_in_chain t e.0 c.args.placed.now.at c.args.words e.1)) c.charge_by.ensures c.extend.ensures.after)
 
-pub returns-clause-named : goal.returns-clause-named
-returns-clause-named g c =
+pub returns-clause-stays_named : goal.returns-clause-stays_named
+returns-clause-stays_named g c =
     let e = c.requires.end in
     let t = c.args.self.now.table in
     named_committed (g.M.Memory.seen c.args.self.now.mem) t c.extend.new.self e.0 c.args.placed.now.at c.args.words c.args.charge c.args.origin
     (commit_equation t c.charge_by.new.self c.extend.new.self c.slot_at-slot.result e.0 c.args.placed.now.at c.args.words c.args.charge c.args.origin
-    (c.slot_at-slot.ensures.slot e.0 (end_in_chain t e.0 c.args.placed.now.at c.args.words e.1)) c.charge_by.ensures c.extend.ensures.extended)
+    (c.slot_at-slot.ensures.value e.0 (end_in_chain t e.0 c.args.placed.now.at c.args.words e.1)) c.charge_by.ensures c.extend.ensures.after)

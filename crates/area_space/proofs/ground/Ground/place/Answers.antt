@@ -14,30 +14,30 @@ pub lowest_free-region-requires : goal.lowest_free-region-requires
 lowest_free-region-requires g c =
     let t = c.args.self.now.table in
     let v = c.in-None.ensures.sound in
-    some_free t c.args.area v c.requires.room c.requires.area_in (fits_share t c.args.area c.args.level v c.requires.level_in (half_full c.args.self.now.table c.args.area c.args.level c.args.words c.requires.few c.in-None.ensures.none) (let few = c.requires.within in omega arith))
+    some_free t c.args.area v c.requires.room c.requires.area (fits_share t c.args.area c.args.level v c.requires.level (half_full c.args.self.now.table c.args.area c.args.level c.args.words c.requires.at_most c.in-None.ensures.none) (let few = c.requires.in_range in omega arith))
 
-pub set_level-requires-clause-unused : goal.set_level-requires-clause-unused
-set_level-requires-clause-unused g c =
+pub set_level-requires-clause-free : goal.set_level-requires-clause-free
+set_level-requires-clause-free g c =
     unused_from_free (g.M.Memory.seen c.args.self.now.mem) c.args.self.now.table c.lowest_free-region.result c.in-None.ensures.sound c.requires.ground c.requires.named c.lowest_free-region.ensures.free
 
-pub open-requires-clause-share : goal.open-requires-clause-share
-open-requires-clause-share g c =
-    fits_share c.args.self.now.table c.args.area c.args.level c.in-None.ensures.sound c.requires.level_in (half_full c.args.self.now.table c.args.area c.args.level c.args.words c.requires.few c.in-None.ensures.none) (let few = c.requires.within in omega arith)
+pub open-requires-clause-at_most : goal.open-requires-clause-at_most
+open-requires-clause-at_most g c =
+    fits_share c.args.self.now.table c.args.area c.args.level c.in-None.ensures.sound c.requires.level (half_full c.args.self.now.table c.args.area c.args.level c.args.words c.requires.at_most c.in-None.ensures.none) (let few = c.requires.in_range in omega arith)
 
 pub overflow_mul-result : goal.overflow_mul-result
-overflow_mul-result g c = let few = c.in-None.ensures.sound.few_regions in omega (arith, c.lowest_free-region.ensures.inside)
+overflow_mul-result g c = let few = c.in-None.ensures.sound.few_regions in omega (arith, c.lowest_free-region.ensures.in_range)
 
 pub returns-in-None-clause-end : goal.returns-in-None-clause-end
 returns-in-None-clause-end g c =
-    rw c.«open».ensures.table (opened_end c.args.self.now.table c.args.area c.args.level c.lowest_free-region.result c.args.words c.in-None.ensures.sound c.requires.area_in c.requires.level_in c.lowest_free-region.ensures.free c.requires.few)
+    rw c.«open».ensures.table (opened_end c.args.self.now.table c.args.area c.args.level c.lowest_free-region.result c.args.words c.in-None.ensures.sound c.requires.area c.requires.level c.lowest_free-region.ensures.free c.requires.at_most)
 
-pub returns-in-None-clause-ground : goal.returns-in-None-clause-ground
-returns-in-None-clause-ground g c =
-    rw (c.«open».ensures.table, c.set_level.ensures.level) (ground_opened (g.M.Memory.seen c.args.self.now.mem) c.args.self.now.table c.args.area c.args.level c.lowest_free-region.result c.in-None.ensures.sound c.requires.ground c.requires.area_in c.requires.level_in c.lowest_free-region.ensures.inside c.lowest_free-region.ensures.free)
+pub returns-in-None-clause-stays_ground : goal.returns-in-None-clause-stays_ground
+returns-in-None-clause-stays_ground g c =
+    rw (c.«open».ensures.table, c.set_level.ensures.level) (ground_opened (g.M.Memory.seen c.args.self.now.mem) c.args.self.now.table c.args.area c.args.level c.lowest_free-region.result c.in-None.ensures.sound c.requires.ground c.requires.area c.requires.level c.lowest_free-region.ensures.in_range c.lowest_free-region.ensures.free)
 
-pub returns-in-None-clause-named : goal.returns-in-None-clause-named
-returns-in-None-clause-named g c =
-    rw (c.«open».ensures.table, c.set_level.ensures.level) (named_opened (g.M.Memory.seen c.args.self.now.mem) c.args.self.now.table c.args.area c.args.level c.lowest_free-region.result c.in-None.ensures.sound c.requires.area_in c.requires.level_in c.requires.named)
+pub returns-in-None-clause-stays_named : goal.returns-in-None-clause-stays_named
+returns-in-None-clause-stays_named g c =
+    rw (c.«open».ensures.table, c.set_level.ensures.level) (named_opened (g.M.Memory.seen c.args.self.now.mem) c.args.self.now.table c.args.area c.args.level c.lowest_free-region.result c.in-None.ensures.sound c.requires.area c.requires.level c.requires.named)
 
-pub open-requires-clause-full : goal.open-requires-clause-full
-open-requires-clause-full g c = half_full c.args.self.now.table c.args.area c.args.level c.args.words c.requires.few c.in-None.ensures.none
+pub open-requires-clause-needed : goal.open-requires-clause-needed
+open-requires-clause-needed g c = half_full c.args.self.now.table c.args.area c.args.level c.args.words c.requires.at_most c.in-None.ensures.none

@@ -7,6 +7,6 @@ use Rattle.area_space.specs.PageList.{PageList}
 pub returns : goal.returns
 returns c =
     let sb : length c.clear_words.new.words ≡ c.self.inside.lower.len = (let s = c.clear_words.ensures.size in let l = c.deref_mut.ensures.len in omega arith) in
-    let none = no_pages c.clear_words.new.words c.self.inside.count c.clear_words.ensures.clear in
+    let none = no_pages c.clear_words.new.words c.self.inside.count c.clear_words.ensures.cleared in
     rw (← c.self.view_is, with_items_is c.self.inside.lower c.clear_words.new.words sb)
     (ap (λ (ps : List ℕ). (let w : PageList = record { count = c.self.inside.count; pages = ps } in w)) none)

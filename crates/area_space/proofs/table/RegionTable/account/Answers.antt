@@ -11,16 +11,16 @@ index-requires c =
     let whole = c.self.inside.debts.ok.0 in
     omega arith
 
-pub returns-clause-account : goal.returns-clause-account
-returns-clause-account c =
+pub returns-clause-value : goal.returns-clause-value
+returns-clause-value c =
     let k = c.self.invariant in
     let low = subst (λ (t : Table). c.args.area < areas_of t) (sym c.self.view_is) c.requires in
     let size = k.debts_is.0 in
     let e : c.index.result.now ≡ slice_index c.self.inside.debts.items c.args.area = c.index.ensures ∙ get_or_default c.self.inside.debts.items c.args.area c.index.result.now 0 (omega arith) in
     subst (λ (t : Table). c.index.result.now ≡ account_of t c.args.area) c.self.view_is (e ∙ k.debts_is.1 c.args.area low)
 
-pub returns-clause-paid : goal.returns-clause-paid
-returns-clause-paid c =
+pub returns-clause-at_most : goal.returns-clause-at_most
+returns-clause-at_most c =
     let k = c.self.invariant in
     let low = subst (λ (t : Table). c.args.area < areas_of t) (sym c.self.view_is) c.requires in
     let size = k.debts_is.0 in

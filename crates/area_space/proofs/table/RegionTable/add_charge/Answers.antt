@@ -11,7 +11,7 @@ pub invariant_of-self : goal.invariant_of-self
 invariant_of-self c =
     let k = c.self.invariant in
     let t : Table = table_of c.self.inside in
-    let inside = (subst (λ (t : Table). c.args.slot < slots_of t) (sym c.self.view_is) c.requires.inside) in
+    let inside = (subst (λ (t : Table). c.args.slot < slots_of t) (sym c.self.view_is) c.requires.in_range) in
     let size = k.table.charges_size in
     let sums = k.debts_is.0 in
     let low = area_below t c.args.slot inside in
@@ -32,7 +32,7 @@ pub overflow_add-index_mut : goal.overflow_add-index_mut
 overflow_add-index_mut c =
     let k = c.self.invariant in
     let t : Table = table_of c.self.inside in
-    let inside = (subst (λ (t : Table). c.args.slot < slots_of t) (sym c.self.view_is) c.requires.inside) in
+    let inside = (subst (λ (t : Table). c.args.slot < slots_of t) (sym c.self.view_is) c.requires.in_range) in
     let fits = (subst (λ (t : Table). account_of t (c.args.slot / levels_of t) + c.args.amount ≤ quota_of t (c.args.slot / levels_of t)) (sym c.self.view_is) c.requires.fits) in
     let size = k.table.charges_size in
     let e : c.index_mut.result.now ≡ slice_index c.self.inside.charges.items (2 * c.args.slot) = c.index_mut.ensures.value ∙ get_or_default c.self.inside.charges.items (2 * c.args.slot) c.index_mut.result.now 0 (omega arith) in
@@ -45,7 +45,7 @@ pub overflow_add-index_mut-2 : goal.overflow_add-index_mut-2
 overflow_add-index_mut-2 c =
     let k = c.self.invariant in
     let t : Table = table_of c.self.inside in
-    let inside = subst (λ (t : Table). c.args.slot < slots_of t) (sym c.self.view_is) c.requires.inside in
+    let inside = subst (λ (t : Table). c.args.slot < slots_of t) (sym c.self.view_is) c.requires.in_range in
     let fits = subst (λ (t : Table). account_of t (c.args.slot / levels_of t) + c.args.amount ≤ quota_of t (c.args.slot / levels_of t)) (sym c.self.view_is) c.requires.fits in
     let size = k.debts_is.0 in
     let low = area_below t c.args.slot inside in
@@ -57,7 +57,7 @@ overflow_add-index_mut-2 c =
 pub index_mut-requires-2 : goal.index_mut-requires-2
 index_mut-requires-2 c =
     let t : Table = table_of c.self.inside in
-    let inside = subst (λ (t : Table). c.args.slot < slots_of t) (sym c.self.view_is) c.requires.inside in
+    let inside = subst (λ (t : Table). c.args.slot < slots_of t) (sym c.self.view_is) c.requires.in_range in
     let size = c.self.invariant.debts_is.0 in
     let whole = c.self.inside.debts.ok.0 in
     let low = area_below t c.args.slot inside in

@@ -9,8 +9,8 @@ use Rattle.area_space.specs.Table.{Table, slots_of}
 pub invariant_of-self : goal.invariant_of-self
 invariant_of-self c =
     let k = c.self.invariant in
-    let inside = subst (λ (t : Table). c.args.class < 2 * slots_of t) (sym c.self.view_is) c.requires.inside in
-    let enough = subst (λ (t : Table). c.args.words ≤ slice_index t.charges c.args.class) (sym c.self.view_is) c.requires.enough in
+    let inside = subst (λ (t : Table). c.args.class < 2 * slots_of t) (sym c.self.view_is) c.requires.in_range in
+    let enough = subst (λ (t : Table). c.args.words ≤ slice_index t.charges c.args.class) (sym c.self.view_is) c.requires.at_most in
     let size = k.table.charges_size in
     let size2 = k.table.husks_size in
     let e : c.index_mut.result.now ≡ slice_index c.self.inside.charges.items c.args.class = c.index_mut.ensures.value ∙ get_or_default c.self.inside.charges.items c.args.class c.index_mut.result.now 0 (omega arith) in
@@ -27,8 +27,8 @@ invariant_of-self c =
 pub overflow_add-index_mut : goal.overflow_add-index_mut
 overflow_add-index_mut c =
     let k = c.self.invariant in
-    let inside = subst (λ (t : Table). c.args.class < 2 * slots_of t) (sym c.self.view_is) c.requires.inside in
-    let enough = subst (λ (t : Table). c.args.words ≤ slice_index t.charges c.args.class) (sym c.self.view_is) c.requires.enough in
+    let inside = subst (λ (t : Table). c.args.class < 2 * slots_of t) (sym c.self.view_is) c.requires.in_range in
+    let enough = subst (λ (t : Table). c.args.words ≤ slice_index t.charges c.args.class) (sym c.self.view_is) c.requires.at_most in
     let size2 = k.table.husks_size in
     let f : c.index_mut-2.result.now ≡ slice_index c.self.inside.husks.items c.args.class = c.index_mut-2.ensures.value ∙ get_or_default c.self.inside.husks.items c.args.class c.index_mut-2.result.now 0 (omega arith) in
     let d = debt_small (table_of c.self.inside) c.args.class k.table inside in

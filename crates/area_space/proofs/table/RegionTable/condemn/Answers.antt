@@ -17,8 +17,8 @@ loop-slot-preserved c = flipping_more c.args.self.now c.loop-slot.self c.flip_sl
 
 pub returns : goal.returns
 returns c =
-    let a = c.areas.ensures.areas in
+    let a = c.areas.ensures.value in
     let b = c.levels.ensures.levels in
     let e : c.loop-slot.slot ≡ c.areas.result * c.levels.result = omega arith in
     let f : c.areas.result * c.levels.result ≡ slots_of c.args.self.now = ap (λ (q : ℕ). q * c.levels.result) a ∙ ap (λ (q : ℕ). areas_of c.args.self.now * q) b in
-    flipping_end c.args.self.now c.loop-slot.self c.mark_all.new.self c.args.what c.known.ensures c.known-2.ensures (subst (IsFlipping c.args.self.now c.loop-slot.self c.args.what) (e ∙ f) c.loop-slot.invariant) c.mark_all.ensures.same c.mark_all.ensures.marks
+    flipping_end c.args.self.now c.loop-slot.self c.mark_all.new.self c.args.what c.assert_invariant.ensures c.assert_invariant-2.ensures (subst (IsFlipping c.args.self.now c.loop-slot.self c.args.what) (e ∙ f) c.loop-slot.invariant) c.mark_all.ensures.unchanged c.mark_all.ensures.marks

@@ -16,8 +16,8 @@ overflow_add-result c =
     let d = debt_small (table_of c.self.inside) c.args.class k.table inside in
     omega arith
 
-pub returns-clause-small : goal.returns-clause-small
-returns-clause-small c =
+pub returns-clause-at_most : goal.returns-clause-at_most
+returns-clause-at_most c =
     let k = c.self.invariant in
     let inside = subst (λ (t : Table). c.args.class < 2 * slots_of t) (sym c.self.view_is) c.requires in
     let size = k.table.charges_size in

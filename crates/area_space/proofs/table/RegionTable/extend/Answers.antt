@@ -54,8 +54,8 @@ overflow_add-at c =
     let bounds = end_bounds (table_of c.self.inside) c.requires.end.0 c.args.at c.args.words c.self.invariant.table (subst (λ (t : Table). IsEnd t c.requires.end.0 c.args.at c.args.words) (sym c.self.view_is) c.requires.end.1) in
     omega arith
 
-pub insert_span-requires-clause-inside : goal.insert_span-requires-clause-inside
-insert_span-requires-clause-inside c =
+pub insert_span-requires-clause-in_range : goal.insert_span-requires-clause-in_range
+insert_span-requires-clause-in_range c =
     let bounds = end_bounds (table_of c.self.inside) c.requires.end.0 c.args.at c.args.words c.self.invariant.table (subst (λ (t : Table). IsEnd t c.requires.end.0 c.args.at c.args.words) (sym c.self.view_is) c.requires.end.1) in
     let pages = c.self.invariant.pages_is in
     omega arith

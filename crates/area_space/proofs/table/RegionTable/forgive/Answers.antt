@@ -15,7 +15,7 @@ invariant_of-self c =
     let inside = subst (λ (t : Table). c.args.slot < slots_of t) (sym c.self.view_is) c.requires in
     let size = k.debts_is.0 in
     let low = area_below t c.args.slot inside in
-    let owed : c.debt-owed.result ≡ debt t (stale c.args.slot) = c.debt-owed.ensures.debt ∙ ap (λ (u : Table). debt u (stale c.args.slot)) (sym c.self.view_is) in
+    let owed : c.debt-owed.result ≡ debt t (stale c.args.slot) = c.debt-owed.ensures.value ∙ ap (λ (u : Table). debt u (stale c.args.slot)) (sym c.self.view_is) in
     let f : c.index_mut.result.now ≡ slice_index c.self.inside.debts.items (c.args.slot / levels_of t) = c.index_mut.ensures.value ∙ get_or_default c.self.inside.debts.items (c.args.slot / levels_of t) c.index_mut.result.now 0 (omega arith) in
     rw (f, owed) (record {
       table = forgiven_is t c.args.slot k.table inside;
@@ -33,7 +33,7 @@ overflow_sub-index_mut c =
     let inside = subst (λ (t : Table). c.args.slot < slots_of t) (sym c.self.view_is) c.requires in
     let size = k.debts_is.0 in
     let low = area_below t c.args.slot inside in
-    let owed : c.debt-owed.result ≡ debt t (stale c.args.slot) = c.debt-owed.ensures.debt ∙ ap (λ (u : Table). debt u (stale c.args.slot)) (sym c.self.view_is) in
+    let owed : c.debt-owed.result ≡ debt t (stale c.args.slot) = c.debt-owed.ensures.value ∙ ap (λ (u : Table). debt u (stale c.args.slot)) (sym c.self.view_is) in
     let f : c.index_mut.result.now ≡ slice_index c.self.inside.debts.items (c.args.slot / levels_of t) = c.index_mut.ensures.value ∙ get_or_default c.self.inside.debts.items (c.args.slot / levels_of t) c.index_mut.result.now 0 (omega arith) in
     let in_account = class_in_account t (stale c.args.slot) c.self.inside.debts.items (omega arith) k.debts_is in
     let half : stale c.args.slot / 2 ≡ c.args.slot = omega arith in

@@ -3,7 +3,7 @@ use Rattle.area_space.proofs.Deciding.{odd_is_old}
 use Rattle.area_space.proofs.table.RegionTable.is_old.Goals as goal
 
 pub returns-in-Some : goal.returns-in-Some
-returns-in-Some c = odd_is_old c.args.self.now c.in-Some.class _ c.in-Some.ensures.owner c.in-Some.ensures.found
+returns-in-Some c = odd_is_old c.args.self.now c.in-Some.class _ c.in-Some.ensures.cases c.in-Some.ensures.found
 
 pub returns-in-None : goal.returns-in-None
-returns-in-None c = ((λ t. absurd (cc)), λ old. absurd (c.in-None.ensures.owner (stale old.0) old.1))
+returns-in-None c = ((λ t. absurd (cc)), λ old. absurd (c.in-None.ensures.cases (stale old.0) old.1))

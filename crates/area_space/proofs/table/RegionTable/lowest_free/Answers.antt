@@ -7,7 +7,7 @@ use Rattle.area_space.proofs.table.RegionTable.lowest_free.Goals as goal
 pub returns : goal.returns
 returns c =
     rw (← c.self.view_is) (let f = first_is_lowest c.self.inside.free (lists_of (table_of c.self.inside)) c.in-Some.region c.self.invariant.free_is (sym c.in-Some.ensures) in
-    record { inside = f.0; free = f.1; lowest = f.2 })
+    record { in_range = f.0; free = f.1; lowest = f.2 })
 
 pub unreachable-requires : goal.unreachable-requires
 unreachable-requires c =

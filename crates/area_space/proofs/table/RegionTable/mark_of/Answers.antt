@@ -6,7 +6,7 @@ pub returns-then-class-eq0 : goal.returns-then-class-eq0
 returns-then-class-eq0 c = record {
   alive = λ slot m. c.used.ensures.used;
   old = λ o. (let f = c.in-Some.ensures.found (stale o.0) o.1 in let e : c.in-Some.class ≡ stale o.0 = cc in let t = c.if-class-eq0.true in absurd (omega arith));
-  free = λ f. absurd (f c.in-Some.class c.in-Some.ensures.owner);
+  free = λ f. absurd (f c.in-Some.class c.in-Some.ensures.cases);
 }
 
 pub returns-else-class-eq0 : goal.returns-else-class-eq0
@@ -18,7 +18,7 @@ returns-else-class-eq0 c = record {
 
 pub returns-in-None : goal.returns-in-None
 returns-in-None c = record {
-  alive = λ slot m. absurd (c.in-None.ensures.owner (live slot) m);
+  alive = λ slot m. absurd (c.in-None.ensures.cases (live slot) m);
   old = λ o. refl;
   free = λ f. refl;
 }

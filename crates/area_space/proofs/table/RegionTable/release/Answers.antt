@@ -15,14 +15,14 @@ pub invariant_of-self : goal.invariant_of-self
 invariant_of-self c =
     let held = Contains-first (list_at c.self.inside.chains (2 * c.args.slot + 1)) c.in-Some.region (sym c.in-Some.ensures.first) in
     release_kept (table_of c.self.inside) c.remove.new.self c.self.inside.free c.insert.new.self c.args.slot c.in-Some.region c.self.inside.regions c.self.inside.areas c.self.inside.scan.count c.self.invariant c.insert.ensures
-    (subst (λ (t : Table). c.args.slot < slots_of t) (sym c.self.view_is) c.requires.inside)
-    (subst (λ (t : Table). debt t (stale c.args.slot) ≡ 0) (sym c.self.view_is) c.requires.forgiven)
-    (sym c.in-Some.ensures.first) (c.remove.ensures.removed (2 * c.args.slot + 1) held) c.remove.ensures.sound c.remove.ensures.free
+    (subst (λ (t : Table). c.args.slot < slots_of t) (sym c.self.view_is) c.requires.in_range)
+    (subst (λ (t : Table). debt t (stale c.args.slot) ≡ 0) (sym c.self.view_is) c.requires.empty)
+    (sym c.in-Some.ensures.first) (c.remove.ensures.after (2 * c.args.slot + 1) held) c.remove.ensures.sound c.remove.ensures.free
 
-pub returns-in-Some-clause-released : goal.returns-in-Some-clause-released
-returns-in-Some-clause-released c =
+pub returns-in-Some-clause-after : goal.returns-in-Some-clause-after
+returns-in-Some-clause-after c =
     let held = Contains-first (list_at c.self.inside.chains (2 * c.args.slot + 1)) c.in-Some.region (sym c.in-Some.ensures.first) in
-    let is = c.remove.ensures.removed (2 * c.args.slot + 1) held in
+    let is = c.remove.ensures.after (2 * c.args.slot + 1) held in
     rw (← c.self.view_is, is) refl
 
 pub returns-in-Some-clause-sound : goal.returns-in-Some-clause-sound

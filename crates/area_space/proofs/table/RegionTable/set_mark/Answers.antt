@@ -8,9 +8,9 @@ use Rattle.area_space.specs.Table.{Table}
 pub invariant_of-self : goal.invariant_of-self
 invariant_of-self c =
     let k = c.self.invariant in
-    let m = subst (λ (t : Table). IsFlipMark t c.args.region c.args.mark) (sym c.self.view_is) c.requires.mark in
+    let m = subst (λ (t : Table). IsFlipMark t c.args.region c.args.mark) (sym c.self.view_is) c.requires.marks in
     record {
-      table = marked_is (table_of c.self.inside) c.args.region c.args.mark k.table (subst (λ (t : Table). c.args.region < t.regions) (sym c.self.view_is) c.requires.inside) m.free;
+      table = marked_is (table_of c.self.inside) c.args.region c.args.mark k.table (subst (λ (t : Table). c.args.region < t.regions) (sym c.self.view_is) c.requires.in_range) m.free;
       regions_is = k.regions_is;
       areas_is = k.areas_is;
       pages_is = k.pages_is;

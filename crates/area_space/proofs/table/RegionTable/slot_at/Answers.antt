@@ -11,23 +11,23 @@ owner-requires c =
     let held = subst (λ (u : Table). Contains (chain u (live e.0)) c.args.region) (sym c.self.view_is) e.1 in
     c.self.invariant.table.sound.within (live e.0) c.args.region held
 
-pub returns-clause-slot : goal.returns-clause-slot
-returns-clause-slot c = λ slot m.
+pub returns-clause-value : goal.returns-clause-value
+returns-clause-value c = λ slot m.
     let held = subst (λ (u : Table). Contains (chain u (live slot)) c.args.region) (sym c.self.view_is) m in
     let f = c.owner.ensures.found (live slot) held in
     let e : c.in-Some.class ≡ live slot = cc in
     omega arith
 
-pub returns-clause-inside : goal.returns-clause-inside
-returns-clause-inside c =
+pub returns-clause-in_range : goal.returns-clause-in_range
+returns-clause-in_range c =
     let size = c.self.invariant.table.chains_size in
-    let low : c.in-Some.class < length c.self.inside.chains.lists = c.in-Some.ensures.list_in in
+    let low : c.in-Some.class < length c.self.inside.chains.lists = c.in-Some.ensures.in_range in
     rw (← c.self.view_is) (omega arith)
 
-pub returns-clause-few : goal.returns-clause-few
-returns-clause-few c =
+pub returns-clause-at_most : goal.returns-clause-at_most
+returns-clause-at_most c =
     let size = c.self.invariant.table.chains_size in
-    let low : c.in-Some.class < length c.self.inside.chains.lists = c.in-Some.ensures.list_in in
+    let low : c.in-Some.class < length c.self.inside.chains.lists = c.in-Some.ensures.in_range in
     let few = slots_few (table_of c.self.inside) c.self.invariant.table in
     omega arith
 

@@ -10,8 +10,8 @@ pub invariant_of-self : goal.invariant_of-self
 invariant_of-self c =
     let k = c.self.invariant in
     let t : Table = table_of c.self.inside in
-    let inside = (subst (λ (t : Table). c.args.class < 2 * slots_of t) (sym c.self.view_is) c.requires.inside) in
-    let enough = subst (λ (t : Table). c.args.amount ≤ slice_index t.charges c.args.class) (sym c.self.view_is) c.requires.enough in
+    let inside = (subst (λ (t : Table). c.args.class < 2 * slots_of t) (sym c.self.view_is) c.requires.in_range) in
+    let enough = subst (λ (t : Table). c.args.amount ≤ slice_index t.charges c.args.class) (sym c.self.view_is) c.requires.at_most in
     let size = k.table.charges_size in
     let sums = k.debts_is.0 in
     let low = area_below t (c.args.class / 2) (omega arith) in
@@ -30,8 +30,8 @@ pub overflow_sub-index_mut-2 : goal.overflow_sub-index_mut-2
 overflow_sub-index_mut-2 c =
     let k = c.self.invariant in
     let t : Table = table_of c.self.inside in
-    let inside = subst (λ (t : Table). c.args.class < 2 * slots_of t) (sym c.self.view_is) c.requires.inside in
-    let enough = subst (λ (t : Table). c.args.amount ≤ slice_index t.charges c.args.class) (sym c.self.view_is) c.requires.enough in
+    let inside = subst (λ (t : Table). c.args.class < 2 * slots_of t) (sym c.self.view_is) c.requires.in_range in
+    let enough = subst (λ (t : Table). c.args.amount ≤ slice_index t.charges c.args.class) (sym c.self.view_is) c.requires.at_most in
     let size = k.debts_is.0 in
     let low = area_below t (c.args.class / 2) (omega arith) in
     let f : c.index_mut-2.result.now ≡ slice_index c.self.inside.debts.items (c.args.class / 2 / levels_of t) = c.index_mut-2.ensures.value ∙ get_or_default c.self.inside.debts.items (c.args.class / 2 / levels_of t) c.index_mut-2.result.now 0 (omega arith) in
@@ -41,7 +41,7 @@ overflow_sub-index_mut-2 c =
 pub index_mut-requires-2 : goal.index_mut-requires-2
 index_mut-requires-2 c =
     let t : Table = table_of c.self.inside in
-    let inside = subst (λ (t : Table). c.args.class < 2 * slots_of t) (sym c.self.view_is) c.requires.inside in
+    let inside = subst (λ (t : Table). c.args.class < 2 * slots_of t) (sym c.self.view_is) c.requires.in_range in
     let size = c.self.invariant.debts_is.0 in
     let whole = c.self.inside.debts.ok.0 in
     let low = area_below t (c.args.class / 2) (omega arith) in

@@ -14,8 +14,8 @@ loop-area-preserved c =
     let f : ℕ → ℕ = λ a. debt c.args.self.now (live (slot_of c.args.self.now a c.args.level)) in
     let a = total-suc f c.loop-area.area in
     let b : total f (c.loop-area.area + 1) ≡ total f (suc c.loop-area.area) = ap (total f) (omega arith) in
-    let x : debt c.args.self.now (live c.slot-slot.result) ≡ f c.loop-area.area = ap (λ (k : ℕ). debt c.args.self.now (live k)) c.slot-slot.ensures.slot in
-    let y = c.debt-sum.ensures.debt in
+    let x : debt c.args.self.now (live c.slot-slot.result) ≡ f c.loop-area.area = ap (λ (k : ℕ). debt c.args.self.now (live k)) c.slot-slot.ensures.value in
+    let y = c.debt-sum.ensures.value in
     let before : c.loop-area.sum ≡ total f c.loop-area.area = c.loop-area.invariant.is in
     let after : c.loop-area.sum + c.debt-sum.result ≡ total f (c.loop-area.area + 1) = omega arith in
     record { is = after; small = omega arith }

@@ -6,5 +6,5 @@ use Rattle.band_disk.proofs.log.Log.note_restart.Goals as goal
 
 pub returns : goal.returns
 returns c =
-    noted_settled c.args.self.now _ Restart Restarted (λ _. refl) refl (λ _. refl) c.requires.log (omega (arith, c.requires.log.kept (omega (arith, c.requires.kept, c.args.self.now.entries.ok.0)))) (omega (arith, c.requires.log.few)) (omega arith)
+    noted_settled c.args.self.now _ Restart Restarted (λ _. refl) refl (λ _. refl) c.requires.sound (omega (arith, c.requires.sound.kept (omega (arith, c.requires.in_range, c.args.self.now.entries.ok.0)))) (omega (arith, c.requires.sound.few)) (omega arith)
     c.put.ensures.items c.put.ensures.capacity refl (omega arith) (omega arith) refl refl

@@ -6,5 +6,5 @@ use Rattle.band_disk.proofs.log.Log.note_sync.Goals as goal
 
 pub returns : goal.returns
 returns c =
-    noted_settled c.args.self.now _ Sync Synced (λ _. refl) refl (λ _. refl) c.requires.log (omega (arith, c.requires.log.noted)) (omega (arith, c.requires.places, c.requires.log.taken)) refl
+    noted_settled c.args.self.now _ Sync Synced (λ _. refl) refl (λ _. refl) c.requires.sound (omega (arith, c.requires.sound.noted)) (omega (arith, c.requires.places, c.requires.sound.taken)) refl
     c.put.ensures.items c.put.ensures.capacity refl (omega arith) (omega arith) refl refl

@@ -3,8 +3,8 @@ use Rattle.band_disk.proofs.Invariant.{kept_sync}
 use Rattle.band_disk.proofs.Laying.{within_more}
 use Rattle.band_disk.proofs.memory.BandMemory.make_durable.Goals as goal
 
-pub lay-requires-clause-within : goal.lay-requires-clause-within
-lay-requires-clause-within c = within_more c.self.inside.room _ _ _ c.self.invariant.2 c.self.invariant.0.within
+pub lay-requires-clause-in_range : goal.lay-requires-clause-in_range
+lay-requires-clause-in_range c = within_more c.self.inside.room _ _ _ c.self.invariant.2 c.self.invariant.0.within
 
 -- now what is read is durable
 pub invariant_of-self : goal.invariant_of-self

@@ -5,8 +5,8 @@ use Rattle.band_disk.proofs.Invariant.{kept_settled, left_is, lies_within, left_
 use Rattle.band_disk.proofs.Laying.{within_more}
 use Rattle.band_disk.proofs.memory.BandMemory.start_again.Goals as goal
 
-pub leave-requires-clause-within : goal.leave-requires-clause-within
-leave-requires-clause-within c = within_more c.self.inside.room _ _ _ c.self.invariant.2 c.self.invariant.0.within
+pub leave-requires-clause-in_range : goal.leave-requires-clause-in_range
+leave-requires-clause-in_range c = within_more c.self.inside.room _ _ _ c.self.invariant.2 c.self.invariant.0.within
 
 pub replace-requires : goal.replace-requires
 replace-requires c =
@@ -25,8 +25,8 @@ invariant_of-self-2 c =
       omega (arith, c.self.invariant.2, c.leave.ensures.capacity),
     )
 
-pub returns-then-is_synced-clause-within : goal.returns-then-is_synced-clause-within
-returns-then-is_synced-clause-within c = subst LiesWithin c.self.view_is (lies_within _ _ _ _ _ _ c.self.invariant.0)
+pub returns-then-is_synced-clause-in_range : goal.returns-then-is_synced-clause-in_range
+returns-then-is_synced-clause-in_range c = subst LiesWithin c.self.view_is (lies_within _ _ _ _ _ _ c.self.invariant.0)
 
-pub returns-clause-within : goal.returns-clause-within
-returns-clause-within c = subst LiesWithin c.self.view_is (lies_within _ _ _ _ _ _ c.self.invariant.0)
+pub returns-clause-in_range : goal.returns-clause-in_range
+returns-clause-in_range c = subst LiesWithin c.self.view_is (lies_within _ _ _ _ _ _ c.self.invariant.0)

@@ -13,7 +13,7 @@ invariant_of-self c =
     let same = kept.read ∙ ap disk_bytes counted in
     let room = ap (λ d. d.room) counted in (
       subst (λ b. LogInvariant c.note_write.new.self inside.start.items b inside.synced.items inside.room inside.tear) (sym c.overwrite.ensures.items)
-          (kept_write _ _ _ _ _ _ kept _ c.args.at c.args.piece.now c.note_write.ensures (omega (arith, c.requires.place, ap length same)) (omega (arith, c.requires.room, room))),
+          (kept_write _ _ _ _ _ _ kept _ c.args.at c.args.piece.now c.note_write.ensures (omega (arith, c.requires.at_most, ap length same)) (omega (arith, c.requires.room, room))),
       omega (arith, c.self.invariant.1, c.overwrite.ensures.capacity),
       c.self.invariant.2,
     )

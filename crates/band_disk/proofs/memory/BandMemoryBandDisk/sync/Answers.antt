@@ -4,4 +4,4 @@ use Rattle.band_disk.proofs.memory.BandMemoryBandDisk.sync.Goals as goal
 
 pub returns-clause-images : goal.returns-clause-images
 returns-clause-images c =
-    sync_images c.args.self.now c.make_durable.new.self (accepts c.args.self.now Synced) c.make_durable.ensures.within (call_went _ _ Synced c.make_durable.ensures.after)
+    sync_images c.args.self.now c.make_durable.new.self (accepts c.args.self.now Synced) c.make_durable.ensures.in_range (call_went _ _ Synced c.make_durable.ensures.after)

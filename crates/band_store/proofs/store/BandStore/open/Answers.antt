@@ -12,8 +12,8 @@ invariant_of-self-2 g c =
     (ap is_ordered read.2 ∙ ordered_index read.0, omega (arith, c.in-Ok.ensures.0, c.len.ensures, c.read_directory.new.bands.ok.0))
 
 -- a refusal has one cause
-pub returns-in_err-gate-clause-holds : goal.returns-in_err-gate-clause-holds
-returns-in_err-gate-clause-holds g c saves holds =
+pub returns-in_err-gate-clause-value : goal.returns-in_err-gate-clause-value
+returns-in_err-gate-clause-value g c saves holds =
     let bytes = g.D.BandDisk.bytes c.args.disk.now in
     held_answer bytes saves c.from_residual.result (search rules) (search rules) holds
 
@@ -35,8 +35,8 @@ returns-clause-opened g c =
       omega (arith, c.in-Ok.ensures.1, c.len.ensures, c.read_directory.new.bands.ok.0, ap length read.2, same_length _ _ _ (texts_stand read.0 _ read.1)),
     )
 
-pub returns-clause-ready : goal.returns-clause-ready
-returns-clause-ready g c saves holds =
+pub returns-clause-ok : goal.returns-clause-ok
+returns-clause-ok g c saves holds =
     let read = c.in_ok-gate.ensures.read in
     let reads = c.read_directory.ensures.reads in
     let same = holds_once _ read.0 saves read.1 holds in
@@ -45,8 +45,8 @@ returns-clause-ready g c saves holds =
       durable = λ image now. c.requires image (reads.fewer image now) ∙ sym reads.bytes_stay;
     }
 
-pub returns-clause-holds : goal.returns-clause-holds
-returns-clause-holds g c saves holds =
+pub returns-clause-value : goal.returns-clause-value
+returns-clause-value g c saves holds =
     let read = c.in_ok-gate.ensures.read in
     let count : c.in-Ok.count ≡ length (directory read.0) = omega (arith, c.in-Ok.ensures.1, c.len.ensures, c.read_directory.new.bands.ok.0, ap length read.2, same_length _ _ _ (texts_stand read.0 _ read.1)) in
     inl (ap (λ (n : ℕ). Ok n) (count ∙ ap (λ (l : List Save). length (directory l)) (holds_once _ read.0 saves read.1 holds)))

@@ -9,8 +9,8 @@ returns-then-self-page-clause-used c =
     let found = latest_found (list_at c.self.inside.chains 1) c.self.inside.pages.items c.args.page c.self.inside.latest_frame c.ranges.page.fits (rw c.if-self-page.true at c.self.invariant.1) in
     rw (← c.self.view_is) (listed_last _ (Some c.self.inside.latest_frame) (sym found.0))
 
-pub returns-then-self-page-clause-same : goal.returns-then-self-page-clause-same
-returns-then-self-page-clause-same c =
+pub returns-then-self-page-clause-unchanged : goal.returns-then-self-page-clause-unchanged
+returns-then-self-page-clause-unchanged c =
     let found = latest_found (list_at c.self.inside.chains 1) c.self.inside.pages.items c.args.page c.self.inside.latest_frame c.ranges.page.fits (rw c.if-self-page.true at c.self.invariant.1) in
     rw (← c.self.view_is) (with_latest-last _ _ (pool_sound _ _ _ _ c.self.invariant.0) (sym found.0))
 

@@ -11,7 +11,7 @@ push_back-requires-clause-free c = subst (λ (v : Chains). IsFree v c.loop-frame
 
 pub loop-frame-preserved : goal.loop-frame-preserved
 loop-frame-preserved c = record {
-  filled = c.push_back.ensures.pushed ∙ (ap (λ (v : Chains). with_list v 0 (list_at v 0 ++ c.loop-frame.frame ∷ [])) c.loop-frame.invariant.filled
+  filled = c.push_back.ensures.after ∙ (ap (λ (v : Chains). with_list v 0 (list_at v 0 ++ c.loop-frame.frame ∷ [])) c.loop-frame.invariant.filled
       ∙ ap (λ (xs : List ℕ). (let v : Chains = record { nodes = c.args.frames; lists = xs ∷ [] ∷ [] } in v)) (sym (range_more c.loop-frame.frame)));
   sound = c.push_back.ensures.sound;
 }

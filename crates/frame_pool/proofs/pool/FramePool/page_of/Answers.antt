@@ -8,7 +8,7 @@ pub returns-then-eq-clause-free : goal.returns-then-eq-clause-free
 returns-then-eq-clause-free c =
     let p = pool_sound _ _ _ _ c.self.invariant.0 in
     let P : Option ℕ → Type 0 = λ o. MatchOption o (IsFree c.self.inside.chains c.args.frame) (λ l. Contains (list_at c.self.inside.chains l) c.args.frame) in
-    let used = subst P (same_option _ _ c.if-eq.ensures) c.owner.ensures.owner in
+    let used = subst P (same_option _ _ c.if-eq.ensures) c.owner.ensures.cases in
     rw (← c.self.view_is) (λ free. absurd (p.apart c.args.frame free used))
 
 pub returns-then-eq-clause-sound : goal.returns-then-eq-clause-sound

@@ -5,8 +5,8 @@ use Rattle.index_lists.proofs.Callers.{list_at-with_list_same}
 use Rattle.frame_pool.proofs.Keeping.{pool_sound, touched_kept, with_latest-last, latest_last, latest-push}
 use Rattle.frame_pool.proofs.pool.FramePool.touch.Goals as goal
 
-pub returns-then-self-frame-clause-touched : goal.returns-then-self-frame-clause-touched
-returns-then-self-frame-clause-touched c =
+pub returns-then-self-frame-clause-after : goal.returns-then-self-frame-clause-after
+returns-then-self-frame-clause-after c =
     let m = rw (← c.self.view_is) at c.requires in
     let last = latest_last (list_at c.self.inside.chains 1) c.self.inside.pages.items c.self.inside.latest_page c.self.inside.latest_frame c.args.frame m c.self.invariant.1 in
     rw (← c.self.view_is) (sym (with_latest-last _ _ (pool_sound _ _ _ _ c.self.invariant.0) (ap (λ (n : ℕ). Some n) (sym c.if-self-frame.true) ∙ sym last)))
@@ -28,13 +28,13 @@ returns-clause-sound c =
     let m = rw (← c.self.view_is) at c.requires in
     pool_sound _ _ _ _ (touched_kept _ _ _ _ _ c.args.frame c.self.invariant.0 m (c.move_back.ensures.moved 1 m) c.move_back.ensures.sound)
 
-pub returns-then-self-frame-clause-inside : goal.returns-then-self-frame-clause-inside
-returns-then-self-frame-clause-inside c =
+pub returns-then-self-frame-clause-in_range : goal.returns-then-self-frame-clause-in_range
+returns-then-self-frame-clause-in_range c =
     let m = rw (← c.self.view_is) at c.requires in
     rw (← c.self.view_is) ((pool_sound _ _ _ _ c.self.invariant.0).used_in c.args.frame m)
 
-pub returns-clause-inside : goal.returns-clause-inside
-returns-clause-inside c =
+pub returns-clause-in_range : goal.returns-clause-in_range
+returns-clause-in_range c =
     let m = rw (← c.self.view_is) at c.requires in
     (pool_sound _ _ _ _ c.self.invariant.0).used_in c.args.frame m
 

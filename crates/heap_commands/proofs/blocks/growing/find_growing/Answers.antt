@@ -8,100 +8,100 @@ use Rattle.heap_commands.proofs.Grows.{fault_answered, finds_after, found_other,
 use Rattle.heap_commands.proofs.Referring.{register_meaning}
 use Rattle.heap_commands.proofs.Settling.{SettlesOne, settles_one}
 use Rattle.heap_commands.proofs.blocks.growing.find_growing.Given.{Over}
-use Rattle.heap_commands.proofs.blocks.growing.find_growing.Goals.{After-measure}
+use Rattle.heap_commands.proofs.blocks.growing.find_growing.Goals.{After-block_size}
 use Rattle.heap_commands.proofs.blocks.growing.find_growing.Goals as goal
 
 -- the register is settled
-one : (g : Over) (c : After-measure g) → SettlesOne (g.M.Memory.seen c.args.ground.now.mem) (g.M.Memory.seen c.settle_register.new.ground.mem) c.args.ground.now.table c.settle_register.new.ground.table c.args.registers.now c.settle_register.new.registers c.args.target c.in-Ok.word
+one : (g : Over) (c : After-block_size g) → SettlesOne (g.M.Memory.seen c.args.ground.now.mem) (g.M.Memory.seen c.settle_register.new.ground.mem) c.args.ground.now.table c.settle_register.new.ground.table c.args.registers.now c.settle_register.new.registers c.args.target c.in-Ok.word
 one g c =
     let x = c.in-Ok.ensures in
-    settles_one _ _ _ _ _ _ c.requires.consistent x.represented x.preserves x.others x.stays_fresh x.marks c.args.target c.in-Ok.word c.requires.target x.word x.fresh
+    settles_one _ _ _ _ _ _ c.requires.consistent x.represented x.preserves x.registers x.stays_fresh x.marks c.args.target c.in-Ok.word c.requires.target x.word x.fresh
 
 -- and its block is measured
-left : (g : Over) (c : After-measure g) → Leaves (g.M.Memory.seen c.args.ground.now.mem) c.args.ground.now.table c.args.registers.now (g.M.Memory.seen c.measure.new.ground.mem) c.measure.new.ground.table c.settle_register.new.registers
-left g c = leaves_still _ _ _ _ _ _ _ _ (one g c).leaves c.measure.ensures.looks.stays c.measure.ensures.looks.table
+left : (g : Over) (c : After-block_size g) → Leaves (g.M.Memory.seen c.args.ground.now.mem) c.args.ground.now.table c.args.registers.now (g.M.Memory.seen c.block_size.new.ground.mem) c.block_size.new.ground.table c.settle_register.new.registers
+left g c = leaves_still _ _ _ _ _ _ _ _ (one g c).leaves c.block_size.ensures.costs.stays c.block_size.ensures.costs.table
 
-pub measure-requires-clause-meaning : goal.measure-requires-clause-meaning
-measure-requires-clause-meaning g c =
+pub block_size-requires-clause-represented : goal.block_size-requires-clause-represented
+block_size-requires-clause-represented g c =
     let x = c.in-Ok.ensures in
-    let s = settles_one _ _ _ _ _ _ c.requires.consistent x.represented x.preserves x.others x.stays_fresh x.marks c.args.target c.in-Ok.word c.requires.target x.word x.fresh in
+    let s = settles_one _ _ _ _ _ _ c.requires.consistent x.represented x.preserves x.registers x.stays_fresh x.marks c.args.target c.in-Ok.word c.requires.target x.word x.fresh in
     register_meaning _ _ c.settle_register.new.registers c.args.target c.in-Ok.word s.read s.consistent (s.inside _ c.requires.target)
 
 pub returns-in_default-clause-finds : goal.returns-in_default-clause-finds
 returns-in_default-clause-finds g c =
     let one = c.settle_register.ensures in
-    fault_answered _ _ _ _ _ _ c.args.target c.args.wanted (record { represented = one.represented; preserves = one.preserves; others = one.others; stays_fresh = one.stays_fresh; marks = one.marks })
+    fault_answered _ _ _ _ _ _ c.args.target c.args.wanted (record { represented = one.represented; preserves = one.preserves; others = one.registers; stays_fresh = one.stays_fresh; marks = one.marks })
 
-pub returns-in-Ok-measure-clause-finds : goal.returns-in-Ok-measure-clause-finds
-returns-in-Ok-measure-clause-finds g c =
-    let s = one g (goal.at.returns-in-Ok-measure-clause-finds g c).After-measure in
-    let told = c.in-Ok-measure.ensures in
-    let charge : c.grown_length.result + 1 ≡ suc (grown_length c.in-Ok-measure.block.length c.args.wanted) = (let e = c.grown_length.ensures in omega arith) in
-    finds_after _ _ _ _ _ _ _ _ _ c.args.target c.args.wanted (Wants c.in-Ok-measure.block.area (c.grown_length.result + 1)) s.leaves
-    (found_wants _ _ _ _ c.settle_register.new.registers c.args.target c.args.wanted c.in-Ok.word s.read (s.inside _ c.requires.target) told.looks.stays told.looks.table (λ ne. let e = told.looks.not_a_block.1 ne in cc) c.in-Ok-measure.block.length told.length s.settled
-    c.in-Ok-measure.block.area _ told.area told.inside c.if-block-wanted.true charge)
+pub returns-in-Ok-block_size-clause-finds : goal.returns-in-Ok-block_size-clause-finds
+returns-in-Ok-block_size-clause-finds g c =
+    let s = one g (goal.at.returns-in-Ok-block_size-clause-finds g c).After-block_size in
+    let told = c.in-Ok-block_size.ensures in
+    let charge : c.grown_length.result + 1 ≡ suc (grown_length c.in-Ok-block_size.block.length c.args.wanted) = (let e = c.grown_length.ensures in omega arith) in
+    finds_after _ _ _ _ _ _ _ _ _ c.args.target c.args.wanted (Wants c.in-Ok-block_size.block.area (c.grown_length.result + 1)) s.leaves
+    (found_wants _ _ _ _ c.settle_register.new.registers c.args.target c.args.wanted c.in-Ok.word s.read (s.inside _ c.requires.target) told.costs.stays told.costs.table (λ ne. let e = told.costs.not_a_block.1 ne in cc) c.in-Ok-block_size.block.length told.size s.settled
+    c.in-Ok-block_size.block.area _ told.area told.in_range c.if-block-wanted.true charge)
 
 pub returns-in-Ok-2-clause-finds : goal.returns-in-Ok-2-clause-finds
 returns-in-Ok-2-clause-finds g c =
-    let s = one g (goal.at.returns-in-Ok-2-clause-finds g c).After-measure in
-    let told = c.in-Ok-measure.ensures in
+    let s = one g (goal.at.returns-in-Ok-2-clause-finds g c).After-block_size in
+    let told = c.in-Ok-block_size.ensures in
     finds_after _ _ _ _ _ _ _ _ _ c.args.target c.args.wanted (Answered R.Fine) s.leaves
-    (found_wide _ _ _ _ c.settle_register.new.registers c.args.target c.args.wanted c.in-Ok.word s.read (s.inside _ c.requires.target) told.looks.stays told.looks.table (λ ne. let e = told.looks.not_a_block.1 ne in cc) c.in-Ok-measure.block.length told.length s.settled c.if-block-wanted.false)
+    (found_wide _ _ _ _ c.settle_register.new.registers c.args.target c.args.wanted c.in-Ok.word s.read (s.inside _ c.requires.target) told.costs.stays told.costs.table (λ ne. let e = told.costs.not_a_block.1 ne in cc) c.in-Ok-block_size.block.length told.size s.settled c.if-block-wanted.false)
 
 pub returns-in-Err-NotABlock-clause-finds : goal.returns-in-Err-NotABlock-clause-finds
 returns-in-Err-NotABlock-clause-finds g c =
-    let s = one g (goal.at.returns-in-Err-NotABlock-clause-finds g c).After-measure in
-    let told = c.measure.ensures in
+    let s = one g (goal.at.returns-in-Err-NotABlock-clause-finds g c).After-block_size in
+    let told = c.block_size.ensures in
     finds_after _ _ _ _ _ _ _ _ _ c.args.target c.args.wanted (Answered R.WrongType) s.leaves
-    (found_other _ _ _ _ c.settle_register.new.registers c.args.target c.args.wanted c.in-Ok.word s.read (s.inside _ c.requires.target) told.looks.stays told.looks.table (told.looks.not_a_block.0 (c.in-Err-NotABlock.is ∙ ap Err c.in-Err-NotABlock.field-0-is)))
+    (found_other _ _ _ _ c.settle_register.new.registers c.args.target c.args.wanted c.in-Ok.word s.read (s.inside _ c.requires.target) told.costs.stays told.costs.table (told.costs.not_a_block.0 (c.in-Err-NotABlock.is ∙ ap Err c.in-Err-NotABlock.field-0-is)))
 
 pub returns-in-Err-Swap-clause-finds : goal.returns-in-Err-Swap-clause-finds
-returns-in-Err-Swap-clause-finds g c = fault_answered _ _ _ _ _ _ c.args.target c.args.wanted (left g (goal.at.returns-in-Err-Swap-clause-finds g c).After-measure)
+returns-in-Err-Swap-clause-finds g c = fault_answered _ _ _ _ _ _ c.args.target c.args.wanted (left g (goal.at.returns-in-Err-Swap-clause-finds g c).After-block_size)
 
-pub returns-in-Ok-measure-clause-represented : goal.returns-in-Ok-measure-clause-represented
-returns-in-Ok-measure-clause-represented g c = (left g (goal.at.returns-in-Ok-measure-clause-represented g c).After-measure).represented
+pub returns-in-Ok-block_size-clause-represented : goal.returns-in-Ok-block_size-clause-represented
+returns-in-Ok-block_size-clause-represented g c = (left g (goal.at.returns-in-Ok-block_size-clause-represented g c).After-block_size).represented
 
-pub returns-in-Ok-measure-clause-preserves : goal.returns-in-Ok-measure-clause-preserves
-returns-in-Ok-measure-clause-preserves g c = (left g (goal.at.returns-in-Ok-measure-clause-preserves g c).After-measure).preserves
+pub returns-in-Ok-block_size-clause-preserves : goal.returns-in-Ok-block_size-clause-preserves
+returns-in-Ok-block_size-clause-preserves g c = (left g (goal.at.returns-in-Ok-block_size-clause-preserves g c).After-block_size).preserves
 
-pub returns-in-Ok-measure-clause-stays_fresh : goal.returns-in-Ok-measure-clause-stays_fresh
-returns-in-Ok-measure-clause-stays_fresh g c = (left g (goal.at.returns-in-Ok-measure-clause-stays_fresh g c).After-measure).stays_fresh
+pub returns-in-Ok-block_size-clause-stays_fresh : goal.returns-in-Ok-block_size-clause-stays_fresh
+returns-in-Ok-block_size-clause-stays_fresh g c = (left g (goal.at.returns-in-Ok-block_size-clause-stays_fresh g c).After-block_size).stays_fresh
 
-pub returns-in-Ok-measure-clause-marks : goal.returns-in-Ok-measure-clause-marks
-returns-in-Ok-measure-clause-marks g c = (left g (goal.at.returns-in-Ok-measure-clause-marks g c).After-measure).marks
+pub returns-in-Ok-block_size-clause-marks : goal.returns-in-Ok-block_size-clause-marks
+returns-in-Ok-block_size-clause-marks g c = (left g (goal.at.returns-in-Ok-block_size-clause-marks g c).After-block_size).marks
 
 pub returns-in-Ok-2-clause-represented : goal.returns-in-Ok-2-clause-represented
-returns-in-Ok-2-clause-represented g c = (left g (goal.at.returns-in-Ok-2-clause-represented g c).After-measure).represented
+returns-in-Ok-2-clause-represented g c = (left g (goal.at.returns-in-Ok-2-clause-represented g c).After-block_size).represented
 
 pub returns-in-Ok-2-clause-preserves : goal.returns-in-Ok-2-clause-preserves
-returns-in-Ok-2-clause-preserves g c = (left g (goal.at.returns-in-Ok-2-clause-preserves g c).After-measure).preserves
+returns-in-Ok-2-clause-preserves g c = (left g (goal.at.returns-in-Ok-2-clause-preserves g c).After-block_size).preserves
 
 pub returns-in-Ok-2-clause-stays_fresh : goal.returns-in-Ok-2-clause-stays_fresh
-returns-in-Ok-2-clause-stays_fresh g c = (left g (goal.at.returns-in-Ok-2-clause-stays_fresh g c).After-measure).stays_fresh
+returns-in-Ok-2-clause-stays_fresh g c = (left g (goal.at.returns-in-Ok-2-clause-stays_fresh g c).After-block_size).stays_fresh
 
 pub returns-in-Ok-2-clause-marks : goal.returns-in-Ok-2-clause-marks
-returns-in-Ok-2-clause-marks g c = (left g (goal.at.returns-in-Ok-2-clause-marks g c).After-measure).marks
+returns-in-Ok-2-clause-marks g c = (left g (goal.at.returns-in-Ok-2-clause-marks g c).After-block_size).marks
 
 pub returns-in-Err-NotABlock-clause-represented : goal.returns-in-Err-NotABlock-clause-represented
-returns-in-Err-NotABlock-clause-represented g c = (left g (goal.at.returns-in-Err-NotABlock-clause-represented g c).After-measure).represented
+returns-in-Err-NotABlock-clause-represented g c = (left g (goal.at.returns-in-Err-NotABlock-clause-represented g c).After-block_size).represented
 
 pub returns-in-Err-NotABlock-clause-preserves : goal.returns-in-Err-NotABlock-clause-preserves
-returns-in-Err-NotABlock-clause-preserves g c = (left g (goal.at.returns-in-Err-NotABlock-clause-preserves g c).After-measure).preserves
+returns-in-Err-NotABlock-clause-preserves g c = (left g (goal.at.returns-in-Err-NotABlock-clause-preserves g c).After-block_size).preserves
 
 pub returns-in-Err-NotABlock-clause-stays_fresh : goal.returns-in-Err-NotABlock-clause-stays_fresh
-returns-in-Err-NotABlock-clause-stays_fresh g c = (left g (goal.at.returns-in-Err-NotABlock-clause-stays_fresh g c).After-measure).stays_fresh
+returns-in-Err-NotABlock-clause-stays_fresh g c = (left g (goal.at.returns-in-Err-NotABlock-clause-stays_fresh g c).After-block_size).stays_fresh
 
 pub returns-in-Err-NotABlock-clause-marks : goal.returns-in-Err-NotABlock-clause-marks
-returns-in-Err-NotABlock-clause-marks g c = (left g (goal.at.returns-in-Err-NotABlock-clause-marks g c).After-measure).marks
+returns-in-Err-NotABlock-clause-marks g c = (left g (goal.at.returns-in-Err-NotABlock-clause-marks g c).After-block_size).marks
 
 pub returns-in-Err-Swap-clause-represented : goal.returns-in-Err-Swap-clause-represented
-returns-in-Err-Swap-clause-represented g c = (left g (goal.at.returns-in-Err-Swap-clause-represented g c).After-measure).represented
+returns-in-Err-Swap-clause-represented g c = (left g (goal.at.returns-in-Err-Swap-clause-represented g c).After-block_size).represented
 
 pub returns-in-Err-Swap-clause-preserves : goal.returns-in-Err-Swap-clause-preserves
-returns-in-Err-Swap-clause-preserves g c = (left g (goal.at.returns-in-Err-Swap-clause-preserves g c).After-measure).preserves
+returns-in-Err-Swap-clause-preserves g c = (left g (goal.at.returns-in-Err-Swap-clause-preserves g c).After-block_size).preserves
 
 pub returns-in-Err-Swap-clause-stays_fresh : goal.returns-in-Err-Swap-clause-stays_fresh
-returns-in-Err-Swap-clause-stays_fresh g c = (left g (goal.at.returns-in-Err-Swap-clause-stays_fresh g c).After-measure).stays_fresh
+returns-in-Err-Swap-clause-stays_fresh g c = (left g (goal.at.returns-in-Err-Swap-clause-stays_fresh g c).After-block_size).stays_fresh
 
 pub returns-in-Err-Swap-clause-marks : goal.returns-in-Err-Swap-clause-marks
-returns-in-Err-Swap-clause-marks g c = (left g (goal.at.returns-in-Err-Swap-clause-marks g c).After-measure).marks
+returns-in-Err-Swap-clause-marks g c = (left g (goal.at.returns-in-Err-Swap-clause-marks g c).After-block_size).marks

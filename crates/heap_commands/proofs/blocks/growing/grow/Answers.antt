@@ -8,7 +8,7 @@ grow-requires-clause-can g c = can_grow _ _ c.args.registers.now c.args.target c
 pub returns-in-Ok-clause-performs : goal.returns-in-Ok-clause-performs
 returns-in-Ok-clause-performs g c =
     let grew = c.in-Ok.ensures in
-    grow_performs _ _ c.args.registers.now c.args.target c.args.wanted c.index-registers-target.result c.index-registers-target.is c.requires.target c.requires.settled _ _ _ (λ ne. let e = grew.not_a_block.1 ne in cc) grew.grown grew.within grew.preserves grew.stays_fresh grew.marks
+    grow_performs _ _ c.args.registers.now c.args.target c.args.wanted c.index-registers-target.result c.index-registers-target.is c.requires.target c.requires.settled _ _ _ (λ ne. let e = grew.refused.1 ne in cc) grew.grows grew.size grew.preserves grew.stays_fresh grew.marks
 
 pub returns-in-Err-Swap-clause-performs : goal.returns-in-Err-Swap-clause-performs
 returns-in-Err-Swap-clause-performs g c =
@@ -16,14 +16,14 @@ returns-in-Err-Swap-clause-performs g c =
     grow_faulted _ _ _ _ c.args.registers.now c.args.target c.args.wanted grew.preserves grew.stays_fresh grew.marks grew.fault
 
 pub unreachable-requires : goal.unreachable-requires
-unreachable-requires g c = is_struct _ _ c.args.registers.now c.args.target c.args.wanted c.index-registers-target.result c.index-registers-target.is c.requires.target c.requires.settled c.requires.can (c.grow.ensures.not_a_block.0 (c.in-Err-NotABlock.is ∙ ap Err c.in-Err-NotABlock.field-0-is))
+unreachable-requires g c = is_struct _ _ c.args.registers.now c.args.target c.args.wanted c.index-registers-target.result c.index-registers-target.is c.requires.target c.requires.settled c.requires.can (c.grow.ensures.refused.0 (c.in-Err-NotABlock.is ∙ ap Err c.in-Err-NotABlock.field-0-is))
 
 pub returns-in-Ok-clause-placed : goal.returns-in-Ok-clause-placed
 returns-in-Ok-clause-placed g c =
     let grew = c.in-Ok.ensures in
-    grow_places _ _ c.args.registers.now c.args.target c.args.wanted c.index-registers-target.result c.index-registers-target.is c.requires.target c.requires.settled _ _ _ (λ ne. let e = grew.not_a_block.1 ne in cc) grew.grown grew.within grew.preserves grew.stays_fresh grew.marks
+    grow_places _ _ c.args.registers.now c.args.target c.args.wanted c.index-registers-target.result c.index-registers-target.is c.requires.target c.requires.settled _ _ _ (λ ne. let e = grew.refused.1 ne in cc) grew.grows grew.size grew.preserves grew.stays_fresh grew.marks
 
 pub returns-in-Ok-clause-unmarked : goal.returns-in-Ok-clause-unmarked
 returns-in-Ok-clause-unmarked g c =
     let grew = c.in-Ok.ensures in
-    grow_marked _ _ c.args.registers.now c.args.target c.args.wanted c.index-registers-target.result c.index-registers-target.is c.requires.target c.requires.settled _ _ _ (λ ne. let e = grew.not_a_block.1 ne in cc) grew.grown grew.within grew.preserves grew.stays_fresh grew.marks grew.husk grew.placed grew.unmarked
+    grow_marked _ _ c.args.registers.now c.args.target c.args.wanted c.index-registers-target.result c.index-registers-target.is c.requires.target c.requires.settled _ _ _ (λ ne. let e = grew.refused.1 ne in cc) grew.grows grew.size grew.preserves grew.stays_fresh grew.marks grew.left grew.placed grew.unmarked

@@ -13,7 +13,7 @@ make_block-requires-clause-can g c = can_make _ _ c.args.registers.now c.args.ar
 pub returns-clause-performs : goal.returns-clause-performs
 returns-clause-performs g c =
     let new = c.in_ok-at.ensures in
-    make_performs _ _ _ _ c.args.registers.now c.args.to c.args.area c.args.level c.args.code c.args.length new.preserves new.stays_fresh new.marks c.in_ok-at.at c.struct_at.result (ap (λ (w : Parts). w.content) c.struct_at.ensures) c.requires.to c.requires.area c.requires.level c.requires.fits new.made new.placed c.known.ensures
+    make_performs _ _ _ _ c.args.registers.now c.args.to c.args.area c.args.level c.args.code c.args.length new.preserves new.stays_fresh new.marks c.in_ok-at.at c.struct_at.result (ap (λ (w : Parts). w.content) c.struct_at.ensures) c.requires.to c.requires.area c.requires.level c.requires.fits new.made new.placed c.assert_invariant.ensures
 
 pub returns-in_err-at-clause-performs : goal.returns-in_err-at-clause-performs
 returns-in_err-at-clause-performs g c =
@@ -21,8 +21,8 @@ returns-in_err-at-clause-performs g c =
     let new = c.in_err-at.ensures in
     rw p.1 (make_faulted _ _ _ _ c.args.registers.now c.args.to c.args.area c.args.level c.args.code c.args.length new.preserves new.stays_fresh new.marks new.fault)
 
-pub returns-clause-few : goal.returns-clause-few
-returns-clause-few g c =
+pub returns-clause-placed : goal.returns-clause-placed
+returns-clause-placed g c =
     let more = placed_more c.args.ground.now.table c.make_block.new.ground.table c.args.area c.args.level c.in_ok-at.at (c.args.length + 1) (c.args.length + 1) c.in_ok-at.ensures.placed in
     omega arith
 
@@ -30,5 +30,5 @@ pub returns-clause-unmarked : goal.returns-clause-unmarked
 returns-clause-unmarked g c =
     let new = c.in_ok-at.ensures in
     rw (get_or-set_same c.args.registers.now c.args.to c.struct_at.result null_word c.requires.to)
-    (block_marked (g.M.Memory.seen c.args.ground.now.mem) (g.M.Memory.seen c.make_block.new.ground.mem) c.args.ground.now.table c.make_block.new.ground.table c.args.area c.args.level c.args.code c.args.length c.in_ok-at.at c.struct_at.result c.known.ensures
+    (block_marked (g.M.Memory.seen c.args.ground.now.mem) (g.M.Memory.seen c.make_block.new.ground.mem) c.args.ground.now.table c.make_block.new.ground.table c.args.area c.args.level c.args.code c.args.length c.in_ok-at.at c.struct_at.result c.assert_invariant.ensures
     new.placed (ap (λ (w : Parts). w.content) c.struct_at.ensures) new.words new.unmarked)

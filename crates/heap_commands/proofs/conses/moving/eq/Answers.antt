@@ -10,29 +10,29 @@ use Rattle.heap_commands.proofs.conses.moving.eq.Goals as goal
 pub is_same-requires : goal.is_same-requires
 is_same-requires g c =
     let x = c.in_ok-settle_items.ensures in
-    let s = settles_two _ _ _ _ _ _ c.requires.consistent x.represented x.preserves x.others x.stays_fresh x.marks c.args.left c.args.right x.fresh in
+    let s = settles_two _ _ _ _ _ _ c.requires.consistent x.represented x.preserves x.registers x.stays_fresh x.marks c.args.left c.args.right x.fresh in
     comparable (g.M.Memory.seen c.settle_items.new.ground.mem) (g.M.Memory.seen c.settle_items.new.ground.mem) c.settle_items.new.ground.table c.settle_items.new.registers c.args.left c.args.right (s.inside _ c.requires.left) (s.inside _ c.requires.right) c.index-registers-left.result c.index-registers-right.result c.index-registers-left.is c.index-registers-right.is s.consistent
 
 pub returns-clause-performs : goal.returns-clause-performs
 returns-clause-performs g c =
     let x = c.in_ok-settle_items.ensures in
-    let s = settles_two _ _ _ _ _ _ c.requires.consistent x.represented x.preserves x.others x.stays_fresh x.marks c.args.left c.args.right x.fresh in
+    let s = settles_two _ _ _ _ _ _ c.requires.consistent x.represented x.preserves x.registers x.stays_fresh x.marks c.args.left c.args.right x.fresh in
     let told = c.in_ok-same.ensures in
     performs_after _ _ _ _ _ _ _ _ _ _ _ s.leaves
-    (compared_performs _ _ _ c.settle_items.new.registers c.args.left c.args.right (s.inside _ c.requires.left) (s.inside _ c.requires.right) c.index-registers-left.result c.index-registers-right.result c.index-registers-left.is c.index-registers-right.is c.in_ok-same.same _ told.value c.truth.ensures told.stays s.left_settled s.right_settled)
+    (compared_performs _ _ _ c.settle_items.new.registers c.args.left c.args.right (s.inside _ c.requires.left) (s.inside _ c.requires.right) c.index-registers-left.result c.index-registers-right.result c.index-registers-left.is c.index-registers-right.is c.in_ok-same.same _ told.value c.truth.ensures told.unchanged s.left_settled s.right_settled)
 
 pub returns-in_err-same-clause-performs : goal.returns-in_err-same-clause-performs
 returns-in_err-same-clause-performs g c =
     let x = c.in_ok-settle_items.ensures in
-    let s = settles_two _ _ _ _ _ _ c.requires.consistent x.represented x.preserves x.others x.stays_fresh x.marks c.args.left c.args.right x.fresh in
+    let s = settles_two _ _ _ _ _ _ c.requires.consistent x.represented x.preserves x.registers x.stays_fresh x.marks c.args.left c.args.right x.fresh in
     let p = err_from_is_err_and c.from_residual-in_err-same.result c.from_residual-in_err-same.ensures.1 in
     rw p.1 (performs_after _ _ _ _ _ _ _ _ _ _ _ s.leaves
-    (performs_fault _ _ _ _ c.settle_items.new.registers c.settle_items.new.registers _ refl (stays_leaves _ _ _ _ c.settle_items.new.registers refl c.in_err-same.ensures.stays)))
+    (performs_fault _ _ _ _ c.settle_items.new.registers c.settle_items.new.registers _ refl (stays_leaves _ _ _ _ c.settle_items.new.registers refl c.in_err-same.ensures.unchanged)))
 
 -- What moves
 
 pub returns-clause-moves : goal.returns-clause-moves
-returns-clause-moves g c = moves_read c.in_ok-settle_items.ensures.moves c.in_ok-same.ensures.stays refl
+returns-clause-moves g c = moves_read c.in_ok-settle_items.ensures.moves c.in_ok-same.ensures.unchanged refl
 
 pub returns-in_err-same-clause-moves : goal.returns-in_err-same-clause-moves
-returns-in_err-same-clause-moves g c = moves_read c.in_ok-settle_items.ensures.moves c.in_err-same.ensures.stays refl
+returns-in_err-same-clause-moves g c = moves_read c.in_ok-settle_items.ensures.moves c.in_err-same.ensures.unchanged refl

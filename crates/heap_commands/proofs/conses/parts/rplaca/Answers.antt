@@ -18,15 +18,15 @@ use Rattle.heap_commands.proofs.conses.parts.rplaca.Goals as goal
 pub set_car-requires : goal.set_car-requires
 set_car-requires g c =
     let x = c.in_ok-settle_items.ensures in
-    let s = settles_two _ _ _ _ _ _ c.requires.consistent x.represented x.preserves x.others x.stays_fresh x.marks c.args.target c.args.from x.fresh in
+    let s = settles_two _ _ _ _ _ _ c.requires.consistent x.represented x.preserves x.registers x.stays_fresh x.marks c.args.target c.args.from x.fresh in
     settable (g.M.Memory.seen c.settle_items.new.ground.mem) c.settle_items.new.ground.table c.settle_items.new.registers c.args.target c.args.from (s.inside _ c.requires.target) (s.inside _ c.requires.from) c.index-registers-target.result c.index-registers-from.result c.index-registers-target.is c.index-registers-from.is s.consistent s.left_settled s.right_settled
 
 pub returns-in-Ok-clause-performs : goal.returns-in-Ok-clause-performs
 returns-in-Ok-clause-performs g c =
     let x = c.in_ok-settle_items.ensures in
-    let s = settles_two _ _ _ _ _ _ c.requires.consistent x.represented x.preserves x.others x.stays_fresh x.marks c.args.target c.args.from x.fresh in
+    let s = settles_two _ _ _ _ _ _ c.requires.consistent x.represented x.preserves x.registers x.stays_fresh x.marks c.args.target c.args.from x.fresh in
     let got = c.set_car.ensures in
-    let list = λ (other : tag_of c.index-registers-target.result.content ≢ ListTag). (let e = got.not_a_cons.1 other in let is = c.in-Ok.is in absurd {A = ⊥} cc) in
+    let list = λ (other : tag_of c.index-registers-target.result.content ≢ ListTag). (let e = got.refused.1 other in let is = c.in-Ok.is in absurd {A = ⊥} cc) in
     performs_after _ _ _ _ _ _ _ _ _ _ _ s.leaves
     (stored_performs _ _ _ _ c.settle_items.new.registers _ (car_stores (g.M.Memory.seen c.settle_items.new.ground.mem) (g.M.Memory.seen c.set_car.new.ground.mem) c.settle_items.new.ground.table c.set_car.new.ground.table c.settle_items.new.registers c.args.target c.args.from (s.inside _ c.requires.target) (s.inside _ c.requires.from) c.index-registers-target.result c.index-registers-from.result c.index-registers-target.is c.index-registers-from.is list c.in-Ok.ensures.set) got.preserves got.stays_fresh
     (marks_car (g.M.Memory.seen c.settle_items.new.ground.mem) _ c.settle_items.new.ground.table _ c.settle_items.new.registers c.args.target (s.inside _ c.requires.target) c.index-registers-target.result c.index-registers-target.is s.consistent list c.index-registers-from.result c.in-Ok.ensures.written got.marks)
@@ -35,26 +35,26 @@ returns-in-Ok-clause-performs g c =
 pub returns-in-Err-NotACons-clause-performs : goal.returns-in-Err-NotACons-clause-performs
 returns-in-Err-NotACons-clause-performs g c =
     let x = c.in_ok-settle_items.ensures in
-    let s = settles_two _ _ _ _ _ _ c.requires.consistent x.represented x.preserves x.others x.stays_fresh x.marks c.args.target c.args.from x.fresh in
+    let s = settles_two _ _ _ _ _ _ c.requires.consistent x.represented x.preserves x.registers x.stays_fresh x.marks c.args.target c.args.from x.fresh in
     let got = c.set_car.ensures in
     performs_after _ _ _ _ _ _ _ _ _ _ _ s.leaves
     (performs_refused _ _ _ _ c.settle_items.new.registers c.settle_items.new.registers _
-    (no_cons _ (g.M.Memory.seen c.set_car.new.ground.mem) _ c.set_car.new.ground.table c.settle_items.new.registers c.args.target (s.inside _ c.requires.target) c.index-registers-target.result c.index-registers-target.is (λ s name car cdr. stored (graph_of s) name (B.Cons (value_at s.registers c.args.from) cdr)) (got.not_a_cons.0 (let is = c.in-Err-NotACons.is in let e = c.in-Err-NotACons.field-0-is in cc)))
-    (stays_leaves _ _ _ _ c.settle_items.new.registers got.table c.in-Err-NotACons.ensures.stays))
+    (no_cons _ (g.M.Memory.seen c.set_car.new.ground.mem) _ c.set_car.new.ground.table c.settle_items.new.registers c.args.target (s.inside _ c.requires.target) c.index-registers-target.result c.index-registers-target.is (λ s name car cdr. stored (graph_of s) name (B.Cons (value_at s.registers c.args.from) cdr)) (got.refused.0 (let is = c.in-Err-NotACons.is in let e = c.in-Err-NotACons.field-0-is in cc)))
+    (stays_leaves _ _ _ _ c.settle_items.new.registers got.table c.in-Err-NotACons.ensures.unchanged))
 
 pub returns-in-Err-Swap-clause-performs : goal.returns-in-Err-Swap-clause-performs
 returns-in-Err-Swap-clause-performs g c =
     let x = c.in_ok-settle_items.ensures in
-    let s = settles_two _ _ _ _ _ _ c.requires.consistent x.represented x.preserves x.others x.stays_fresh x.marks c.args.target c.args.from x.fresh in
+    let s = settles_two _ _ _ _ _ _ c.requires.consistent x.represented x.preserves x.registers x.stays_fresh x.marks c.args.target c.args.from x.fresh in
     let got = c.set_car.ensures in
     performs_after _ _ _ _ _ _ _ _ _ _ _ s.leaves
-    (performs_fault _ _ _ _ c.settle_items.new.registers c.settle_items.new.registers _ refl (stays_leaves _ _ _ _ c.settle_items.new.registers got.table c.in-Err-Swap.ensures.stays))
+    (performs_fault _ _ _ _ c.settle_items.new.registers c.settle_items.new.registers _ refl (stays_leaves _ _ _ _ c.settle_items.new.registers got.table c.in-Err-Swap.ensures.unchanged))
 
 pub returns-in_err-settle_items-clause-performs : goal.returns-in_err-settle_items-clause-performs
 returns-in_err-settle_items-clause-performs g c =
     let p = err_from_is_err_and c.from_residual.result c.from_residual.ensures.1 in
     let x = c.in_err-settle_items.ensures in
-    rw p.1 (performs_fault _ _ _ _ c.args.registers.now c.settle_items.new.registers _ refl (record { represented = x.represented; preserves = x.preserves; others = x.others; stays_fresh = x.stays_fresh; marks = x.marks }))
+    rw p.1 (performs_fault _ _ _ _ c.args.registers.now c.settle_items.new.registers _ refl (record { represented = x.represented; preserves = x.preserves; others = x.registers; stays_fresh = x.stays_fresh; marks = x.marks }))
 
 -- What moves
 

@@ -23,11 +23,11 @@ relink-requires c =
     let is = read ∙ at.owner in
     rw (c.deref_mut.ensures.value, is) record {
       room = omega (arith, at.list_in);
-      end_in = omega (arith, at.list_in);
-      last_in = last_in _ _ _ _ _ s.holds at.list_in;
-      node_in = omega (arith, at.node_in);
-      before_in = at.before_in;
-      after_in = at.after_in;
+      end = omega (arith, at.list_in);
+      last = last_in _ _ _ _ _ s.holds at.list_in;
+      in_range = omega (arith, at.node_in);
+      before = at.before_in;
+      after = at.after_in;
     }
 
 pub invariant_of-self : goal.invariant_of-self
@@ -51,7 +51,7 @@ returns c =
     record {
       moved = λ l m. (shows l m).is;
       listed = λ l m. (let here = at_from_contains _ _ _ l _ _ s.holds m in listed_after _ _ _ _ _ (omega (arith, here.list_in)) (shows l m).is);
-      nodes = same_nodes _ _ _ _ g.is;
-      lists = same_lists _ _ _ _ g.is;
+      unchanged = same_nodes _ _ _ _ g.is;
+      size = same_lists _ _ _ _ g.is;
       sound = g.sound;
     }

@@ -32,7 +32,7 @@ returns c =
     let read = rw c.deref-2.ensures.value at c.after-next.ensures in
     let is = rw (owner_is, read) at c.unless_end.ensures in
     record {
-      next = λ l m. rw is (next_seen _ _ _ l c.args.node _ s m).is;
+      value = λ l m. rw is (next_seen _ _ _ l c.args.node _ s m).is;
       none = λ l m. rw is (next_seen _ _ _ l c.args.node _ s m).none;
       listed = λ l m. rw is (next_seen _ _ _ l c.args.node _ s m).listed;
       sound = s.sound;

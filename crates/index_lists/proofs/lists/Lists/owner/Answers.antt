@@ -10,7 +10,7 @@ returns-then-list c =
     let s = seen _ _ _ _ c.self.view_is c.self.invariant in
     let read = rw c.deref.ensures.value at c.owner-list.ensures in
     let free = none_from_free _ _ _ _ _ s.holds (sym read ∙ c.if-list.true) in
-    record { owner = free; found = λ l m. absurd (free l m); list_in = tt; sound = s.sound }
+    record { cases = free; found = λ l m. absurd (free l m); in_range = tt; sound = s.sound }
 
 pub returns-else-list : goal.returns-else-list
 returns-else-list c =
@@ -20,8 +20,8 @@ returns-else-list c =
     let placed = s.holds.placed c.args.node (omega arith) (λ e. c.if-list.false (read ∙ e)) in
     let P : ℕ → Type 0 = λ l. Contains (list_at c.args.self.now l) c.args.node in
     record {
-      owner = subst P (sym read) (contains_from_has _ _ placed.1);
+      cases = subst P (sym read) (contains_from_has _ _ placed.1);
       found = λ l m. ap Some (read ∙ (at_from_contains _ _ _ l _ _ s.holds m).owner);
-      list_in = rw (read, s.holds.count) placed.0;
+      in_range = rw (read, s.holds.count) placed.0;
       sound = s.sound;
     }

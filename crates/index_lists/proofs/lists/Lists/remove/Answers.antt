@@ -9,7 +9,7 @@ detach-requires c =
     let s = seen _ _ _ _ c.self.view_is c.self.invariant in
     let at = at_from_contains _ _ _ _ _ _ s.holds c.requires.1 in
     let total = s.holds.total in
-    rw c.deref_mut.ensures.value record { node_in = omega arith; before_in = at.before_in; after_in = at.after_in }
+    rw c.deref_mut.ensures.value record { in_range = omega arith; before = at.before_in; after = at.after_in }
 
 pub invariant_of-self : goal.invariant_of-self
 invariant_of-self c =
@@ -24,10 +24,10 @@ returns c =
     let g = after_removal _ _ _ _ c.requires.0 _ _ s c.requires.1 did in
     rw (with_items_is c.self.inside.links c.detach.new.links (omega arith))
     record {
-      removed = λ l m. (after_removal _ _ _ _ l _ _ s m did).is;
-      node_in = (at_from_contains _ _ _ _ _ _ s.holds c.requires.1).node_in;
+      after = λ l m. (after_removal _ _ _ _ l _ _ s m did).is;
+      in_range = (at_from_contains _ _ _ _ _ _ s.holds c.requires.1).node_in;
       free = free_after _ _ _ _ s.sound c.requires.1 g.is;
-      nodes = same_nodes _ _ _ _ g.is;
-      lists = same_lists _ _ _ _ g.is;
+      unchanged = same_nodes _ _ _ _ g.is;
+      size = same_lists _ _ _ _ g.is;
       sound = g.sound;
     }

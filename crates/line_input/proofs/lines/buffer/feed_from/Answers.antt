@@ -6,4 +6,4 @@ pub returns-in-None : goal.returns-in-None
 returns-in-None c = no_feed_behind c.args.bytes.now c.args.from c.requires.none (rw (take_rest c.args.bytes.now c.args.from) at c.in-None.ensures)
 
 pub returns-in-Some : goal.returns-in-Some
-returns-in-Some c = feed_behind c.args.bytes.now c.args.from c.in-Some.at c.requires.within c.requires.none (rw (take_rest c.args.bytes.now c.args.from) at c.in-Some.ensures)
+returns-in-Some c = feed_behind c.args.bytes.now c.args.from c.in-Some.at c.requires.in_range c.requires.none (rw (take_rest c.args.bytes.now c.args.from) at c.in-Some.ensures)

@@ -12,7 +12,7 @@ returns-clause-given g c = (
   behind c.args.buffer.now c.take.new.into _ c.args.start c.args.end c.in_ok-count.count c.requires.order (search rules) c.in_ok-count.ensures.fits,
 )
 
-pub returns-in_err-count-clause-same : goal.returns-in_err-count-clause-same
-returns-in_err-count-clause-same g c =
+pub returns-in_err-count-clause-unchanged : goal.returns-in_err-count-clause-unchanged
+returns-in_err-count-clause-unchanged g c =
     let p = err_from_is_err_and c.from_residual.result c.from_residual.ensures.1 in
     rw p.1 (unchanged c.args.buffer.now c.take.new.into _ c.args.start c.args.end c.requires.order (search rules))

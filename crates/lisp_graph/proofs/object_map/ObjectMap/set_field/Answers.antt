@@ -11,7 +11,7 @@ unwrap-requires c = (found-numbered _ _ _ c.args.name no_object c.self.invariant
 pub write_field-requires : goal.write_field-requires
 write_field-requires c =
     let is = (found-numbered _ _ _ c.args.name no_object c.self.invariant c.self.view_is c.requires.name c.get_mut.ensures.value).1 c.unwrap.result c.unwrap.ensures in
-    rw is c.requires.index
+    rw is c.requires.in_range
 
 pub invariant_of-self : goal.invariant_of-self
 invariant_of-self c = (set_value-numbered _ _ c.args.name _ c.self.invariant (c.get_mut.follows.holds c.write_field.new.place).0).0

@@ -1,5 +1,5 @@
 use Rattle.lisp_heap.proofs.Looking.{ground_looked}
 use Rattle.lisp_heap.proofs.heap.Heap.ground.Goals as goal
 
-pub returns-clause-sizes : goal.returns-clause-sizes
-returns-clause-sizes g c = ground_looked (g.M.Memory.seen c.self.inside.ground.mem) _ _ _ _ _ _ _ c.self.invariant
+pub returns-clause-sound : goal.returns-clause-sound
+returns-clause-sound g c = ground_looked (g.M.Memory.seen c.self.inside.ground.mem) _ _ _ _ _ _ _ c.self.invariant

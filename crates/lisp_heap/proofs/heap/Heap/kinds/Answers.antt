@@ -1,7 +1,7 @@
 use Rattle.lisp_heap.proofs.heap.Heap.kinds.Goals as goal
 
-pub returns-clause-areas : goal.returns-clause-areas
-returns-clause-areas g c = rw (← c.self.view_is) c.kinds.ensures.areas
+pub returns-clause-size : goal.returns-clause-size
+returns-clause-size g c = rw (← c.self.view_is) c.kinds.ensures.size
 
-pub returns-clause-few : goal.returns-clause-few
-returns-clause-few g c = rw (← c.self.view_is) c.kinds.ensures.few
+pub returns-clause-at_most : goal.returns-clause-at_most
+returns-clause-at_most g c = rw (← c.self.view_is) c.kinds.ensures.at_most

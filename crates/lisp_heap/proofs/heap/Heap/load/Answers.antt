@@ -12,15 +12,15 @@ invariant_of-self g c =
     let x = c.load-loaded in
     rw (with_items_is c.self.inside.registers x.new.registers (x.auto.registers ∙ c.deref_mut.ensures.len))
     (sound_loaded (g.M.Memory.seen c.self.inside.ground.mem) _ _ _ _ _ _ _ c.args.world.now _ c.self.view_is c.requires.empty (g.M.Memory.seen x.new.ground.mem) _ x.new.registers _ _ _
-    c.known.ensures.1.marked (x.auto.registers ∙ ap length c.deref_mut.ensures.value) x.ensures.regions c.self.invariant x.ensures.some)
+    c.assert_invariant.ensures.1.marked (x.auto.registers ∙ ap length c.deref_mut.ensures.value) x.ensures.regions c.self.invariant x.ensures.some)
 
 pub returns-clause-stands : goal.returns-clause-stands
 returns-clause-stands g c =
     let x = c.load-loaded in
     rw (with_items_is c.self.inside.registers x.new.registers (x.auto.registers ∙ c.deref_mut.ensures.len))
-    (ok_then x.result x.ensures.represents
+    (ok_then x.result x.ensures.represented
     (stands_loaded (g.M.Memory.seen c.self.inside.ground.mem) _ _ _ _ _ _ _ c.args.world.now _ c.self.view_is c.requires.empty (g.M.Memory.seen x.new.ground.mem) _ x.new.registers _ _ _
-    c.known.ensures.1.marked (x.auto.registers ∙ ap length c.deref_mut.ensures.value) x.ensures.regions c.args.world.now refl refl))
+    c.assert_invariant.ensures.1.marked (x.auto.registers ∙ ap length c.deref_mut.ensures.value) x.ensures.regions c.args.world.now refl refl))
 
 pub returns-clause-groups : goal.returns-clause-groups
 returns-clause-groups g c =
@@ -28,11 +28,11 @@ returns-clause-groups g c =
     rw (with_items_is c.self.inside.registers x.new.registers (x.auto.registers ∙ c.deref_mut.ensures.len))
     (ok_then x.result x.ensures.groups
     (grouped_loaded (g.M.Memory.seen c.self.inside.ground.mem) _ _ _ _ _ _ _ c.args.world.now _ c.self.view_is c.requires.empty (g.M.Memory.seen x.new.ground.mem) _ x.new.registers _ _ _
-    c.known.ensures.1.marked (x.auto.registers ∙ ap length c.deref_mut.ensures.value) x.ensures.regions))
+    c.assert_invariant.ensures.1.marked (x.auto.registers ∙ ap length c.deref_mut.ensures.value) x.ensures.regions))
 
-pub returns-clause-world : goal.returns-clause-world
-returns-clause-world g c =
+pub returns-clause-unchanged : goal.returns-clause-unchanged
+returns-clause-unchanged g c =
     let x = c.load-loaded in
     rw (with_items_is c.self.inside.registers x.new.registers (x.auto.registers ∙ c.deref_mut.ensures.len), ← c.self.view_is)
     (world_loaded (g.M.Memory.seen c.self.inside.ground.mem) _ _ _ _ _ _ _ c.args.world.now _ c.self.view_is c.requires.empty (g.M.Memory.seen x.new.ground.mem) _ x.new.registers _ _ _
-    c.known.ensures.1.marked (x.auto.registers ∙ ap length c.deref_mut.ensures.value) x.ensures.regions x.ensures.some)
+    c.assert_invariant.ensures.1.marked (x.auto.registers ∙ ap length c.deref_mut.ensures.value) x.ensures.regions x.ensures.some)

@@ -2,56 +2,56 @@ use Rattle.std.proofs.Common.{ℕ, ◌+◌, ◌<◌, length, Some, refl, ap, sub
 use Rattle.std.specs.Vec.{with_items}
 use Rattle.lisp_graph.specs.declared.command.Command.TheVariants as C
 use Rattle.heap_state.specs.Reads.{reply_of}
-use Rattle.lisp_heap.specs.Contents.{Contents, contents_at}
+use Rattle.lisp_heap.specs.HeapView.{HeapView, contents_at}
 use Rattle.lisp_heap.specs.Stands.{IsSound}
 use Rattle.lisp_heap.proofs.Admitting.{Allocated, allocated_lent, allocated_none, allocated_parts}
 use Rattle.lisp_heap.proofs.Allocating.{one_more}
 use Rattle.lisp_heap.proofs.Telling.{cost_of, made_sure}
 use Rattle.lisp_heap.proofs.heap.Heap.make.Given.{Over}
-use Rattle.lisp_heap.proofs.heap.Heap.make.Goals.{After-as_mut_slice-registers, After-replied, In-Err}
+use Rattle.lisp_heap.proofs.heap.Heap.make.Goals.{After-as_mut_slice-registers, After-finish_reply, In-Err}
 use Rattle.lisp_heap.proofs.heap.Heap.make.Goals as goal
 
 -- the words that are lent
 lent : (g : Over) (c : After-as_mut_slice-registers g) → IsSound (contents_at c.self.inside.ground c.self.inside.scan c.as_mut_slice-registers.result.now c.self.inside.space) × (c.args.area < length c.self.inside.ground.table.kinds)
-lent g c = (rw (c.as_mut_slice-registers.ensures.value) c.self.invariant, subst (λ (h : Contents). c.args.area < length h.table.kinds) (sym c.self.view_is) c.requires.area)
+lent g c = (rw (c.as_mut_slice-registers.ensures.value) c.self.invariant, subst (λ (h : HeapView). c.args.area < length h.table.kinds) (sym c.self.view_is) c.requires.area)
 
-pub admitted-requires : goal.admitted-requires
-admitted-requires g c = let fits = lent g (goal.at.admitted-requires g c).After-as_mut_slice-registers in record { sound = fits.0; area = fits.1 }
+pub admit_allocation-requires : goal.admit_allocation-requires
+admit_allocation-requires g c = let fits = lent g (goal.at.admit_allocation-requires g c).After-as_mut_slice-registers in record { sound = fits.0; area = fits.1 }
 
 -- it was made
-made : (g : Over) (c : After-replied g) → Allocated (contents_at c.self.inside.ground c.self.inside.scan c.self.inside.registers.items c.self.inside.space)
-    (contents_at c.make-answer.new.ground c.admitted.new.scan (with_items c.self.inside.registers c.make-answer.new.registers).items c.self.inside.space)
+made : (g : Over) (c : After-finish_reply g) → Allocated (contents_at c.self.inside.ground c.self.inside.scan c.self.inside.registers.items c.self.inside.space)
+    (contents_at c.make-answer.new.ground c.admit_allocation.new.scan (with_items c.self.inside.registers c.make-answer.new.registers).items c.self.inside.space)
     c.args.steps.now c.make-answer.new.steps (c.args.count + 1) (c.args.count + 1) 0 c.args.to (C.Make c.args.to c.args.area c.args.code c.args.count) (reply_of c.make-answer.result)
 made g c =
-    let fits = lent g (goal.at.After-replied g c).After-as_mut_slice-registers in
+    let fits = lent g (goal.at.After-finish_reply g c).After-as_mut_slice-registers in
     let words = c.as_mut_slice-registers.ensures in
     let x = c.in-Ok.ensures in
     let y = c.make-answer.ensures in
     allocated_lent c.self.inside.ground c.make-answer.new.ground c.self.inside.registers words.value words.len c.args.to
-    (allocated_parts c.self.inside.ground c.admitted.new.ground x.admits c.make-answer.new.ground c.make-answer.new.registers c.make-answer.new.steps (c.args.count + 1) 0 (c.args.count + 10) c.args.to (C.Make c.args.to c.args.area c.args.code c.args.count) (reply_of c.make-answer.result)
-    fits.0 fits.1 refl tt (λ s. record { effect_of = _; is = refl; wanted = ap (λ (n : ℕ). Some (record { area = c.args.area; charge = n })) (one_more c.args.count) }) (λ s e is. cc) x.step c.replied.ensures.marks y.performs y.tells
-    (λ sure. let few = cost_of c.make-answer.result y.few sure in omega arith) (λ _. let cost = y.cost in omega arith) (omega arith)
+    (allocated_parts c.self.inside.ground c.admit_allocation.new.ground x.ok c.make-answer.new.ground c.make-answer.new.registers c.make-answer.new.steps (c.args.count + 1) 0 (c.args.count + 10) c.args.to (C.Make c.args.to c.args.area c.args.code c.args.count) (reply_of c.make-answer.result)
+    fits.0 fits.1 refl tt (λ s. record { effect_of = _; is = refl; wanted = ap (λ (n : ℕ). Some (record { area = c.args.area; charge = n })) (one_more c.args.count) }) (λ s e is. cc) x.step c.finish_reply.ensures.marks y.performs y.accounted
+    (λ sure. let few = cost_of c.make-answer.result y.placed sure in omega arith) (λ _. let cost = y.cost in omega arith) (omega arith)
     (λ fine. cost_of c.make-answer.result y.unmarked (made_sure c.make-answer.result fine)))
 
 pub invariant_of-self : goal.invariant_of-self
-invariant_of-self g c = (made g (goal.at.invariant_of-self g c).After-replied).sound
+invariant_of-self g c = (made g (goal.at.invariant_of-self g c).After-finish_reply).sound
 
 pub returns-in-Ok-clause-runs : goal.returns-in-Ok-clause-runs
-returns-in-Ok-clause-runs g c = rw (c.replied.ensures.is, ← c.self.view_is) (made g (goal.at.returns-in-Ok-clause-runs g c).After-replied).runs
+returns-in-Ok-clause-runs g c = rw (c.finish_reply.ensures.value, ← c.self.view_is) (made g (goal.at.returns-in-Ok-clause-runs g c).After-finish_reply).runs
 
-pub returns-in-Ok-clause-makes : goal.returns-in-Ok-clause-makes
-returns-in-Ok-clause-makes g c = rw (c.replied.ensures.is, ← c.self.view_is) (made g (goal.at.returns-in-Ok-clause-makes g c).After-replied).makes
+pub returns-in-Ok-clause-costs : goal.returns-in-Ok-clause-costs
+returns-in-Ok-clause-costs g c = rw (c.finish_reply.ensures.value, ← c.self.view_is) (made g (goal.at.returns-in-Ok-clause-costs g c).After-finish_reply).makes
 
 pub returns-in-Ok-clause-order : goal.returns-in-Ok-clause-order
-returns-in-Ok-clause-order g c = rw (c.replied.ensures.is, ← c.self.view_is) (made g (goal.at.returns-in-Ok-clause-order g c).After-replied).order
+returns-in-Ok-clause-order g c = rw (c.finish_reply.ensures.value, ← c.self.view_is) (made g (goal.at.returns-in-Ok-clause-order g c).After-finish_reply).order
 
 -- it was refused
 refused : (g : Over) (c : In-Err g) → Allocated (contents_at c.self.inside.ground c.self.inside.scan c.self.inside.registers.items c.self.inside.space)
-    (contents_at c.admitted.new.ground c.admitted.new.scan (with_items c.self.inside.registers c.admitted.new.registers).items c.self.inside.space) c.args.steps.now c.admitted.new.steps (c.args.count + 1) (c.args.count + 1) 0 c.args.to (C.Make c.args.to c.args.area c.args.code c.args.count) c.in-Err.reply
+    (contents_at c.admit_allocation.new.ground c.admit_allocation.new.scan (with_items c.self.inside.registers c.admit_allocation.new.registers).items c.self.inside.space) c.args.steps.now c.admit_allocation.new.steps (c.args.count + 1) (c.args.count + 1) 0 c.args.to (C.Make c.args.to c.args.area c.args.code c.args.count) c.in-Err.reply
 refused g c =
     let words = c.as_mut_slice-registers.ensures in
-    allocated_lent c.self.inside.ground c.admitted.new.ground c.self.inside.registers words.value words.len c.args.to
-    (allocated_none (c.in-Err.ensures.refuses (C.Make c.args.to c.args.area c.args.code c.args.count) refl tt refl (λ s. record { effect_of = _; is = refl; wanted = ap (λ (n : ℕ). Some (record { area = c.args.area; charge = n })) (one_more c.args.count) })))
+    allocated_lent c.self.inside.ground c.admit_allocation.new.ground c.self.inside.registers words.value words.len c.args.to
+    (allocated_none (c.in-Err.ensures.err (C.Make c.args.to c.args.area c.args.code c.args.count) refl tt refl (λ s. record { effect_of = _; is = refl; wanted = ap (λ (n : ℕ). Some (record { area = c.args.area; charge = n })) (one_more c.args.count) })))
 
 pub invariant_of-self-in-Err : goal.invariant_of-self-in-Err
 invariant_of-self-in-Err g c = (refused g (goal.at.invariant_of-self-in-Err g c).In-Err).sound
@@ -59,14 +59,14 @@ invariant_of-self-in-Err g c = (refused g (goal.at.invariant_of-self-in-Err g c)
 pub returns-in-Err-clause-runs : goal.returns-in-Err-clause-runs
 returns-in-Err-clause-runs g c = rw (← c.self.view_is) (refused g (goal.at.returns-in-Err-clause-runs g c).In-Err).runs
 
-pub returns-in-Err-clause-makes : goal.returns-in-Err-clause-makes
-returns-in-Err-clause-makes g c = rw (← c.self.view_is) (refused g (goal.at.returns-in-Err-clause-makes g c).In-Err).makes
+pub returns-in-Err-clause-costs : goal.returns-in-Err-clause-costs
+returns-in-Err-clause-costs g c = rw (← c.self.view_is) (refused g (goal.at.returns-in-Err-clause-costs g c).In-Err).makes
 
 pub returns-in-Err-clause-order : goal.returns-in-Err-clause-order
 returns-in-Err-clause-order g c = rw (← c.self.view_is) (refused g (goal.at.returns-in-Err-clause-order g c).In-Err).order
 
 pub returns-in-Ok-clause-unmarked : goal.returns-in-Ok-clause-unmarked
-returns-in-Ok-clause-unmarked g c = rw (c.replied.ensures.is, ← c.self.view_is) (made g (goal.at.returns-in-Ok-clause-unmarked g c).After-replied).unmarked
+returns-in-Ok-clause-unmarked g c = rw (c.finish_reply.ensures.value, ← c.self.view_is) (made g (goal.at.returns-in-Ok-clause-unmarked g c).After-finish_reply).unmarked
 
 pub returns-in-Err-clause-unmarked : goal.returns-in-Err-clause-unmarked
 returns-in-Err-clause-unmarked g c = rw (← c.self.view_is) (refused g (goal.at.returns-in-Err-clause-unmarked g c).In-Err).unmarked

@@ -2,7 +2,7 @@ use Rattle.std.proofs.Common.{◌≡◌, ◌≢◌, ◌∙◌, None, refl, sym, 
 use Rattle.std.specs.Vec.{with_items}
 use Rattle.std.proofs.lemmas.List.{with_items_is}
 use Rattle.lisp_graph.specs.declared.command.Command.TheVariants as C
-use Rattle.lisp_heap.specs.Contents.{Contents, contents_at}
+use Rattle.lisp_heap.specs.HeapView.{HeapView, contents_at}
 use Rattle.lisp_heap.specs.Stands.{IsSound, Runs}
 use Rattle.lisp_heap.proofs.Listed.{standing}
 use Rattle.lisp_heap.proofs.Marked.{pages_marked}
@@ -12,65 +12,65 @@ use Rattle.lisp_heap.proofs.Telling.{told_by}
 use Rattle.lisp_heap.proofs.Transporting.{most_listed}
 use Rattle.lisp_heap.proofs.Units.{nothing_left, scanned_some, unfinished}
 use Rattle.lisp_heap.proofs.heap.Heap.scavenge.Given.{Over}
-use Rattle.lisp_heap.proofs.heap.Heap.scavenge.Goals.{After-known}
+use Rattle.lisp_heap.proofs.heap.Heap.scavenge.Goals.{After-assert_invariant}
 use Rattle.lisp_heap.proofs.heap.Heap.scavenge.Goals as goal
 
 -- the heap before, and after
-abbrev old : (g : Over) → After-known g → Contents
+abbrev old : (g : Over) → After-assert_invariant g → HeapView
 old g c = contents_at c.self.inside.ground c.self.inside.scan c.self.inside.registers.items c.self.inside.space
 
-abbrev new : (g : Over) → After-known g → Contents
+abbrev new : (g : Over) → After-assert_invariant g → HeapView
 new g c = contents_at c.scavenge-reply.new.ground c.scavenge-reply.new.scan c.scavenge-reply.new.registers c.self.inside.space
 
 -- the vector has the registers
-same : (g : Over) (c : After-known g) → (with_items c.self.inside.registers c.scavenge-reply.new.registers).items ≡ c.scavenge-reply.new.registers
+same : (g : Over) (c : After-assert_invariant g) → (with_items c.self.inside.registers c.scavenge-reply.new.registers).items ≡ c.scavenge-reply.new.registers
 same g c = with_items_is c.self.inside.registers c.scavenge-reply.new.registers (c.scavenge-reply.ensures.registers.count ∙ c.deref_mut.ensures.len)
 
-ran : (g : Over) (c : After-known g) → IsSound (new g c) × Runs (old g c) (new g c) c.args.steps.now c.scavenge-reply.new.steps (C.Scavenge c.args.count) c.scavenge-reply.result
+ran : (g : Over) (c : After-assert_invariant g) → IsSound (new g c) × Runs (old g c) (new g c) c.args.steps.now c.scavenge-reply.new.steps (C.Scavenge c.args.count) c.scavenge-reply.result
 ran g c =
     let x = c.scavenge-reply.ensures in
     step_runs (g.M.Memory.seen c.self.inside.ground.mem) (g.M.Memory.seen c.scavenge-reply.new.ground.mem) c.self.inside.ground.table c.scavenge-reply.new.ground.table c.self.inside.scan c.scavenge-reply.new.scan c.self.inside.registers.items c.scavenge-reply.new.registers
     c.self.inside.space _ _ _ _ _ _ c.args.steps.now c.scavenge-reply.new.steps (C.Scavenge c.args.count) c.scavenge-reply.result
-    c.self.invariant c.known.ensures.1.marked tt refl (λ k s b is. x.step k s (rw (c.deref_mut.ensures.value) b)) (x.registers.count ∙ ap length c.deref_mut.ensures.value) x.table.form.regions
-    (told_by (old g c) (new g c) c.args.steps.now c.scavenge-reply.new.steps (C.Scavenge c.args.count) c.scavenge-reply.result x.tells) (λ e. (x.on.some, x.grows)) (λ done i is. absurd (cc (is)))
-    (pages_marked (g.M.Memory.seen c.self.inside.ground.mem) (g.M.Memory.seen c.scavenge-reply.new.ground.mem) c.self.inside.ground.table c.scavenge-reply.new.ground.table (C.Scavenge c.args.count) c.scavenge-reply.result x.table x.on.marks) (λ none. absurd (cc (none)))
+    c.self.invariant c.assert_invariant.ensures.1.marked tt refl (λ k s b is. x.step k s (rw (c.deref_mut.ensures.value) b)) (x.registers.count ∙ ap length c.deref_mut.ensures.value) x.table.form.regions
+    (told_by (old g c) (new g c) c.args.steps.now c.scavenge-reply.new.steps (C.Scavenge c.args.count) c.scavenge-reply.result x.accounted) (λ e. (x.goes_on.some, x.grows)) (λ done i is. absurd (cc (is)))
+    (pages_marked (g.M.Memory.seen c.self.inside.ground.mem) (g.M.Memory.seen c.scavenge-reply.new.ground.mem) c.self.inside.ground.table c.scavenge-reply.new.ground.table (C.Scavenge c.args.count) c.scavenge-reply.result x.table x.goes_on.marks) (λ none. absurd (cc (none)))
 
 pub scavenge-reply-requires : goal.scavenge-reply-requires
-scavenge-reply-requires g c = record { standing = rw (c.deref_mut.ensures.value) (standing (g.M.Memory.seen c.self.inside.ground.mem) _ _ _ _ _ _ _ c.self.invariant) }
+scavenge-reply-requires g c = record { represented = rw (c.deref_mut.ensures.value) (standing (g.M.Memory.seen c.self.inside.ground.mem) _ _ _ _ _ _ _ c.self.invariant) }
 
 pub invariant_of-self : goal.invariant_of-self
-invariant_of-self g c = let at = (goal.at.invariant_of-self g c).After-known in rw (same g at) (ran g at).0
+invariant_of-self g c = let at = (goal.at.invariant_of-self g c).After-assert_invariant in rw (same g at) (ran g at).0
 
 pub returns-clause-runs : goal.returns-clause-runs
-returns-clause-runs g c = let at = (goal.at.returns-clause-runs g c).After-known in rw (same g at, ← c.self.view_is) (ran g at).1
+returns-clause-runs g c = let at = (goal.at.returns-clause-runs g c).After-assert_invariant in rw (same g at, ← c.self.view_is) (ran g at).1
 
 pub returns-clause-scans : goal.returns-clause-scans
 returns-clause-scans g c sure =
-    let at = (goal.at.returns-clause-scans g c).After-known in
+    let at = (goal.at.returns-clause-scans g c).After-assert_invariant in
     let x = c.scavenge-reply.ensures in
-    rw (same g at, ← c.self.view_is) (scanned_some (old g at) (new g at) c.self.invariant (ran g at).0 (x.begun sure) x.on.over c.args.count x.on.some (x.amount sure))
+    rw (same g at, ← c.self.view_is) (scanned_some (old g at) (new g at) c.self.invariant (ran g at).0 (x.unchanged sure) x.goes_on.over c.args.count x.goes_on.some (x.count sure))
 
 pub returns-clause-order : goal.returns-clause-order
 returns-clause-order g c sure running =
-    let at = (goal.at.returns-clause-order g c).After-known in
+    let at = (goal.at.returns-clause-order g c).After-assert_invariant in
     let x = c.scavenge-reply.ensures in
-    rw (same g at, ← c.self.view_is, ← c.deref_mut.ensures.value) (up_to_listed (x.scans sure (subst (λ (h : Contents). h.table.aim ≢ None) (sym c.self.view_is) running)))
+    rw (same g at, ← c.self.view_is, ← c.deref_mut.ensures.value) (up_to_listed (x.scans sure (subst (λ (h : HeapView). h.table.aim ≢ None) (sym c.self.view_is) running)))
 
-pub returns-clause-more : goal.returns-clause-more
-returns-clause-more g c more =
-    let at = (goal.at.returns-clause-more g c).After-known in
-    rw (same g at) (unfinished (new g at) (ran g at).0 (c.scavenge-reply.ensures.more more))
+pub returns-clause-going : goal.returns-clause-going
+returns-clause-going g c more =
+    let at = (goal.at.returns-clause-going g c).After-assert_invariant in
+    rw (same g at) (unfinished (new g at) (ran g at).0 (c.scavenge-reply.ensures.going more))
 
 pub returns-clause-done : goal.returns-clause-done
 returns-clause-done g c done =
-    let at = (goal.at.returns-clause-done g c).After-known in
+    let at = (goal.at.returns-clause-done g c).After-assert_invariant in
     rw (same g at) (nothing_left (new g at) (ran g at).0 (c.scavenge-reply.ensures.done done))
 
 pub returns-clause-units : goal.returns-clause-units
-returns-clause-units g c = rw (same g (goal.at.returns-clause-units g c).After-known, ← c.self.view_is, ← c.deref_mut.ensures.value) c.scavenge-reply.ensures.on.units
+returns-clause-units g c = rw (same g (goal.at.returns-clause-units g c).After-assert_invariant, ← c.self.view_is, ← c.deref_mut.ensures.value) c.scavenge-reply.ensures.goes_on.units
 
 pub returns-clause-placed : goal.returns-clause-placed
 returns-clause-placed g c = rw (← c.self.view_is) c.scavenge-reply.ensures.placed
 
 pub returns-clause-moves : goal.returns-clause-moves
-returns-clause-moves g c = rw (← c.self.view_is) (most_listed c.scavenge-reply.ensures.on.moves)
+returns-clause-moves g c = rw (← c.self.view_is) (most_listed c.scavenge-reply.ensures.goes_on.moves)

@@ -1,4 +1,4 @@
 use Rattle.lisp_heap.proofs.heap.Heap.space.Goals as goal
 
-pub returns-clause-sizes : goal.returns-clause-sizes
-returns-clause-sizes g c = rw (← c.self.view_is) c.self.invariant.sizes
+pub returns-clause-sound : goal.returns-clause-sound
+returns-clause-sound g c = rw (← c.self.view_is) c.self.invariant.sizes

@@ -18,9 +18,9 @@ same_count g c = omega (arith, c.copy_range.ensures.size, c.deref_mut.ensures.le
 copied : (g : Over) (c : After-tag_with-tag g) → CoversPlain (before g c) c.copy_range.new.words c.args.to c.args.count (λ i. get_or c.self.inside.words.items (c.args.from + i) null_word) c.tag_with-tag.result
 copied g c =
     let p : Plain = before g c in
-    let inside : c.args.to + c.args.count ≤ length c.self.inside.words.items = subst (λ (p : Plain). c.args.to + c.args.count ≤ length p.words) (sym c.self.view_is) c.requires.to_inside in
+    let inside : c.args.to + c.args.count ≤ length c.self.inside.words.items = subst (λ (p : Plain). c.args.to + c.args.count ≤ length p.words) (sym c.self.view_is) c.requires.to in
     let size : length c.self.inside.words.items ≡ 256 * length c.self.inside.tags.items = c.self.invariant.size in
-    let some : 0 < c.args.count = c.requires.some in
+    let some : 0 < c.args.count = c.requires.at_least in
     let within : c.args.to / 256 < length c.self.inside.tags.items = omega arith in
     let read : tag_at c.self.inside.tags.items (c.args.to / 256) ≡ c.index.result.now = tag_at_read c.self.inside.tags.items (c.args.to / 256) c.index.result.now within c.index.ensures in
     plain_copied p c.deref_mut.result.now c.copy_range.new.words c.deref.result.now c.deref-2.result.now c.index.result.now c.tag_with-tag.result c.args.from c.args.to c.args.count
@@ -31,7 +31,7 @@ invariant_of-self g c =
     let at = (goal.at.invariant_of-self g c).After-tag_with-tag in
     rw (with_items_is c.self.inside.words c.copy_range.new.words (same_count g at)) (covered_plain (before g at) c.copy_range.new.words c.args.to c.args.count (λ i. get_or c.self.inside.words.items (c.args.from + i) null_word) c.tag_with-tag.result c.and-self-inside.result.total c.self.invariant (copied g at))
 
-pub returns-clause-copied : goal.returns-clause-copied
-returns-clause-copied g c =
-    let at = (goal.at.returns-clause-copied g c).After-tag_with-tag in
+pub returns-clause-written : goal.returns-clause-written
+returns-clause-written g c =
+    let at = (goal.at.returns-clause-written g c).After-tag_with-tag in
     rw (← c.self.view_is, with_items_is c.self.inside.words c.copy_range.new.words (same_count g at)) (covered_store (before g at) c.copy_range.new.words c.args.to c.args.count (λ i. get_or c.self.inside.words.items (c.args.from + i) null_word) c.tag_with-tag.result c.and-self-inside.result.total c.self.invariant (copied g at))

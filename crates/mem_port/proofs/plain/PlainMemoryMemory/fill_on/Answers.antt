@@ -17,14 +17,14 @@ same_count g c = omega (arith, c.fill_range.ensures.size, c.deref_mut.ensures.le
 filled : (g : Over) (c : After-fill_range g) → CoversPlain (before g c) c.fill_range.new.xs c.args.at c.args.count (λ _. c.args.word) c.tag_after-tag.result
 filled g c =
     let p : Plain = before g c in
-    let inside : c.args.at + c.args.count ≤ length c.self.inside.words.items = subst (λ (p : Plain). c.args.at + c.args.count ≤ length p.words) (sym c.self.view_is) c.requires.inside in
+    let inside : c.args.at + c.args.count ≤ length c.self.inside.words.items = subst (λ (p : Plain). c.args.at + c.args.count ≤ length p.words) (sym c.self.view_is) c.requires.in_range in
     let size : length c.self.inside.words.items ≡ 256 * length c.self.inside.tags.items = c.self.invariant.size in
-    let some : 0 < c.args.count = c.requires.some in
+    let some : 0 < c.args.count = c.requires.at_least in
     let within : c.args.at / 256 < length c.self.inside.tags.items = omega arith in
     let read : tag_at c.self.inside.tags.items (c.args.at / 256) ≡ c.index.result.now = tag_at_read c.self.inside.tags.items (c.args.at / 256) c.index.result.now within c.index.ensures in
     let lent : length c.deref_mut.result.now ≡ length c.self.inside.words.items = ap length c.deref_mut.ensures.value in
     let long : length c.fill_range.new.xs ≡ length c.deref_mut.result.now = c.fill_range.ensures.size in
-    let written = filled_over c.deref_mut.result.now c.fill_range.new.xs c.args.at c.args.count c.args.word (omega arith) long c.fill_range.ensures.below c.fill_range.ensures.filled c.fill_range.ensures.above in
+    let written = filled_over c.deref_mut.result.now c.fill_range.new.xs c.args.at c.args.count c.args.word (omega arith) long c.fill_range.ensures.before c.fill_range.ensures.filled c.fill_range.ensures.unchanged in
     plain_filled p c.deref_mut.result.now c.fill_range.new.xs c.deref.result.now c.index.result.now c.tag_after-tag.result c.args.at c.args.count c.args.word
     c.deref_mut.ensures.value c.deref.ensures.value read some inside c.requires.page written c.tag_after-tag.ensures
 

@@ -6,5 +6,5 @@ pub loop-at-preserved : goal.loop-at-preserved
 loop-at-preserved g c = (
   search rules,
   search rules,
-  gave_more c.args.bytes.now c.loop-at.at c.in-Ok.count c.loop-at.invariant.2 c.in-Ok.ensures.gained,
+  gave_more c.args.bytes.now c.loop-at.at c.in-Ok.count c.loop-at.invariant.2 c.in-Ok.ensures.written,
 )

@@ -1,8 +1,8 @@
 use Rattle.page_map.proofs.Keeping.{map_sound, there_if_listed}
 use Rattle.page_map.proofs.map.PageMap.after.Goals as goal
 
-pub returns-clause-there : goal.returns-clause-there
-returns-clause-there c =
+pub returns-clause-some : goal.returns-clause-some
+returns-clause-some c =
     let full = rw (← c.self.view_is) at c.requires in
     let held = c.self.invariant.there c.args.page full in
     rw (← c.self.view_is) (there_if_listed _ _ _ (map_sound _ _ _ c.self.invariant) (c.next.ensures.listed _ held))

@@ -1,7 +1,7 @@
 use Rattle.std.proofs.Common.{◌≡◌, Some, sym, ◌∙◌, ap, Option}
 use Rattle.paged_machine.specs.Holding.{Holding, holding}
-use Rattle.paged_machine.specs.declared.machine.Stage.{Stage}
-use Rattle.paged_machine.specs.declared.machine.Stage.TheVariants.{Heap}
+use Rattle.paged_machine.specs.declared.machine.MachineStage.{MachineStage}
+use Rattle.paged_machine.specs.declared.machine.MachineStage.TheVariants.{Heap}
 use Rattle.paged_machine.proofs.Openable.{stands_on}
 use Rattle.paged_machine.proofs.machine.MachineEngine.dump.Goals as goal
 
@@ -10,4 +10,4 @@ returns-clause-stands g c =
     let stage : c.self.inside.stage ≡ Some (Heap c.in-Some-Heap.heap) = cc (c.take.ensures.value, c.in-Some-Heap.is) in
     rw c.put.ensures
     (stands_on c.args.self.now.heap c.in-Some-Heap.heap c.dump-heap.result.0
-    (sym (ap (λ (h : Holding). h.heap) c.self.view_is) ∙ ap (λ (h : Option (Stage g.row.D.Denot)). (holding g.D.Swap.faults h).heap) stage) c.dump-heap.ensures.stands)
+    (sym (ap (λ (h : Holding). h.heap) c.self.view_is) ∙ ap (λ (h : Option (MachineStage g.row.D.Denot)). (holding g.D.Swap.faults h).heap) stage) c.dump-heap.ensures.stands)

@@ -9,14 +9,14 @@ invariant_of-self g c =
     let lays = c.copy_span.ensures (g.D.Swap.stored c.self.inside.swap) c.self.invariant.0 in
     (lays.paged, c.self.invariant.1 ∙ sym lays.uses.frames, c.self.invariant.2)
 
-pub returns-clause-copied : goal.returns-clause-copied
-returns-clause-copied g c = rw (← c.self.view_is) (c.copy_span.ensures (g.D.Swap.stored c.self.inside.swap) c.self.invariant.0).covers
+pub returns-clause-written : goal.returns-clause-written
+returns-clause-written g c = rw (← c.self.view_is) (c.copy_span.ensures (g.D.Swap.stored c.self.inside.swap) c.self.invariant.0).covers
 
 pub returns-clause-uses : goal.returns-clause-uses
 returns-clause-uses g c = rw (← c.self.view_is) (c.copy_span.ensures (g.D.Swap.stored c.self.inside.swap) c.self.invariant.0).uses
 
-pub returns-clause-kept : goal.returns-clause-kept
-returns-clause-kept g c = rw (← c.self.view_is) (c.copy_span.ensures (g.D.Swap.stored c.self.inside.swap) c.self.invariant.0).kept
+pub returns-clause-stays_held : goal.returns-clause-stays_held
+returns-clause-stays_held g c = rw (← c.self.view_is) (c.copy_span.ensures (g.D.Swap.stored c.self.inside.swap) c.self.invariant.0).kept
 
 pub returns-clause-resident : goal.returns-clause-resident
 returns-clause-resident g c = rw (← c.self.view_is) (c.copy_span.ensures (g.D.Swap.stored c.self.inside.swap) c.self.invariant.0).many

@@ -7,8 +7,8 @@ use Rattle.paged_memory.proofs.memory.PagedMemoryMemory.evict_oldest.Goals as go
 
 pub loop-evicted-preserved : goal.loop-evicted-preserved
 loop-evicted-preserved g c =
-    let k = c.in_ok-evict.ensures.kept in
-    let out = c.in_ok-evict.ensures.out in
+    let k = c.in_ok-evict.ensures.preserves in
+    let out = c.in_ok-evict.ensures.resident in
     let v = c.loop-evicted.invariant in
     record {
       paged = k.paged;
@@ -27,9 +27,9 @@ loop-evicted-preserved g c =
 pub returns-in_err-evict-clause-stopped : goal.returns-in_err-evict-clause-stopped
 returns-in_err-evict-clause-stopped g c =
     let v = c.loop-evicted.invariant in
-    stops_evicting c.from_residual.result _ _ _ _ _ c.loop-evicted.evicted c.args.count (omega arith) (ap resident_of c.in_err-evict.ensures.stays ∙ v.order) v.calls c.in_err-evict.ensures.calls
+    stops_evicting c.from_residual.result _ _ _ _ _ c.loop-evicted.evicted c.args.count (omega arith) (ap resident_of c.in_err-evict.ensures.unchanged ∙ v.order) v.calls c.in_err-evict.ensures.calls
 
 pub returns-in_err-evict-clause-stops : goal.returns-in_err-evict-clause-stops
 returns-in_err-evict-clause-stops g c =
     let v = c.loop-evicted.invariant in
-    evicts_fewer c.from_residual.result _ _ c.loop-evicted.evicted c.args.count (omega arith) (ap resident_of c.in_err-evict.ensures.stays ∙ v.order)
+    evicts_fewer c.from_residual.result _ _ c.loop-evicted.evicted c.args.count (omega arith) (ap resident_of c.in_err-evict.ensures.unchanged ∙ v.order)

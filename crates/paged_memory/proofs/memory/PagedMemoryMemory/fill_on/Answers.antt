@@ -15,8 +15,8 @@ returns-clause-filled g c = rw (← c.self.view_is) (c.fill_span.ensures (g.D.Sw
 pub returns-clause-uses : goal.returns-clause-uses
 returns-clause-uses g c = rw (← c.self.view_is) (c.fill_span.ensures (g.D.Swap.stored c.self.inside.swap) c.self.invariant.0).uses
 
-pub returns-clause-kept : goal.returns-clause-kept
-returns-clause-kept g c = rw (← c.self.view_is) (c.fill_span.ensures (g.D.Swap.stored c.self.inside.swap) c.self.invariant.0).kept
+pub returns-clause-stays_held : goal.returns-clause-stays_held
+returns-clause-stays_held g c = rw (← c.self.view_is) (c.fill_span.ensures (g.D.Swap.stored c.self.inside.swap) c.self.invariant.0).kept
 
 pub returns-clause-resident : goal.returns-clause-resident
 returns-clause-resident g c = rw (← c.self.view_is) (c.fill_span.ensures (g.D.Swap.stored c.self.inside.swap) c.self.invariant.0).many

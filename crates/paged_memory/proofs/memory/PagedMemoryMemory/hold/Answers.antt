@@ -10,15 +10,15 @@ use Rattle.paged_memory.proofs.Residents.{uses_room}
 use Rattle.paged_memory.proofs.Words.{page_in}
 use Rattle.paged_memory.proofs.memory.PagedMemoryMemory.hold.Goals as goal
 
-pub use_page-requires-clause-inside : goal.use_page-requires-clause-inside
-use_page-requires-clause-inside g c =
-    let low = c.requires.inside c.loop-page.page-index 0 (omega arith) in
+pub use_page-requires-clause-in_range : goal.use_page-requires-clause-in_range
+use_page-requires-clause-in_range g c =
+    let low = c.requires.in_range c.loop-page.page-index 0 (omega arith) in
     let inside = page_in c.args.self.now.0 (g.D.Swap.stored c.args.self.now.1) _ low in
     omega (arith, inside, c.loop-page.invariant.size)
 
 pub loop-page-preserved : goal.loop-page-preserved
 loop-page-preserved g c =
-    let k = c.in_ok-use_page.ensures.kept in
+    let k = c.in_ok-use_page.ensures.stays_held in
     let same : length c.use_page.new.buffer ≡ c.loop-page.self-inside.buffer.len = omega arith in
     let full : length c.use_page.new.buffer ≡ 256 = omega (arith, c.loop-page.invariant.buffer, c.loop-page.self-inside.buffer.ok.0) in
     let s = c.loop-page.invariant.stays in
@@ -44,4 +44,4 @@ returns-clause-ok g c = λ k d low.
 pub returns-in_err-use_page-clause-stops : goal.returns-in_err-use_page-clause-stops
 returns-in_err-use_page-clause-stops g c =
     stops_among c.from_residual.result c.args.self.now.0 (paging_of c.loop-page.self-inside.pager) (paging_of c.use_page.new.self) _ _ _ c.args.pages.now c.loop-page.page-index (omega arith) c.loop-page.invariant.uses
-    (λ m. let bad : false ≡ true = c.in_err-use_page.ensures.sure m in absurd (cc)) c.in_err-use_page.ensures.stops c.in_err-use_page.ensures.stopped
+    (λ m. let bad : false ≡ true = c.in_err-use_page.ensures.succeeds m in absurd (cc)) c.in_err-use_page.ensures.stops c.in_err-use_page.ensures.stopped

@@ -11,8 +11,8 @@ returns-clause-sound g c =
     let n : c.len.result * 16 ≡ size_of (paging_of c.self.inside.pager) = omega (arith, c.self.inside.pager.levels.ok.0) in
     rw (← c.self.view_is) (store_sound (paging_of c.self.inside.pager) (g.D.Swap.stored c.self.inside.swap) _ c.self.invariant.0 n)
 
-pub returns-clause-stored : goal.returns-clause-stored
-returns-clause-stored g c =
+pub returns-clause-absent : goal.returns-clause-absent
+returns-clause-absent g c =
     let r = c.self.invariant.0.regions in
     let n : c.len.result * 16 ≡ size_of (paging_of c.self.inside.pager) = omega (arith, c.self.inside.pager.levels.ok.0) in
     rw (← c.self.view_is) (λ at low e. swapped_read (paging_of c.self.inside.pager) (g.D.Swap.stored c.self.inside.swap) at c.self.invariant.0 (omega (arith, low, n)) e)

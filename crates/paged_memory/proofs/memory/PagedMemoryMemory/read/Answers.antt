@@ -8,27 +8,27 @@ use Rattle.paged_memory.proofs.Storing.{frame_in, read_framed}
 use Rattle.paged_memory.proofs.Words.{inside_of, page_inside}
 use Rattle.paged_memory.proofs.memory.PagedMemoryMemory.read.Goals as goal
 
-pub use_page-requires-clause-inside : goal.use_page-requires-clause-inside
-use_page-requires-clause-inside g c = page_inside (paging_of c.self.inside.pager) (g.D.Swap.stored c.self.inside.swap) c.args.at (rw (← c.self.view_is) at c.requires)
+pub use_page-requires-clause-in_range : goal.use_page-requires-clause-in_range
+use_page-requires-clause-in_range g c = page_inside (paging_of c.self.inside.pager) (g.D.Swap.stored c.self.inside.swap) c.args.at (rw (← c.self.view_is) at c.requires)
 
-pub returns-in_err-frame-clause-sure : goal.returns-in_err-frame-clause-sure
-returns-in_err-frame-clause-sure g c = rw (← c.self.view_is) (λ m. let bad : false ≡ true = c.in_err-frame.ensures.sure m in absurd (cc))
+pub returns-in_err-frame-clause-succeeds : goal.returns-in_err-frame-clause-succeeds
+returns-in_err-frame-clause-succeeds g c = rw (← c.self.view_is) (λ m. let bad : false ≡ true = c.in_err-frame.ensures.succeeds m in absurd (cc))
 
 pub words-words-requires : goal.words-words-requires
-words-words-requires g c = frame_in _ _ (c.args.at / 256) c.in_ok-frame.frame c.in_ok-frame.ensures.kept.paged c.in_ok-frame.ensures.there
+words-words-requires g c = frame_in _ _ (c.args.at / 256) c.in_ok-frame.frame c.in_ok-frame.ensures.stays_held.paged c.in_ok-frame.ensures.placed
 
 pub returns-clause-value : goal.returns-clause-value
 returns-clause-value g c =
     let low = inside_of (paging_of c.self.inside.pager) (g.D.Swap.stored c.self.inside.swap) c.args.at (rw (← c.self.view_is) at c.requires) in
-    let k = c.in_ok-frame.ensures.kept in
+    let k = c.in_ok-frame.ensures.stays_held in
     let size = k.size in
     let off : c.args.at % 256 < length c.words-words.result.now = omega (arith, c.words-words.ensures.size) in
     rw (← c.self.view_is) (ap (λ (ws : List Parts). slice_get ws c.args.at) (sym k.stays.words)
-    ∙ read_framed _ _ c.words-words.result.now c.args.at c.in_ok-frame.frame (omega (arith, low, size)) c.in_ok-frame.ensures.there k.paged c.words-words.ensures.words
+    ∙ read_framed _ _ c.words-words.result.now c.args.at c.in_ok-frame.frame (omega (arith, low, size)) c.in_ok-frame.ensures.placed k.paged c.words-words.ensures.words
     ∙ slice_get_read c.words-words.result.now (length c.words-words.result.now) (c.args.at % 256) _ refl off c.index-words-at.is)
 
-pub returns-clause-kept : goal.returns-clause-kept
-returns-clause-kept g c = rw (← c.self.view_is) (used_kept _ _ _ _ c.in_ok-frame.ensures.uses.order)
+pub returns-clause-stays_held : goal.returns-clause-stays_held
+returns-clause-stays_held g c = rw (← c.self.view_is) (used_kept _ _ _ _ c.in_ok-frame.ensures.uses.order)
 
 pub returns-clause-room : goal.returns-clause-room
 returns-clause-room g c =

@@ -4,8 +4,8 @@ use Rattle.paged_memory.proofs.memory.PagedMemoryMemory.set_level.Goals as goal
 
 pub invariant_of-self : goal.invariant_of-self
 invariant_of-self g c = (
-  levels_keep (paging_of c.self.inside.pager) (g.D.Swap.stored c.self.inside.swap) c.args.region c.args.level c.self.invariant.0 (rw (← c.self.view_is) at c.requires.inside) (rw (← c.self.view_is) at c.requires.low)
-      (rw (← c.self.view_is) at c.requires.unused),
+  levels_keep (paging_of c.self.inside.pager) (g.D.Swap.stored c.self.inside.swap) c.args.region c.args.level c.self.invariant.0 (rw (← c.self.view_is) at c.requires.in_range) (rw (← c.self.view_is) at c.requires.at_most)
+      (rw (← c.self.view_is) at c.requires.free),
   c.self.invariant.1,
   c.self.invariant.2,
 )

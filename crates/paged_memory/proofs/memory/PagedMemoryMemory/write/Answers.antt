@@ -8,30 +8,30 @@ use Rattle.paged_memory.proofs.Storing.{frame_in, puts_word, put_paged, put_stor
 use Rattle.paged_memory.proofs.Words.{inside_of, page_inside}
 use Rattle.paged_memory.proofs.memory.PagedMemoryMemory.write.Goals as goal
 
-pub use_page-requires-clause-inside : goal.use_page-requires-clause-inside
-use_page-requires-clause-inside g c = page_inside (paging_of c.self.inside.pager) (g.D.Swap.stored c.self.inside.swap) c.args.at (rw (← c.self.view_is) at c.requires)
+pub use_page-requires-clause-in_range : goal.use_page-requires-clause-in_range
+use_page-requires-clause-in_range g c = page_inside (paging_of c.self.inside.pager) (g.D.Swap.stored c.self.inside.swap) c.args.at (rw (← c.self.view_is) at c.requires)
 
-pub returns-in_err-frame-clause-sure : goal.returns-in_err-frame-clause-sure
-returns-in_err-frame-clause-sure g c = rw (← c.self.view_is) (λ m. let bad : false ≡ true = c.in_err-frame.ensures.sure m in absurd (cc))
+pub returns-in_err-frame-clause-succeeds : goal.returns-in_err-frame-clause-succeeds
+returns-in_err-frame-clause-succeeds g c = rw (← c.self.view_is) (λ m. let bad : false ≡ true = c.in_err-frame.ensures.succeeds m in absurd (cc))
 
 pub tagged-requires : goal.tagged-requires
-tagged-requires g c = frame_in _ _ (c.args.at / 256) c.in_ok-frame.frame c.in_ok-frame.ensures.kept.paged c.in_ok-frame.ensures.there
+tagged-requires g c = frame_in _ _ (c.args.at / 256) c.in_ok-frame.frame c.in_ok-frame.ensures.stays_held.paged c.in_ok-frame.ensures.placed
 
 pub set_word-requires-clause-frame : goal.set_word-requires-clause-frame
-set_word-requires-clause-frame g c = frame_in _ _ (c.args.at / 256) c.in_ok-frame.frame c.in_ok-frame.ensures.kept.paged c.in_ok-frame.ensures.there
+set_word-requires-clause-frame g c = frame_in _ _ (c.args.at / 256) c.in_ok-frame.frame c.in_ok-frame.ensures.stays_held.paged c.in_ok-frame.ensures.placed
 
 pub set_tag-requires : goal.set_tag-requires
 set_tag-requires g c =
-    let low = frame_in _ _ (c.args.at / 256) c.in_ok-frame.frame c.in_ok-frame.ensures.kept.paged c.in_ok-frame.ensures.there in
+    let low = frame_in _ _ (c.args.at / 256) c.in_ok-frame.frame c.in_ok-frame.ensures.stays_held.paged c.in_ok-frame.ensures.placed in
     omega (arith, low, ap (λ (v : Pool). length v.pages) c.set_word.ensures.set)
 
 pub invariant_of-self-2 : goal.invariant_of-self-2
 invariant_of-self-2 g c =
     let low = inside_of (paging_of c.self.inside.pager) (g.D.Swap.stored c.self.inside.swap) c.args.at (rw (← c.self.view_is) at c.requires) in
-    let k = c.in_ok-frame.ensures.kept in
+    let k = c.in_ok-frame.ensures.stays_held in
     let size = k.size in
     let puts = puts_word (paging_of c.use_page.new.self) (g.D.Swap.stored c.use_page.new.swap) c.set_word.new.self c.set_tag.new.self c.in_ok-frame.frame c.args.at c.args.word c.tagged.result c.tag_after-tag.result c.deref.result.now
-    c.in_ok-frame.ensures.there (omega (arith, low, size)) c.set_word.ensures.set c.set_tag.ensures.set c.set_tag.ensures.sound c.tagged.ensures.tag c.deref.ensures.value c.tag_after-tag.ensures in
+    c.in_ok-frame.ensures.placed (omega (arith, low, size)) c.set_word.ensures.set c.set_tag.ensures.set c.set_tag.ensures.sound c.tagged.ensures.value c.deref.ensures.value c.tag_after-tag.ensures in
     let same : length c.use_page.new.buffer ≡ c.self.inside.buffer.len = omega arith in
     let full : length c.use_page.new.buffer ≡ 256 = omega (arith, c.self.invariant.2, c.self.inside.buffer.ok.0) in
     let frames : c.self.inside.frames ≡ frames_of c.set_tag.new.self = c.self.invariant.1 ∙ sym (ap (λ (v : Pool). length v.pages) puts.stores ∙ k.frames) in
@@ -40,37 +40,37 @@ invariant_of-self-2 g c =
 pub returns-clause-ok : goal.returns-clause-ok
 returns-clause-ok g c =
     let low = inside_of (paging_of c.self.inside.pager) (g.D.Swap.stored c.self.inside.swap) c.args.at (rw (← c.self.view_is) at c.requires) in
-    let k = c.in_ok-frame.ensures.kept in
+    let k = c.in_ok-frame.ensures.stays_held in
     let size = k.size in
     let puts = puts_word (paging_of c.use_page.new.self) (g.D.Swap.stored c.use_page.new.swap) c.set_word.new.self c.set_tag.new.self c.in_ok-frame.frame c.args.at c.args.word c.tagged.result c.tag_after-tag.result c.deref.result.now
-    c.in_ok-frame.ensures.there (omega (arith, low, size)) c.set_word.ensures.set c.set_tag.ensures.set c.set_tag.ensures.sound c.tagged.ensures.tag c.deref.ensures.value c.tag_after-tag.ensures in
+    c.in_ok-frame.ensures.placed (omega (arith, low, size)) c.set_word.ensures.set c.set_tag.ensures.set c.set_tag.ensures.sound c.tagged.ensures.value c.deref.ensures.value c.tag_after-tag.ensures in
     rw (← c.self.view_is) (stores_after _ _ _ c.args.at c.args.word k.stays (put_stores (paging_of c.use_page.new.self) _ c.set_tag.new.self c.in_ok-frame.frame c.args.at c.args.word c.tag_after-tag.result k.paged puts))
 
 pub returns-clause-uses : goal.returns-clause-uses
 returns-clause-uses g c =
     let low = inside_of (paging_of c.self.inside.pager) (g.D.Swap.stored c.self.inside.swap) c.args.at (rw (← c.self.view_is) at c.requires) in
-    let k = c.in_ok-frame.ensures.kept in
+    let k = c.in_ok-frame.ensures.stays_held in
     let size = k.size in
     let puts = puts_word (paging_of c.use_page.new.self) (g.D.Swap.stored c.use_page.new.swap) c.set_word.new.self c.set_tag.new.self c.in_ok-frame.frame c.args.at c.args.word c.tagged.result c.tag_after-tag.result c.deref.result.now
-    c.in_ok-frame.ensures.there (omega (arith, low, size)) c.set_word.ensures.set c.set_tag.ensures.set c.set_tag.ensures.sound c.tagged.ensures.tag c.deref.ensures.value c.tag_after-tag.ensures in
+    c.in_ok-frame.ensures.placed (omega (arith, low, size)) c.set_word.ensures.set c.set_tag.ensures.set c.set_tag.ensures.sound c.tagged.ensures.value c.deref.ensures.value c.tag_after-tag.ensures in
     rw (← c.self.view_is) (put_uses (paging_of c.self.inside.pager) (paging_of c.use_page.new.self) _ c.set_tag.new.self c.in_ok-frame.frame c.args.at c.args.word c.tag_after-tag.result k.paged k.stays.levels k.stays.top puts c.in_ok-frame.ensures.uses)
 
-pub returns-clause-kept : goal.returns-clause-kept
-returns-clause-kept g c =
+pub returns-clause-stays_held : goal.returns-clause-stays_held
+returns-clause-stays_held g c =
     let low = inside_of (paging_of c.self.inside.pager) (g.D.Swap.stored c.self.inside.swap) c.args.at (rw (← c.self.view_is) at c.requires) in
-    let k = c.in_ok-frame.ensures.kept in
+    let k = c.in_ok-frame.ensures.stays_held in
     let size = k.size in
     let puts = puts_word (paging_of c.use_page.new.self) (g.D.Swap.stored c.use_page.new.swap) c.set_word.new.self c.set_tag.new.self c.in_ok-frame.frame c.args.at c.args.word c.tagged.result c.tag_after-tag.result c.deref.result.now
-    c.in_ok-frame.ensures.there (omega (arith, low, size)) c.set_word.ensures.set c.set_tag.ensures.set c.set_tag.ensures.sound c.tagged.ensures.tag c.deref.ensures.value c.tag_after-tag.ensures in
+    c.in_ok-frame.ensures.placed (omega (arith, low, size)) c.set_word.ensures.set c.set_tag.ensures.set c.set_tag.ensures.sound c.tagged.ensures.value c.deref.ensures.value c.tag_after-tag.ensures in
     rw (← c.self.view_is) (used_kept _ _ _ _
     (put_uses (paging_of c.self.inside.pager) (paging_of c.use_page.new.self) _ c.set_tag.new.self c.in_ok-frame.frame c.args.at c.args.word c.tag_after-tag.result k.paged k.stays.levels k.stays.top puts c.in_ok-frame.ensures.uses).order)
 
 pub returns-clause-room : goal.returns-clause-room
 returns-clause-room g c =
     let low = inside_of (paging_of c.self.inside.pager) (g.D.Swap.stored c.self.inside.swap) c.args.at (rw (← c.self.view_is) at c.requires) in
-    let k = c.in_ok-frame.ensures.kept in
+    let k = c.in_ok-frame.ensures.stays_held in
     let size = k.size in
     let puts = puts_word (paging_of c.use_page.new.self) (g.D.Swap.stored c.use_page.new.swap) c.set_word.new.self c.set_tag.new.self c.in_ok-frame.frame c.args.at c.args.word c.tagged.result c.tag_after-tag.result c.deref.result.now
-    c.in_ok-frame.ensures.there (omega (arith, low, size)) c.set_word.ensures.set c.set_tag.ensures.set c.set_tag.ensures.sound c.tagged.ensures.tag c.deref.ensures.value c.tag_after-tag.ensures in
+    c.in_ok-frame.ensures.placed (omega (arith, low, size)) c.set_word.ensures.set c.set_tag.ensures.set c.set_tag.ensures.sound c.tagged.ensures.value c.deref.ensures.value c.tag_after-tag.ensures in
     let uses = put_uses (paging_of c.self.inside.pager) (paging_of c.use_page.new.self) _ c.set_tag.new.self c.in_ok-frame.frame c.args.at c.args.word c.tag_after-tag.result k.paged k.stays.levels k.stays.top puts c.in_ok-frame.ensures.uses in
     record { answered = rw (← c.self.view_is) (uses_room (paging_of c.self.inside.pager) _ _ _ _ c.self.invariant.0 uses); failed = tt }

@@ -5,31 +5,31 @@ use Rattle.paged_memory.proofs.Out.{puts_out, out_keeps, out_goes, tagged_on}
 use Rattle.paged_memory.proofs.pager.Pager.evict.Goals as goal
 
 pub page_of-requires : goal.page_of-requires
-page_of-requires g c = c.requires.paged.pool.used_in c.args.frame (Contains-first _ _ c.requires.oldest)
+page_of-requires g c = c.requires.paged.pool.used_in c.args.frame (Contains-first _ _ c.requires.agrees)
 
 pub words-words-requires : goal.words-words-requires
-words-words-requires g c = c.requires.paged.pool.used_in c.args.frame (Contains-first _ _ c.requires.oldest)
+words-words-requires g c = c.requires.paged.pool.used_in c.args.frame (Contains-first _ _ c.requires.agrees)
 
-pub returns-clause-kept : goal.returns-clause-kept
-returns-clause-kept g c =
-    let used = Contains-first _ _ c.requires.oldest in
+pub returns-clause-preserves : goal.returns-clause-preserves
+returns-clause-preserves g c =
+    let used = Contains-first _ _ c.requires.agrees in
     let levels = rw c.deref.ensures.value at c.levels_of-set.ensures in
     out_keeps _ _ _ _ c.args.frame c.in-Some.page c.requires.paged
     (puts_out (paging_of c.args.self.now) _ _ c.words-words.result.now c.give_back.new.self c.set.new.self c.note.new.self c.args.frame c.in-Some.page c.levels_of-set.result c.requires.paged used c.in-Some.ensures.page.1
     c.words-words.ensures.size c.words-words.ensures.words c.in_ok-write_page.ensures.ok levels c.note.ensures.sets c.give_back.ensures.given c.give_back.ensures.sound c.set.ensures.placed)
 
-pub returns-clause-out : goal.returns-clause-out
-returns-clause-out g c =
-    let used = Contains-first _ _ c.requires.oldest in
+pub returns-clause-resident : goal.returns-clause-resident
+returns-clause-resident g c =
+    let used = Contains-first _ _ c.requires.agrees in
     let levels = rw c.deref.ensures.value at c.levels_of-set.ensures in
     rw (← c.in-Some.ensures.page.1) (out_goes _ _ _ _ c.args.frame c.in-Some.page c.requires.paged
     (puts_out (paging_of c.args.self.now) _ _ c.words-words.result.now c.give_back.new.self c.set.new.self c.note.new.self c.args.frame c.in-Some.page c.levels_of-set.result c.requires.paged used c.in-Some.ensures.page.1
-    c.words-words.ensures.size c.words-words.ensures.words c.in_ok-write_page.ensures.ok levels c.note.ensures.sets c.give_back.ensures.given c.give_back.ensures.sound c.set.ensures.placed) c.requires.oldest)
+    c.words-words.ensures.size c.words-words.ensures.words c.in_ok-write_page.ensures.ok levels c.note.ensures.sets c.give_back.ensures.given c.give_back.ensures.sound c.set.ensures.placed) c.requires.agrees)
 
 pub tagged-requires : goal.tagged-requires
-tagged-requires g c = c.requires.paged.pool.used_in c.args.frame (Contains-first _ _ c.requires.oldest)
+tagged-requires g c = c.requires.paged.pool.used_in c.args.frame (Contains-first _ _ c.requires.agrees)
 
-pub levels_of-set-requires-clause-tagged : goal.levels_of-set-requires-clause-tagged
-levels_of-set-requires-clause-tagged g c = λ l pos has.
-    let there = (c.requires.paged.taken c.args.frame (Contains-first _ _ c.requires.oldest)).1 in
-    c.tagged.ensures.tag ∙ tagged_on (paging_of c.args.self.now) _ c.words-words.result.now c.args.frame _ l c.requires.paged there c.words-words.ensures.size c.words-words.ensures.words pos (rw c.deref.ensures.value at has)
+pub levels_of-set-requires-clause-marks : goal.levels_of-set-requires-clause-marks
+levels_of-set-requires-clause-marks g c = λ l pos has.
+    let there = (c.requires.paged.taken c.args.frame (Contains-first _ _ c.requires.agrees)).1 in
+    c.tagged.ensures.value ∙ tagged_on (paging_of c.args.self.now) _ c.words-words.result.now c.args.frame _ l c.requires.paged there c.words-words.ensures.size c.words-words.ensures.words pos (rw c.deref.ensures.value at has)

@@ -10,8 +10,8 @@ invariant_of-result c =
     (c.in_ok-sets.ensures.items_if_clones_equal (λ y e. e) ∙ ap (λ (n : ℕ). replicate c.args.pages (let s : Levels = record { 0 = n } in s)) (c.empty.ensures tt))
     (c.in_ok-branches.ensures.items_if_clones_equal (λ y e. e) ∙ ap (replicate c.args.pages) c.none.ensures)
 
-pub returns-clause-indexed : goal.returns-clause-indexed
-returns-clause-indexed c =
+pub returns-clause-sound : goal.returns-clause-sound
+returns-clause-sound c =
     kept_indexed _ _ _ 0 (fresh_kept c.args.pages _ _ c.requires
     (c.in_ok-sets.ensures.items_if_clones_equal (λ y e. e) ∙ ap (λ (n : ℕ). replicate c.args.pages (let s : Levels = record { 0 = n } in s)) (c.empty.ensures tt))
     (c.in_ok-branches.ensures.items_if_clones_equal (λ y e. e) ∙ ap (replicate c.args.pages) c.none.ensures))

@@ -21,7 +21,7 @@ invariant_of-self c =
     let s : length c.insert_row-self-inside.new.sets ≡ c.self.inside.sets.len = omega arith in
     let b : length c.insert_row-self-inside.new.branches ≡ c.self.inside.branches.len = omega arith in
     rw (with_items_is c.self.inside.sets c.insert_row-self-inside.new.sets s, with_items_is c.self.inside.branches c.insert_row-self-inside.new.branches b)
-    (inserted_kept _ _ _ _ _ _ _ _ c.args.page c.args.levels there.1 there.0 kept f.tree f.sets (ap (λ k. c.self.inside.count + k) (c.from.ensures ∙ ap (λ b. bool_byte (not b)) (c.is_empty.ensures tt))))
+    (inserted_kept _ _ _ _ _ _ _ _ c.args.page c.args.levels there.1 there.0 kept f.sound f.sets (ap (λ k. c.self.inside.count + k) (c.from.ensures ∙ ap (λ b. bool_byte (not b)) (c.is_empty.ensures tt))))
 
 pub returns-clause-sets : goal.returns-clause-sets
 returns-clause-sets c =
@@ -31,8 +31,8 @@ returns-clause-sets c =
     rw (with_items_is c.self.inside.sets c.insert_row-self-inside.new.sets s)
     (f.sets ∙ ap (λ (ss : List Levels). slice_set ss c.args.page c.args.levels) was ∙ set-set _ c.args.page _ c.args.levels)
 
-pub returns-clause-indexed : goal.returns-clause-indexed
-returns-clause-indexed c =
+pub returns-clause-sound : goal.returns-clause-sound
+returns-clause-sound c =
     let kept = c.self.invariant in
     let was : c.self.inside.sets.items ≡ slice_set c.args.self.now.sets c.args.page no_levels = ap (λ (v : Table). v.sets) c.self.view_is ∙ c.forget.ensures.sets in
     let there = emptied c.args.self.now.sets _ c.args.page c.requires was in
@@ -41,4 +41,4 @@ returns-clause-indexed c =
     let b : length c.insert_row-self-inside.new.branches ≡ c.self.inside.branches.len = omega arith in
     rw (with_items_is c.self.inside.sets c.insert_row-self-inside.new.sets s, with_items_is c.self.inside.branches c.insert_row-self-inside.new.branches b)
     (kept_indexed _ _ _ (c.self.inside.count + c.from.result)
-    (inserted_kept _ _ _ _ _ _ _ _ c.args.page c.args.levels there.1 there.0 kept f.tree f.sets (ap (λ k. c.self.inside.count + k) (c.from.ensures ∙ ap (λ b. bool_byte (not b)) (c.is_empty.ensures tt)))))
+    (inserted_kept _ _ _ _ _ _ _ _ c.args.page c.args.levels there.1 there.0 kept f.sound f.sets (ap (λ k. c.self.inside.count + k) (c.from.ensures ∙ ap (λ b. bool_byte (not b)) (c.is_empty.ensures tt)))))

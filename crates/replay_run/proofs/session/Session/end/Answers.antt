@@ -15,10 +15,10 @@ returns-clause-does g c = λ fed written does.
     let old = goes_on fed written c.args.self.now _ c.self.view_is c.requires.open does in
     elim c.match-close.branch [
       | in-Ok w ↦
-          let none : c.forget.new.room.bytes.items ++ c.forget.new.buffer.pending ≡ [] = ap (λ bytes. bytes ++ c.forget.new.buffer.pending) c.forget.ensures.bytes ∙ ap (λ b. b.pending) c.forget.ensures.pending in
+          let none : c.forget.new.room.bytes.items ++ c.forget.new.buffer.pending ≡ [] = ap (λ bytes. bytes ++ c.forget.new.buffer.pending) c.forget.ensures.bytes ∙ ap (λ b. b.pending) c.forget.ensures.after in
           rw (w.self-inside-is, w.status-is, none) (end_whole old (sym c.close.ensures ∙ w.in-Ok.is))
       | in-Err w ↦
           let answer : w.tell-status.new.room.bytes.items ++ w.tell-status.new.buffer.pending ≡ trouble_line (trouble_of w.in-Err.stop) =
-          ap (λ bytes. bytes ++ w.tell-status.new.buffer.pending) w.tell-status.ensures.bytes ∙ ap (λ b. trouble_line (trouble_of w.in-Err.stop) ++ b.pending) w.tell-status.ensures.pending ∙ append-nil _ in
-          rw (w.self-inside-is, w.status-is, w.tell-status.ensures.status, answer) (end_early old w.in-Err.stop (sym c.close.ensures ∙ w.in-Err.is))
+          ap (λ bytes. bytes ++ w.tell-status.new.buffer.pending) w.tell-status.ensures.bytes ∙ ap (λ b. trouble_line (trouble_of w.in-Err.stop) ++ b.pending) w.tell-status.ensures.after ∙ append-nil _ in
+          rw (w.self-inside-is, w.status-is, w.tell-status.ensures.value, answer) (end_early old w.in-Err.stop (sym c.close.ensures ∙ w.in-Err.is))
     ]

@@ -1,6 +1,6 @@
 use Rattle.std.proofs.Common.{◌≡◌, ◌∙◌, ℕ, true, ◌<◌, ◌++◌, [], List, length, sym, subst, ap, refl, arith, inl, inr}
 use Rattle.std.proofs.lemmas.List.{append-nil}
-use Rattle.line_input.specs.declared.statuses.status.Stop.TheVariants.{Tell}
+use Rattle.line_input.specs.declared.statuses.status.RunStop.TheVariants.{Tell}
 use Rattle.line_input.specs.declared.statuses.status.RunError.TheVariants.{Swap}
 use Rattle.line_input.specs.Statuses.{trouble_line}
 use Rattle.replay_run.specs.declared.session.SessionState.TheVariants.{Open}
@@ -21,12 +21,12 @@ answer_line-requires-clause-stands g c =
 
 pub invariant_of-self : goal.invariant_of-self
 invariant_of-self g c = (
-  c.in-Ok.ensures.room ∙ ap (λ b. b.room) c.forget.ensures.pending ∙ c.self.invariant.0,
+  c.in-Ok.ensures.room ∙ ap (λ b. b.room) c.forget.ensures.after ∙ c.self.invariant.0,
   λ is.
       let old = c.self.invariant.1 is in (
         old.0 ++ fed_of c.args.text.now,
         old.1 ++ (c.answer_line.new.sink.bytes.items ++ c.answer_line.new.buffer.pending),
-        line_goes old.2 c.args.text.now c.requires.one c.front_of-size.ensures.front c.front_of-size.ensures.size _ refl refl c.forget.ensures.bytes (ap (λ b. b.pending) c.forget.ensures.pending) c.in-Ok.ensures.done c.in-Ok.ensures.place,
+        line_goes old.2 c.args.text.now c.requires.at_least c.front_of-size.ensures.first c.front_of-size.ensures.size _ refl refl c.forget.ensures.bytes (ap (λ b. b.pending) c.forget.ensures.after) c.in-Ok.ensures.done c.in-Ok.ensures.stays_sound,
       ),
 )
 
@@ -34,9 +34,9 @@ pub returns-in-Ok-clause-does : goal.returns-in-Ok-clause-does
 returns-in-Ok-clause-does g c = λ fed written does.
     let is = ap (λ (s : Seen). s.state) c.self.view_is ∙ c.requires.open in
     let old = goes_on fed written c.args.self.now _ c.self.view_is c.requires.open does in
-    let new = line_goes old c.args.text.now c.requires.one c.front_of-size.ensures.front c.front_of-size.ensures.size
+    let new = line_goes old c.args.text.now c.requires.at_least c.front_of-size.ensures.first c.front_of-size.ensures.size
     (record { place = c.answer_line.new.place; machine = c.answer_line.new.engine; state = c.self.inside.state; answer = c.answer_line.new.sink.bytes.items ++ c.answer_line.new.buffer.pending })
-    refl refl c.forget.ensures.bytes (ap (λ b. b.pending) c.forget.ensures.pending) c.in-Ok.ensures.done c.in-Ok.ensures.place in
+    refl refl c.forget.ensures.bytes (ap (λ b. b.pending) c.forget.ensures.after) c.in-Ok.ensures.done c.in-Ok.ensures.stays_sound in
     subst (λ state. DoesIn state (fed ++ fed_of c.args.text.now) (written ++ (c.answer_line.new.sink.bytes.items ++ c.answer_line.new.buffer.pending))
     (record { place = c.answer_line.new.place; machine = c.answer_line.new.engine; state = c.self.inside.state; answer = c.answer_line.new.sink.bytes.items ++ c.answer_line.new.buffer.pending })) (sym is) new
 
@@ -46,15 +46,15 @@ returns-in-Err-clause-does g c = λ fed written does.
     let stop = c.in-Err.stop in
     let e = c.in-Err.ensures in
     let swap : stop ≡ Tell Swap → 0 < c.answer_line.new.engine.faults = λ is. omega (arith, e.swap is) in
-    let few = ap (λ b. b.pending) c.forget.ensures.pending in
+    let few = ap (λ b. b.pending) c.forget.ensures.after in
     let answer : c.tell-status.new.room.bytes.items ++ c.tell-status.new.buffer.pending ≡ trouble_line (trouble_of stop) =
-    ap (λ bytes. bytes ++ c.tell-status.new.buffer.pending) c.tell-status.ensures.bytes ∙ ap (λ b. trouble_line (trouble_of stop) ++ b.pending) c.tell-status.ensures.pending ∙ append-nil _ in
-    rw (c.tell-status.ensures.status, answer)
-    (elim e.stopped [
+    ap (λ bytes. bytes ++ c.tell-status.new.buffer.pending) c.tell-status.ensures.bytes ∙ ap (λ b. trouble_line (trouble_of stop) ++ b.pending) c.tell-status.ensures.after ∙ append-nil _ in
+    rw (c.tell-status.ensures.value, answer)
+    (elim e.err [
       | inl r ↦
           let same = r.still.0 in
-          rw same (line_refused old c.args.text.now c.requires.one c.front_of-size.ensures.front c.front_of-size.ensures.size stop e.read (λ is. rw (sym same) (swap is)) r c.idle_has_no_world.ensures)
+          rw same (line_refused old c.args.text.now c.requires.at_least c.front_of-size.ensures.first c.front_of-size.ensures.size stop e.read (λ is. rw (sym same) (swap is)) r c.idle_has_no_world.ensures)
       | inr h ↦
-          line_halted old c.args.text.now c.requires.one c.front_of-size.ensures.front c.front_of-size.ensures.size c.answer_line.new.place c.answer_line.new.engine _ _ _ _ _ stop e.read swap
-          (record { room = omega (arith, ap length few, ap (λ b. b.room) c.forget.ensures.pending, c.self.invariant.0); few = omega (arith, c.forget.ensures.faults) }) h
+          line_halted old c.args.text.now c.requires.at_least c.front_of-size.ensures.first c.front_of-size.ensures.size c.answer_line.new.place c.answer_line.new.engine _ _ _ _ _ stop e.read swap
+          (record { room = omega (arith, ap length few, ap (λ b. b.room) c.forget.ensures.after, c.self.invariant.0); few = omega (arith, c.forget.ensures.no_fault) }) h
     ])

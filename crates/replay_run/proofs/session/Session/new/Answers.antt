@@ -4,7 +4,7 @@ use Rattle.replay_run.proofs.Feeding.{goes_on_start}
 use Rattle.replay_run.proofs.session.Session.new.Goals as goal
 
 pub invariant_of-result : goal.invariant_of-result
-invariant_of-result g c = (ap (λ b. b.room) c.in_ok-buffer.ensures, λ is. ([], [], goes_on_start _ (c.start.ensures ∙ ap start c.new-3.ensures) c.requires.idle c.requires.quiet))
+invariant_of-result g c = (ap (λ b. b.room) c.in_ok-buffer.ensures, λ is. ([], [], goes_on_start _ (c.start.ensures ∙ ap start c.new-3.ensures) c.requires.idle c.requires.no_fault))
 
-pub returns-clause-fed : goal.returns-clause-fed
-returns-clause-fed g c = goes_on_start _ (c.start.ensures ∙ ap start c.new-3.ensures) c.requires.idle c.requires.quiet
+pub returns-clause-does : goal.returns-clause-does
+returns-clause-does g c = goes_on_start _ (c.start.ensures ∙ ap start c.new-3.ensures) c.requires.idle c.requires.no_fault

@@ -13,7 +13,7 @@ pub returns-in-Exhausted : goal.returns-in-Exhausted
 returns-in-Exhausted c =
     let short = λ (n m : ℕ) (same : n ≡ m) (few : length (decimal n) ≤ 20). subst (λ k. length (decimal k) ≤ 20) same few in
     rw c.in-Exhausted.is (error_short c.in-Exhausted.line (exhausted_words c.in-Exhausted.area c.in-Exhausted.charged c.in-Exhausted.wanted c.in-Exhausted.quota) c.numbers_are_short-in-Exhausted.ensures
-    (exhausted_short c.in-Exhausted.area c.in-Exhausted.charged c.in-Exhausted.wanted c.in-Exhausted.quota (omega (arith, c.as_bytes-area.ensures.short, ap length c.as_bytes-area.ensures.is))
+    (exhausted_short c.in-Exhausted.area c.in-Exhausted.charged c.in-Exhausted.wanted c.in-Exhausted.quota (omega (arith, c.as_bytes-area.ensures.at_most, ap length c.as_bytes-area.ensures.value))
     (short _ _ c.from.ensures c.numbers_are_short-in-Exhausted-2.ensures) (short _ _ c.from-in-Exhausted.ensures c.numbers_are_short-in-Exhausted-3.ensures) (short _ _ c.from-in-Exhausted-2.ensures c.numbers_are_short-in-Exhausted-4.ensures)))
 
 pub returns-in-NoObject : goal.returns-in-NoObject

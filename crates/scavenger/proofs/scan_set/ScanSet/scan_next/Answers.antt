@@ -23,24 +23,24 @@ returns-in_ok-near-in-Some-Word-clause-scans g c = word c.in-Some-Word.at (c.in_
 
 pub returns-in-None-clause-scans : goal.returns-in-None-clause-scans
 returns-in-None-clause-scans g c =
-    let is = sym c.unit_after.ensures ∙ c.in-None.is in
+    let is = sym c.choose_unit.ensures ∙ c.in-None.is in
     none is (none-is-over c.requires.collecting is) refl refl refl refl
 
 pub returns-in_err-scan_register-in-Some-Register-clause-over : goal.returns-in_err-scan_register-in-Some-Register-clause-over
 returns-in_err-scan_register-in-Some-Register-clause-over g c = λ over.
-    next-goes c.args.self.now c.args.ground.now.table c.in-Some-Register.field-0 (sym c.unit_after.ensures ∙ c.in-Some-Register.is) over
+    next-goes c.args.self.now c.args.ground.now.table c.in-Some-Register.field-0 (sym c.choose_unit.ensures ∙ c.in-Some-Register.is) over
 
 pub returns-in_err-near-in-Some-Word-clause-over : goal.returns-in_err-near-in-Some-Word-clause-over
 returns-in_err-near-in-Some-Word-clause-over g c = λ over.
-    next-goes c.args.self.now c.args.ground.now.table c.in-Some-Word.field-0 (sym c.unit_after.ensures ∙ c.in-Some-Word.is) over
+    next-goes c.args.self.now c.args.ground.now.table c.in-Some-Word.field-0 (sym c.choose_unit.ensures ∙ c.in-Some-Word.is) over
 
 pub returns-in_ok-scan_register-in-Some-Register-clause-over : goal.returns-in_ok-scan_register-in-Some-Register-clause-over
 returns-in_ok-scan_register-in-Some-Register-clause-over g c = λ over.
-    next-goes c.args.self.now c.args.ground.now.table c.in-Some-Register.field-0 (sym c.unit_after.ensures ∙ c.in-Some-Register.is) over
+    next-goes c.args.self.now c.args.ground.now.table c.in-Some-Register.field-0 (sym c.choose_unit.ensures ∙ c.in-Some-Register.is) over
 
 pub returns-in_ok-near-in-Some-Word-clause-over : goal.returns-in_ok-near-in-Some-Word-clause-over
 returns-in_ok-near-in-Some-Word-clause-over g c = λ over.
-    next-goes c.args.self.now c.args.ground.now.table c.in-Some-Word.field-0 (sym c.unit_after.ensures ∙ c.in-Some-Word.is) over
+    next-goes c.args.self.now c.args.ground.now.table c.in-Some-Word.field-0 (sym c.choose_unit.ensures ∙ c.in-Some-Word.is) over
 
 pub returns-in_ok-near-in-Some-Word-clause-count : goal.returns-in_ok-near-in-Some-Word-clause-count
 returns-in_ok-near-in-Some-Word-clause-count g c = scans-count (word c.in-Some-Word.at (c.in_ok-near-in-Some-Word.ensures.scans c.args.registers.now c.requires.collecting))
@@ -61,4 +61,4 @@ returns-in_ok-near-in-Some-Word-clause-words g c =
 
 pub returns-in-None-clause-words : goal.returns-in-None-clause-words
 returns-in-None-clause-words g c =
-    next-moves _ _ _ _ c.args.self.now c.args.registers.now c.args.registers.now (next_of c.args.self.now c.args.ground.now.table) None (sym c.unit_after.ensures ∙ c.in-None.is) (refl, refl)
+    next-moves _ _ _ _ c.args.self.now c.args.registers.now c.args.registers.now (next_of c.args.self.now c.args.ground.now.table) None (sym c.choose_unit.ensures ∙ c.in-None.is) (refl, refl)

@@ -4,7 +4,7 @@ use Rattle.lisp_graph.specs.declared.object.Object.{Object}
 use Rattle.lisp_graph.specs.declared.world.AreaRule.{AreaRule}
 use Rattle.sexpr_text.specs.declared.bracket.Bracket.{Bracket}
 use Rattle.sexpr_text.specs.declared.token.Token.TheVariants.{Open}
-use Rattle.sexpr_print.specs.declared.task.Task.TheVariants as K
+use Rattle.sexpr_print.specs.declared.task.PrintTask.TheVariants as K
 use Rattle.sexpr_print.specs.declared.token_text.TokenText.{TokenText}
 use Rattle.sexpr_print.specs.Printing.{bracket_of}
 use Rattle.sexpr_print.specs.Writing.{Adds}
@@ -25,8 +25,8 @@ returns-in_ok-add-in-Cons c =
     let adds : P world.areas (bracket_of object.charge) = subst (λ b. P world.areas b) c.bracket_of.ensures (subst (λ a. P a c.bracket_of.result) c.as_slice-areas.ensures c.in_ok-add-in-Cons.ensures) in
     let Q : TokenText → Type 0 = λ t. Adds world.areas (Open (Some object.area) (bracket_of object.charge) ∷ []) old.text t in
     on_ok c.cons.result (new.tasks.items ≡ old.tasks.items ++ rest) (Opens world c.args.name old new)
-    (λ stack. list_begun world c.args.name object c.in-Cons.car c.in-Cons.cdr old new at c.in-Cons.is c.requires.graph c.requires.within stack c.cons.ensures.printed (subst Q (sym c.cons.ensures.text) adds))
-    c.cons.ensures.tasks
+    (λ stack. list_begun world c.args.name object c.in-Cons.car c.in-Cons.cdr old new at c.in-Cons.is c.requires.graph c.requires.in_range stack c.cons.ensures.unchanged (subst Q (sym c.cons.ensures.text) adds))
+    c.cons.ensures.after
 
 pub returns-in-Block : goal.returns-in-Block
 returns-in-Block c =
@@ -35,5 +35,5 @@ returns-in-Block c =
     let new = c.block.new.self in
     let object = c.object_at-object.result.now in
     let at : object ≡ object_at world.objects c.args.name = c.object_at-object.ensures ∙ ap (λ (os : List Object). object_at os c.args.name) c.as_slice.ensures in
-    block_begun world c.args.name object c.in-Block.code c.in-Block.fields c.block.result old new at c.in-Block.is c.requires.graph c.requires.within c.block.ensures.tasks c.block.ensures.printed
+    block_begun world c.args.name object c.in-Block.code c.in-Block.fields c.block.result old new at c.in-Block.is c.requires.graph c.requires.in_range c.block.ensures.after c.block.ensures.unchanged
     (rw c.as_slice-areas.ensures at c.block.ensures.text)

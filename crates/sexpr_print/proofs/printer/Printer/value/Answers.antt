@@ -1,6 +1,6 @@
 use Rattle.std.proofs.Common.{◌∷◌, [], ◌∙◌, refl, sym, arith}
 use Rattle.sexpr_text.specs.declared.token.Token.TheVariants.{Again, Atom}
-use Rattle.sexpr_print.specs.declared.task.Task.TheVariants as K
+use Rattle.sexpr_print.specs.declared.task.PrintTask.TheVariants as K
 use Rattle.sexpr_print.specs.Marks.{shared_in}
 use Rattle.sexpr_print.specs.Writing.{Adds}
 use Rattle.sexpr_print.specs.Tasks.{Steps}

@@ -1,5 +1,5 @@
 use Rattle.std.proofs.Common.{true, false}
-use Rattle.sexpr_text.specs.declared.task.Task.TheVariants.{Conses, Behind}
+use Rattle.sexpr_text.specs.declared.task.ParseTask.TheVariants.{Conses, Behind}
 use Rattle.sexpr_text.specs.Reading.{closes, is_dot}
 use Rattle.sexpr_text.specs.Tasks.{Fails, Steps, state_of}
 use Rattle.sexpr_text.proofs.StepLaws.{goes_fails, goes_steps, if_err_of, on_ok_of, same_token, shut_steps, state}

@@ -3,7 +3,7 @@ use Rattle.std.proofs.lemmas.Result.{err_from_is_err_and}
 use Rattle.sexpr_text.specs.declared.bracket.Bracket.TheVariants.{Curly}
 use Rattle.sexpr_text.specs.declared.fault.SexprFault.{SexprFault}
 use Rattle.sexpr_text.specs.declared.fault.SexprFault.TheVariants.{Bad}
-use Rattle.sexpr_text.specs.declared.task.Task.TheVariants.{Fields}
+use Rattle.sexpr_text.specs.declared.task.ParseTask.TheVariants.{Fields}
 use Rattle.sexpr_text.specs.Pieces.{line_at, token_at}
 use Rattle.sexpr_text.specs.Reading.{closes, surplus}
 use Rattle.sexpr_text.specs.Tasks.{Fails, state_of}
@@ -45,5 +45,5 @@ returns-clause-ok c =
     field_steps c.args.name c.args.area c.args.code c.args.fields c.args.self.now.tasks.items c.enter.new.self.tasks.items old (state_of c.enter.new.self) b
     c.requires.made (same_token (closes Curly) old.pieces c.token-token.result false c.token-token.ensures c.if-closes.ensures) (omega (arith, c.len.ensures))
     (begun_at old.labels c.len-2.result (length old.objects) old.pieces old.pieces b c.len-2.ensures refl c.in_ok-first.ensures)
-    (cc (c.in_ok-enter.ensures.tasks, c.in_ok-push-2.ensures.items, c.in_ok-push.ensures.ok))
-    (cc (c.in_ok-enter.ensures.objects, c.in_ok-enter.ensures.labels, c.in_ok-enter.ensures.pieces))
+    (cc (c.in_ok-enter.ensures.after, c.in_ok-push-2.ensures.items, c.in_ok-push.ensures.ok))
+    (cc (c.in_ok-enter.ensures.made, c.in_ok-enter.ensures.labels, c.in_ok-enter.ensures.unchanged))

@@ -13,5 +13,5 @@ grow-reply-requires-clause-target g c =
 
 pub invariant_of-self : goal.invariant_of-self
 invariant_of-self g c =
-    performed_lent c.self.inside.registers c.self.invariant c.deref_mut.ensures.value (g.M.Memory.seen c.grow-reply.new.ground.mem) c.grow-reply.new.ground.table c.grow-reply.new.registers c.deref_mut.ensures.len c.command_laws.ensures.represents c.command_laws.ensures.marks
+    performed_lent c.self.inside.registers c.self.invariant c.deref_mut.ensures.value (g.M.Memory.seen c.grow-reply.new.ground.mem) c.grow-reply.new.ground.table c.grow-reply.new.registers c.deref_mut.ensures.len c.command_laws.ensures.represented c.command_laws.ensures.marks
     c.command_laws.ensures.performs c.grow-reply.ensures

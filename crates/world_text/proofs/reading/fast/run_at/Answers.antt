@@ -6,4 +6,4 @@ returns-in-Ok-Some-clause-judged c =
     let w = c.in_ok-area in
     let read = rw c.in-Ok-Some.field-0-is at c.in-Ok-Some.ensures in
     let judged = rw c.as_slice.ensures at c.add_run.ensures.judged in
-    rw (run_says c.args.place.now c.args.line.now w.area w.values.now c.in-Ok-Some.cars c.requires.part c.requires.second w.ensures.is read) judged
+    rw (run_says c.args.place.now c.args.line.now w.area w.values.now c.in-Ok-Some.cars c.requires.place c.requires.second w.ensures.value read) judged

@@ -14,7 +14,7 @@ unfolding capacity_in
 returns-in_err-number c =
     let some : 0 < length c.loop-rest.rest.now = grind (arith, nat_tests, c.loop-rest-test.ensures) in
     let p = err_from_is_err_and c.from_residual.result c.from_residual.ensures.1 in
-    let e = each_fails (a_number 0 16777216) c.loop-rest.invariant.numbers (words_of c.loop-rest.rest.now) c.in_err-number.field-0.0 (words_some _ some) c.in_err-number.ensures.is in
+    let e = each_fails (a_number 0 16777216) c.loop-rest.invariant.numbers (words_of c.loop-rest.rest.now) c.in_err-number.field-0.0 (words_some _ some) c.in_err-number.ensures.value in
     rw (p.1, p.2, ← c.loop-rest.invariant.reads, e) refl
 
 pub bounds-capacity-level : goal.bounds-capacity-level
@@ -32,14 +32,14 @@ loop-rest-preserved c =
       numbers = numbers ++ c.in_ok-number.number ∷ [];
       so_far = zeros_set numbers c.loop-rest.capacity c.in_ok-number.number c.loop-rest.level 6 inv.so_far inv.level (omega (arith, more, inv.few));
       level = omega (arith, inv.level, length-append numbers (c.in_ok-number.number ∷ []));
-      reads = sym (each_goes (a_number 0 16777216) numbers (words_of c.loop-rest.rest.now) c.in_ok-number.number (words_of c.in_ok-number.after.now) more c.in_ok-number.ensures.is) ∙ inv.reads;
-      few = omega (arith, more, c.in_ok-number.ensures.fewer, inv.few);
+      reads = sym (each_goes (a_number 0 16777216) numbers (words_of c.loop-rest.rest.now) c.in_ok-number.number (words_of c.in_ok-number.after.now) more c.in_ok-number.ensures.value) ∙ inv.reads;
+      few = omega (arith, more, c.in_ok-number.ensures.left, inv.few);
     }
 
 pub loop-rest-smaller : goal.loop-rest-smaller
 loop-rest-smaller c =
     let some : 0 < length c.loop-rest.rest.now = grind (arith, nat_tests, c.loop-rest-test.ensures) in
-    omega (arith, words_some _ some, c.in_ok-number.ensures.fewer)
+    omega (arith, words_some _ some, c.in_ok-number.ensures.left)
 
 pub returns : goal.returns
 unfolding capacity_in

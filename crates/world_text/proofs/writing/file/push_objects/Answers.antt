@@ -7,8 +7,8 @@ pub bounds-sizes-number : goal.bounds-sizes-number
 bounds-sizes-number c =
     omega (arith, ap length c.as_slice-sizes.ensures, ap length c.in_ok-sizes.ensures, sizes_long 0 c.args.objects.now, c.loop-number-test.true)
 
-pub push_first-requires-clause-within : goal.push_first-requires-clause-within
-push_first-requires-clause-within c =
+pub push_first-requires-clause-in_range : goal.push_first-requires-clause-in_range
+push_first-requires-clause-in_range c =
     let objects = c.args.objects.now in
     let is = size_is c.loop-number.number objects c.as_slice-sizes.result.now (c.as_slice-sizes.ensures ∙ c.in_ok-sizes.ensures) c.loop-number-test.true in
     rw (take_rest objects c.loop-number.number, is) (size_within c.loop-number.number (drop c.loop-number.number objects))

@@ -7,26 +7,26 @@ use Rattle.outer_ports.proofs.Slots.{page_inside, slot_inside, has_slot, has_roo
 use Rattle.outer_ports.proofs.swaps.page_slots.PageSlots.write.Goals as goal
 
 pub index-requires : goal.index-requires
-index-requires c = omega (arith, page_inside c.self.inside.slots.items c.self.inside.words.items c.args.page (rw (← c.self.view_is) at c.requires.inside), c.self.inside.slots.ok.0)
+index-requires c = omega (arith, page_inside c.self.inside.slots.items c.self.inside.words.items c.args.page (rw (← c.self.view_is) at c.requires.in_range), c.self.inside.slots.ok.0)
 
-pub write_words-requires-clause-inside : goal.write_words-requires-clause-inside
-write_words-requires-clause-inside c =
-    let page = page_inside c.self.inside.slots.items c.self.inside.words.items c.args.page (rw (← c.self.view_is) at c.requires.inside) in
+pub write_words-requires-clause-in_range : goal.write_words-requires-clause-in_range
+write_words-requires-clause-in_range c =
+    let page = page_inside c.self.inside.slots.items c.self.inside.words.items c.args.page (rw (← c.self.view_is) at c.requires.in_range) in
     let slot = has_slot c.self.inside.slots.items c.args.page _ _ page c.index.ensures c.in-Some.is in
     omega (arith, slot_inside c.args.page c.in-Some.slot c.self.invariant.0 slot, c.deref_mut.ensures.len, c.self.inside.words.ok.0)
 
 pub unwrap-requires : goal.unwrap-requires
 unwrap-requires c =
-    let page = page_inside c.self.inside.slots.items c.self.inside.words.items c.args.page (rw (← c.self.view_is) at c.requires.inside) in
+    let page = page_inside c.self.inside.slots.items c.self.inside.words.items c.args.page (rw (← c.self.view_is) at c.requires.in_range) in
     let none = has_slot c.self.inside.slots.items c.args.page _ _ page c.index.ensures c.in-None.is in
     c.extend_from_slice.ensures.succeeds (omega (arith, has_room _ _ c.args.page c.self.invariant.0 page none, c.self.invariant.1, c.requires.size, c.self.inside.words.ok.0))
 
 pub index_mut-requires : goal.index_mut-requires
-index_mut-requires c = omega (arith, page_inside c.self.inside.slots.items c.self.inside.words.items c.args.page (rw (← c.self.view_is) at c.requires.inside), c.self.inside.slots.ok.0)
+index_mut-requires c = omega (arith, page_inside c.self.inside.slots.items c.self.inside.words.items c.args.page (rw (← c.self.view_is) at c.requires.in_range), c.self.inside.slots.ok.0)
 
 pub invariant_of-self-in-None : goal.invariant_of-self-in-None
 invariant_of-self-in-None c =
-    let page = page_inside c.self.inside.slots.items c.self.inside.words.items c.args.page (rw (← c.self.view_is) at c.requires.inside) in
+    let page = page_inside c.self.inside.slots.items c.self.inside.words.items c.args.page (rw (← c.self.view_is) at c.requires.in_range) in
     let none = has_slot c.self.inside.slots.items c.args.page _ _ page c.index.ensures c.in-None.is in
     let items : c.extend_from_slice.new.self.items ≡ c.self.inside.words.items ++ c.args.from.now = rw c.unwrap.ensures at c.extend_from_slice.ensures.items in
     let next : 256 * (c.len.result / 256) ≡ length c.self.inside.words.items = omega (arith, c.len.ensures, c.self.inside.words.ok.0, c.self.invariant.0.size) in (
@@ -37,7 +37,7 @@ invariant_of-self-in-None c =
 
 pub returns-in-Some : goal.returns-in-Some
 returns-in-Some c =
-    let page = page_inside c.self.inside.slots.items c.self.inside.words.items c.args.page (rw (← c.self.view_is) at c.requires.inside) in
+    let page = page_inside c.self.inside.slots.items c.self.inside.words.items c.args.page (rw (← c.self.view_is) at c.requires.in_range) in
     let slot = has_slot c.self.inside.slots.items c.args.page _ _ page c.index.ensures c.in-Some.is in
     let same : length c.write_words.new.words ≡ c.self.inside.words.len = omega (arith, c.write_words.ensures.size, c.deref_mut.ensures.len) in
     let there = subst (λ (ws : List Parts). Fills ws c.write_words.new.words c.in-Some.slot c.args.from.now) c.deref_mut.ensures.value c.write_words.ensures in
@@ -46,7 +46,7 @@ returns-in-Some c =
 
 pub returns-in-None : goal.returns-in-None
 returns-in-None c =
-    let page = page_inside c.self.inside.slots.items c.self.inside.words.items c.args.page (rw (← c.self.view_is) at c.requires.inside) in
+    let page = page_inside c.self.inside.slots.items c.self.inside.words.items c.args.page (rw (← c.self.view_is) at c.requires.in_range) in
     let none = has_slot c.self.inside.slots.items c.args.page _ _ page c.index.ensures c.in-None.is in
     let items : c.extend_from_slice.new.self.items ≡ c.self.inside.words.items ++ c.args.from.now = rw c.unwrap.ensures at c.extend_from_slice.ensures.items in
     let next : 256 * (c.len.result / 256) ≡ length c.self.inside.words.items = omega (arith, c.len.ensures, c.self.inside.words.ok.0, c.self.invariant.0.size) in

@@ -12,8 +12,8 @@ there P o a is some = subst (λ x. IfSome x P) is some
 pub commit-requires-clause-end : goal.commit-requires-clause-end
 commit-requires-clause-end c = (0, there _ _ _ c.in_ok-placed.was c.place.ensures.end)
 
-pub commit-requires-clause-origin : goal.commit-requires-clause-origin
-commit-requires-clause-origin c = λ slot e.
+pub commit-requires-clause-allowed : goal.commit-requires-clause-allowed
+commit-requires-clause-allowed c = λ slot e.
     let made = c.place.new.self in
     let no = c.if-words-self.false in
     moved_allowed (plain_store made.ground.mem) made.ground.table made.live_words made.old_words made.moving c.in_ok-placed.placed.at c.args.words slot c.place.ensures.trial (omega arith) e
@@ -23,9 +23,9 @@ returns c =
     let made = c.place.new.self in
     let p = c.place.ensures in
     let end = there _ _ _ c.in_ok-placed.was p.end in
-    let within = there _ _ _ c.in_ok-placed.was p.within in
+    let within = there _ _ _ c.in_ok-placed.was p.in_range in
     let enough = c.if-words-self.false in
     let u = c.commit.new.self.table in
-    let g = subst (λ (m : Plain). IsGround (plain_store m) u) c.commit.ensures.memory (c.commit.ensures.ground p.trial.ground) in
+    let g = subst (λ (m : Plain). IsGround (plain_store m) u) c.commit.ensures.memory (c.commit.ensures.stays_ground p.trial.ground) in
     subst (λ (m : Plain). IsTrial (plain_store m) u (made.live_words + c.args.words) made.old_words (made.moving - c.args.words)) (sym c.commit.ensures.memory)
-    (trial_moved (plain_store made.ground.mem) made.ground.table u made.live_words made.old_words made.moving c.in_ok-placed.placed.at c.args.words c.known.ensures end (c.commit.ensures.table 0 end) (omega arith) (omega arith) g p.trial)
+    (trial_moved (plain_store made.ground.mem) made.ground.table u made.live_words made.old_words made.moving c.in_ok-placed.placed.at c.args.words c.assert_invariant.ensures end (c.commit.ensures.table 0 end) (omega arith) (omega arith) g p.trial)

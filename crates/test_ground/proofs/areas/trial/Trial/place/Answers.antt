@@ -3,11 +3,11 @@ use Rattle.mem_port.specs.Plain.{plain_store}
 use Rattle.test_ground.proofs.Trials.{area_words, end_first, trial_placed, quota_placed}
 use Rattle.test_ground.proofs.areas.trial.Trial.place.Goals as goal
 
-pub place-requires-clause-within : goal.place-requires-clause-within
-place-requires-clause-within c =
+pub place-requires-clause-in_range : goal.place-requires-clause-in_range
+place-requires-clause-in_range c =
     let now = c.args.self.now in
     let words = area_words (plain_store now.ground.mem) now.ground.table now.live_words now.old_words now.moving c.requires in
-    let quota = c.quota-quota.ensures.quota in
+    let quota = c.quota-quota.ensures.value in
     let fits = c.if-self-words.false in
     omega arith
 
@@ -16,14 +16,14 @@ returns-clause-trial c =
     let now = c.args.self.now in
     let made = c.place.new.self in
     let p = c.place.ensures in
-    trial_placed c.place.result.opened (plain_store now.ground.mem) (plain_store made.mem) now.ground.table made.table now.live_words now.old_words now.moving c.known.ensures p.same p.behind p.table p.level p.free p.ground c.requires
+    trial_placed c.place.result.opened (plain_store now.ground.mem) (plain_store made.mem) now.ground.table made.table now.live_words now.old_words now.moving c.assert_invariant.ensures p.unchanged p.memory p.table p.opened p.free p.stays_ground c.requires
 
 pub returns-clause-end : goal.returns-clause-end
 returns-clause-end c = end_first c.args.self.now.ground.table c.place.new.self.table c.place.result.at c.args.words c.place.ensures.end
 
-pub returns-clause-within : goal.returns-clause-within
-returns-clause-within c =
-    let same = quota_placed c.place.result.opened c.args.self.now.ground.table c.place.new.self.table c.place.ensures.same c.place.ensures.table in
-    let quota = c.quota-quota.ensures.quota in
+pub returns-clause-in_range : goal.returns-clause-in_range
+returns-clause-in_range c =
+    let same = quota_placed c.place.result.opened c.args.self.now.ground.table c.place.new.self.table c.place.ensures.unchanged c.place.ensures.table in
+    let quota = c.quota-quota.ensures.value in
     let fits = c.if-self-words.false in
     omega arith

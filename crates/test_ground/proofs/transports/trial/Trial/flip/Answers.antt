@@ -12,5 +12,5 @@ returns g c =
     let m' = g.M.Memory.seen c.condemn.new.self.mem in
     let same : m' ≡ m = ap g.M.Memory.seen c.condemn.ensures.memory in
     let x = subst (λ s. IsOpen s c.args.self.now.ground.table c.args.self.now.front c.args.self.now.middle) (sym same) c.requires in
-    running-flipped m' t u c.args.self.now.front c.args.self.now.middle x Full c.condemn.ensures.table (c.condemn.ensures.ground c.requires.on.ground) (c.condemn.ensures.named c.requires.on.named)
-    c.known.ensures c.known-2.ensures.1.marked
+    running-flipped m' t u c.args.self.now.front c.args.self.now.middle x Full c.condemn.ensures.table (c.condemn.ensures.stays_ground c.requires.on.ground) (c.condemn.ensures.stays_named c.requires.on.named)
+    c.assert_invariant.ensures c.assert_invariant-2.ensures.1.marked

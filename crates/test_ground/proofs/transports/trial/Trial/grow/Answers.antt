@@ -14,73 +14,73 @@ pub resolve-requires : goal.resolve-requires
 resolve-requires g c = block-final c.requires c.in-Struct.front (sym c.in-Struct.ensures.value)
 
 pub returns-in_default-content : goal.returns-in_default-content
-returns-in_default-content g c = open-same c.requires (stores_nothing-twice c.in_ok-at.ensures.stays c.in_ok-header.ensures.stays)
+returns-in_default-content g c = open-same c.requires (stores_nothing-twice c.in_ok-at.ensures.unchanged c.in_ok-header.ensures.unchanged)
 
 pub returns-then-length-gt1023 : goal.returns-then-length-gt1023
-returns-then-length-gt1023 g c = open-same c.requires (stores_nothing-twice c.in_ok-at.ensures.stays c.in_ok-header.ensures.stays)
+returns-then-length-gt1023 g c = open-same c.requires (stores_nothing-twice c.in_ok-at.ensures.unchanged c.in_ok-header.ensures.unchanged)
 
 pub returns-then-account-words : goal.returns-then-account-words
-returns-then-account-words g c = open-same c.requires (stores_nothing-twice c.in_ok-at.ensures.stays c.in_ok-header.ensures.stays)
+returns-then-account-words g c = open-same c.requires (stores_nothing-twice c.in_ok-at.ensures.unchanged c.in_ok-header.ensures.unchanged)
 
-pub reserve-to-requires-clause-within : goal.reserve-to-requires-clause-within
-reserve-to-requires-clause-within g c =
-    let a = c.account.ensures.account in
-    let q = c.quota.ensures.quota in
+pub reserve-to-requires-clause-in_range : goal.reserve-to-requires-clause-in_range
+reserve-to-requires-clause-in_range g c =
+    let a = c.account.ensures.value in
+    let q = c.quota.ensures.value in
     let fits = c.if-account-words.false in
     enough-room (2 * c.in-Header.length + 2) (2 * c.in-Header.length + 2) c.requires (omega arith) (omega arith)
 
 pub reserve-to-requires-clause-ground : goal.reserve-to-requires-clause-ground
-reserve-to-requires-clause-ground g c = (open-same c.requires (stores_nothing-twice c.in_ok-at.ensures.stays c.in_ok-header.ensures.stays)).on.ground
+reserve-to-requires-clause-ground g c = (open-same c.requires (stores_nothing-twice c.in_ok-at.ensures.unchanged c.in_ok-header.ensures.unchanged)).on.ground
 
 pub reserve-to-requires-clause-named : goal.reserve-to-requires-clause-named
-reserve-to-requires-clause-named g c = (open-same c.requires (stores_nothing-twice c.in_ok-at.ensures.stays c.in_ok-header.ensures.stays)).on.named
+reserve-to-requires-clause-named g c = (open-same c.requires (stores_nothing-twice c.in_ok-at.ensures.unchanged c.in_ok-header.ensures.unchanged)).on.named
 
-pub write_wider-requires-clause-from_inside : goal.write_wider-requires-clause-from_inside
-write_wider-requires-clause-from_inside g c =
-    let b = front-block c.in-Struct.front c.in_ok-at.at c.in-Header.code c.in-Header.length c.requires c.in-Struct.ensures.value c.in_ok-at.ensures.stays c.in_ok-header.ensures.stays c.in_ok-at.ensures.value c.in_ok-at.ensures.last c.in_ok-header.ensures.value c.in-Header.ensures.value in
+pub write_wider-requires-clause-from : goal.write_wider-requires-clause-from
+write_wider-requires-clause-from g c =
+    let b = front-block c.in-Struct.front c.in_ok-at.at c.in-Header.code c.in-Header.length c.requires c.in-Struct.ensures.value c.in_ok-at.ensures.unchanged c.in_ok-header.ensures.unchanged c.in_ok-at.ensures.value c.in_ok-at.ensures.last c.in_ok-header.ensures.value c.in-Header.ensures.value in
     let inside = block-inside b in
     let same = ap (λ (ws : List Parts). length ws) (opened-words c.reserve-to.ensures.region c.reserve-to.ensures.opens) in
     omega arith
 
-pub write_wider-requires-clause-to_inside : goal.write_wider-requires-clause-to_inside
-write_wider-requires-clause-to_inside g c =
+pub write_wider-requires-clause-to : goal.write_wider-requires-clause-to
+write_wider-requires-clause-to g c =
     let inside = reserved-inside c.reserve-to.result (2 * c.in-Header.length + 2) (2 * c.in-Header.length + 2) c.reserve-to.ensures in
     omega arith
 
 pub write_wider-requires-clause-apart : goal.write_wider-requires-clause-apart
 write_wider-requires-clause-apart g c =
-    let b = front-block c.in-Struct.front c.in_ok-at.at c.in-Header.code c.in-Header.length c.requires c.in-Struct.ensures.value c.in_ok-at.ensures.stays c.in_ok-header.ensures.stays c.in_ok-at.ensures.value c.in_ok-at.ensures.last c.in_ok-header.ensures.value c.in-Header.ensures.value in
+    let b = front-block c.in-Struct.front c.in_ok-at.at c.in-Header.code c.in-Header.length c.requires c.in-Struct.ensures.value c.in_ok-at.ensures.unchanged c.in_ok-header.ensures.unchanged c.in_ok-at.ensures.value c.in_ok-at.ensures.last c.in_ok-header.ensures.value c.in-Header.ensures.value in
     block-apart b c.reserve-to.result c.reserve-to.ensures
 
-pub leave_husk-requires-clause-inside : goal.leave_husk-requires-clause-inside
-leave_husk-requires-clause-inside g c =
-    let b = front-block c.in-Struct.front c.in_ok-at.at c.in-Header.code c.in-Header.length c.requires c.in-Struct.ensures.value c.in_ok-at.ensures.stays c.in_ok-header.ensures.stays c.in_ok-at.ensures.value c.in_ok-at.ensures.last c.in_ok-header.ensures.value c.in-Header.ensures.value in
+pub leave_husk-requires-clause-in_range : goal.leave_husk-requires-clause-in_range
+leave_husk-requires-clause-in_range g c =
+    let b = front-block c.in-Struct.front c.in_ok-at.at c.in-Header.code c.in-Header.length c.requires c.in-Struct.ensures.value c.in_ok-at.ensures.unchanged c.in_ok-header.ensures.unchanged c.in_ok-at.ensures.value c.in_ok-at.ensures.last c.in_ok-header.ensures.value c.in-Header.ensures.value in
     let inside = block-inside b in
     let same = ap (λ (ws : List Parts). length ws) (opened-words c.reserve-to.ensures.region c.reserve-to.ensures.opens) in
     let size = c.in_ok-write_wider.ensures.size in
     omega arith
 
-pub leave_husk-requires-clause-to_inside : goal.leave_husk-requires-clause-to_inside
-leave_husk-requires-clause-to_inside g c =
+pub leave_husk-requires-clause-to : goal.leave_husk-requires-clause-to
+leave_husk-requires-clause-to g c =
     let inside = reserved-inside c.reserve-to.result (2 * c.in-Header.length + 2) (2 * c.in-Header.length + 2) c.reserve-to.ensures in
     let size = c.in_ok-write_wider.ensures.size in
     omega arith
 
-pub note_husk-requires-clause-inside : goal.note_husk-requires-clause-inside
-note_husk-requires-clause-inside g c =
-    let b = front-block c.in-Struct.front c.in_ok-at.at c.in-Header.code c.in-Header.length c.requires c.in-Struct.ensures.value c.in_ok-at.ensures.stays c.in_ok-header.ensures.stays c.in_ok-at.ensures.value c.in_ok-at.ensures.last c.in_ok-header.ensures.value c.in-Header.ensures.value in
+pub note_husk-requires-clause-in_range : goal.note_husk-requires-clause-in_range
+note_husk-requires-clause-in_range g c =
+    let b = front-block c.in-Struct.front c.in_ok-at.at c.in-Header.code c.in-Header.length c.requires c.in-Struct.ensures.value c.in_ok-at.ensures.unchanged c.in_ok-header.ensures.unchanged c.in_ok-at.ensures.value c.in_ok-at.ensures.last c.in_ok-header.ensures.value c.in-Header.ensures.value in
     (slot_of c.reserve-to.ensures.room 0 0, in_live b c.reserve-to.result c.reserve-to.ensures c.if-length-gt1023.false (c.if-not-is_first_class.ensures refl))
 
-pub note_husk-requires-clause-enough : goal.note_husk-requires-clause-enough
-note_husk-requires-clause-enough g c =
-    let b = front-block c.in-Struct.front c.in_ok-at.at c.in-Header.code c.in-Header.length c.requires c.in-Struct.ensures.value c.in_ok-at.ensures.stays c.in_ok-header.ensures.stays c.in_ok-at.ensures.value c.in_ok-at.ensures.last c.in_ok-header.ensures.value c.in-Header.ensures.value in
+pub note_husk-requires-clause-at_most : goal.note_husk-requires-clause-at_most
+note_husk-requires-clause-at_most g c =
+    let b = front-block c.in-Struct.front c.in_ok-at.at c.in-Header.code c.in-Header.length c.requires c.in-Struct.ensures.value c.in_ok-at.ensures.unchanged c.in_ok-header.ensures.unchanged c.in_ok-at.ensures.value c.in_ok-at.ensures.last c.in_ok-header.ensures.value c.in-Header.ensures.value in
     husk-enough b c.reserve-to.result c.reserve-to.ensures c.if-length-gt1023.false (c.if-not-is_first_class.ensures refl)
 
 pub returns : goal.returns
 returns g c =
-    let b = front-block c.in-Struct.front c.in_ok-at.at c.in-Header.code c.in-Header.length c.requires c.in-Struct.ensures.value c.in_ok-at.ensures.stays c.in_ok-header.ensures.stays c.in_ok-at.ensures.value c.in_ok-at.ensures.last c.in_ok-header.ensures.value c.in-Header.ensures.value in
-    let a = c.account.ensures.account in
-    let q = c.quota.ensures.quota in
+    let b = front-block c.in-Struct.front c.in_ok-at.at c.in-Header.code c.in-Header.length c.requires c.in-Struct.ensures.value c.in_ok-at.ensures.unchanged c.in_ok-header.ensures.unchanged c.in_ok-at.ensures.value c.in_ok-at.ensures.last c.in_ok-header.ensures.value c.in-Header.ensures.value in
+    let a = c.account.ensures.value in
+    let q = c.quota.ensures.value in
     let fits = c.if-account-words.false in
     let t = c.args.self.now.ground.table in
     let room : account_of t 0 + (2 * c.in-Header.length + 2) ≤ quota_of t 0 = omega arith in
@@ -88,4 +88,4 @@ returns g c =
     let memory = ap g.M.Memory.seen c.note_husk.ensures.memory in
     subst (λ (m : Store). IsOpen m c.note_husk.new.self.table c.args.self.now.front c.args.self.now.middle) (sym memory)
     (open-grown b c.reserve-to.result c.reserve-to.ensures c.if-length-gt1023.false (c.if-not-is_first_class.ensures refl) room c.in_ok-write_wider.ensures.written c.in_ok-leave_husk.ensures.written
-    (c.note_husk.ensures.table (slot_of c.reserve-to.ensures.room 0 0) there) c.known.ensures)
+    (c.note_husk.ensures.table (slot_of c.reserve-to.ensures.room 0 0) there) c.assert_invariant.ensures)

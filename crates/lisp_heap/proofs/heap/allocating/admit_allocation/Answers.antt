@@ -3,32 +3,32 @@ use Rattle.area_space.specs.View.{view}
 use Rattle.heap_collect.proofs.Admitted.{prepared_goes}
 use Rattle.word_graph.specs.lisp_meaning.State.{new_level}
 use Rattle.lisp_heap.specs.Admits.{Admits, Prepares}
-use Rattle.lisp_heap.specs.Contents.{contents_at, counted}
+use Rattle.lisp_heap.specs.HeapView.{contents_at, counted}
 use Rattle.lisp_heap.specs.Costs.{IsRefused}
 use Rattle.lisp_heap.proofs.Admitting.{admitted_parts, prepared_parts}
 use Rattle.lisp_heap.proofs.Allocating.{area_ahead, area_prepared, consistent_ahead, costs_nothing, kind_is, level_ahead, refused_runs, refused_undone, refused_unmade, standing_prepared, stands_in}
 use Rattle.lisp_heap.proofs.Telling.{told_behind}
-use Rattle.lisp_heap.proofs.heap.allocating.admitted.Given.{Over}
-use Rattle.lisp_heap.proofs.heap.allocating.admitted.Goals.{After-prepare, In-Ok}
-use Rattle.lisp_heap.proofs.heap.allocating.admitted.Goals as goal
+use Rattle.lisp_heap.proofs.heap.allocating.admit_allocation.Given.{Over}
+use Rattle.lisp_heap.proofs.heap.allocating.admit_allocation.Goals.{After-take_silent_steps, In-Ok}
+use Rattle.lisp_heap.proofs.heap.allocating.admit_allocation.Goals as goal
 
 -- the silent steps
-abbrev silent : (g : Over) (c : After-prepare g) → Prepares (view c.args.ground.now) c.args.scan.now c.args.space.now (g.M.Memory.resident c.args.ground.now.mem)
+abbrev silent : (g : Over) (c : After-take_silent_steps g) → Prepares (view c.args.ground.now) c.args.scan.now c.args.space.now (g.M.Memory.resident c.args.ground.now.mem)
 silent g c =
-    let x = c.prepare.ensures in
+    let x = c.take_silent_steps.ensures in
     record {
-      ground = view c.prepare.new.ground;
-      begun = c.prepare.new.scan;
-      silent = x.silent;
-      frees = x.frees;
+      ground = view c.take_silent_steps.new.ground;
+      begun = c.take_silent_steps.new.scan;
+      silent = x.step;
+      frees = x.at_most;
       done = x.done;
       placed = x.placed;
-      still = x.still;
+      still = x.unchanged;
       regions = x.regions;
-      faults = x.faults;
+      faults = x.no_fault;
       taken = x.taken;
       memory = λ never. ap g.M.Memory.seen (x.memory never);
-      rests = λ never still. ap (λ ground. ground.table) (x.rests never still);
+      rests = λ never still. ap (λ ground. ground.table) (x.end never still);
       begins = x.begins;
       resident = ap length x.resident;
     }
@@ -38,56 +38,56 @@ there : (g : Over) (c : In-Ok g) → Admits (view c.args.ground.now) (view c.adm
 there g c =
     let x = c.in-Ok.ensures in
     record {
-      first = silent g (goal.at.In-Ok g c).After-prepare;
-      ahead = x.ahead;
+      first = silent g (goal.at.In-Ok g c).After-take_silent_steps;
+      ahead = x.step;
       left = x.left;
-      level_is = λ s are. c.new_level-level.ensures ∙ ap new_level (kind_is c.kinds.result.now s.areas c.args.area (c.kinds.ensures.kinds ∙ are));
+      level_is = λ s are. c.new_level-level.ensures ∙ ap new_level (kind_is c.kinds.result.now s.areas c.args.area (c.kinds.ensures.value ∙ are));
       scans = x.scans;
       idle = λ none. (let y = x.idle none in (ap view y.0, y.1, y.2));
-      amount = x.amount;
-      same = x.begun;
-      on = x.on;
+      amount = x.count;
+      same = x.unchanged;
+      on = x.goes_on;
       preserved = x.registers;
       table = x.table;
-      few = x.few;
+      few = x.at_most;
       cost = x.cost;
-      tells = x.tells;
+      tells = x.accounted;
     }
 
-pub prepare-requires : goal.prepare-requires
-prepare-requires g c = record { standing = stands_in (g.M.Memory.seen c.args.ground.now.mem) _ _ _ _ _ _ _ c.requires.sound }
+pub take_silent_steps-requires : goal.take_silent_steps-requires
+take_silent_steps-requires g c = record { represented = stands_in (g.M.Memory.seen c.args.ground.now.mem) _ _ _ _ _ _ _ c.requires.sound }
 
 pub admit-requires : goal.admit-requires
 admit-requires g c =
-    let p = prepared_parts c.args.ground.now (silent g (goal.at.admit-requires g c).After-prepare) c.requires.sound c.requires.area in
-    record { standing = standing_prepared p; area = area_prepared p }
+    let p = prepared_parts c.args.ground.now (silent g (goal.at.admit-requires g c).After-take_silent_steps) c.requires.sound c.requires.area in
+    record { represented = standing_prepared p; area = area_prepared p }
 
-pub returns-in-Ok-clause-admits : goal.returns-in-Ok-clause-admits
-returns-in-Ok-clause-admits g c = there g (goal.at.returns-in-Ok-clause-admits g c).In-Ok
+pub returns-in-Ok-clause-ok : goal.returns-in-Ok-clause-ok
+returns-in-Ok-clause-ok g c = there g (goal.at.returns-in-Ok-clause-ok g c).In-Ok
 
 pub returns-in-Ok-clause-consistent : goal.returns-in-Ok-clause-consistent
 returns-in-Ok-clause-consistent g c = let a = there g (goal.at.returns-in-Ok-clause-consistent g c).In-Ok in consistent_ahead (prepared_parts c.args.ground.now a.first c.requires.sound c.requires.area) (admitted_parts c.args.ground.now c.admit.new.ground a)
 
-pub returns-in-Ok-clause-area : goal.returns-in-Ok-clause-area
-returns-in-Ok-clause-area g c = let a = there g (goal.at.returns-in-Ok-clause-area g c).In-Ok in area_ahead (prepared_parts c.args.ground.now a.first c.requires.sound c.requires.area) (admitted_parts c.args.ground.now c.admit.new.ground a)
+pub returns-in-Ok-clause-areas : goal.returns-in-Ok-clause-areas
+returns-in-Ok-clause-areas g c = let a = there g (goal.at.returns-in-Ok-clause-areas g c).In-Ok in area_ahead (prepared_parts c.args.ground.now a.first c.requires.sound c.requires.area) (admitted_parts c.args.ground.now c.admit.new.ground a)
 
 pub returns-in-Ok-clause-level : goal.returns-in-Ok-clause-level
 returns-in-Ok-clause-level g c =
     let a = there g (goal.at.returns-in-Ok-clause-level g c).In-Ok in
     level_ahead (prepared_parts c.args.ground.now a.first c.requires.sound c.requires.area) (admitted_parts c.args.ground.now c.admit.new.ground a) c.new_level-level.result _ c.new_level-level.ensures
 
-pub returns-in-Err-clause-refuses : goal.returns-in-Err-clause-refuses
-returns-in-Err-clause-refuses g c command all allowed may wants =
+pub returns-in-Err-clause-err : goal.returns-in-Err-clause-err
+returns-in-Err-clause-err g c command all allowed may wants =
     let x = c.in-Err.ensures in
-    let p = silent g (goal.at.returns-in-Err-clause-refuses g c).After-prepare in
+    let p = silent g (goal.at.returns-in-Err-clause-err g c).After-take_silent_steps in
     let ran = refused_runs (prepared_parts c.args.ground.now p c.requires.sound c.requires.area) (g.M.Memory.seen c.admit.new.ground.mem) c.admit.new.ground.table c.admit.new.scan c.admit.new.registers c.args.steps.now c.admit.new.steps command c.in-Err.reply c.args.charge (g.M.Memory.faults c.admit.new.ground.mem) (g.M.Memory.resident c.admit.new.ground.mem) (counted g.M.Memory c.admit.new.ground.mem)
-    all allowed may wants x.refused prepared_goes c.known.ensures.1.marked x.registers x.regions
-    (told_behind (contents_at c.args.ground.now c.args.scan.now c.args.registers.now c.args.space.now) (contents_at c.admit.new.ground c.admit.new.scan c.admit.new.registers c.args.space.now) p.ground.mem c.args.steps.now c.admit.new.steps command c.in-Err.reply all p.faults p.taken p.resident x.tells)
-    x.on.some x.grows x.table x.on.marks (refused_undone c.in-Err.reply _ _ _ _ (λ e. (x.exhausted e).0)) in
+    all allowed may wants x.refused prepared_goes c.assert_invariant.ensures.1.marked x.registers x.regions
+    (told_behind (contents_at c.args.ground.now c.args.scan.now c.args.registers.now c.args.space.now) (contents_at c.admit.new.ground c.admit.new.scan c.admit.new.registers c.args.space.now) p.ground.mem c.args.steps.now c.admit.new.steps command c.in-Err.reply all p.faults p.taken p.resident x.accounted)
+    x.goes_on.some x.grows x.table x.goes_on.marks (refused_undone c.in-Err.reply _ _ _ _ (λ e. (x.err e).0)) in
     record {
       sound = ran.0;
       runs = ran.1;
-      refused = λ refused. (let same = x.exhausted (λ e. subst IsRefused e refused) in
+      refused = λ refused. (let same = x.err (λ e. subst IsRefused e refused) in
           costs_nothing _ _ p.begun p.ground.table.placed c.args.steps.now c.admit.new.steps p.done p.placed same.2 (ap (λ w. w.table.placed) same.1) same.4);
-      unmade = refused_unmade c.in-Err.reply _ _ _ _ (λ e. (x.exhausted e).0);
+      unmade = refused_unmade c.in-Err.reply _ _ _ _ (λ e. (x.err e).0);
     }

@@ -21,12 +21,12 @@ pub record IsLiveWord (t : Table) (a : ℕ) : Type 0 where
   pub used : a % 4096 < used_of t (a / 4096)
 
 -- no used word of a live region changes
-pub record LiveSame (m : Store) (t : Table) (m' : Store) (t' : Table) : Type 0 where
+pub record LiveWordsUnchanged (m : Store) (t : Table) (m' : Store) (t' : Table) : Type 0 where
   pub table : OnlyGrows t t'
   pub words : (a : ℕ) → IsLiveWord t a → word_at m'.words a ≡ word_at m.words a
 
 -- no used word of a live region changes, except one
-pub record LiveSameBut (m : Store) (t : Table) (m' : Store) (t' : Table) (at : ℕ) : Type 0 where
+pub record LiveWordsUnchangedExcept (m : Store) (t : Table) (m' : Store) (t' : Table) (at : ℕ) : Type 0 where
   pub table : OnlyGrows t t'
   pub words : (a : ℕ) → a ≢ at → IsLiveWord t a → word_at m'.words a ≡ word_at m.words a
 

@@ -3,7 +3,7 @@ use Rattle.std.specs.Prelude.{◌==◌}
 use Rattle.world_text.specs.writing.Numbering.{is_numbered}
 use Rattle.world_text.specs.writing.NumberTable.{entry_at}
 use Rattle.world_text.proofs.writing_laws.Entries.{entry_shows}
-use Rattle.world_text.proofs.writing.numbering.Keys.contains.Goals as goal
+use Rattle.world_text.proofs.writing.numbering.KeyNumbers.contains.Goals as goal
 
 pub returns : goal.returns
 returns c =

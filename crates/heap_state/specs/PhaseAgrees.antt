@@ -4,6 +4,6 @@ use Rattle.area_space.specs.Table.{Table, IsOld}
 use Rattle.transporter.specs.lisp_meaning.State.{Phase, Idle, Running}
 
 -- no collection runs and no region is old, or the table's collection is the state's
-abbrev pub Aims : Table → Phase → Type 0
-Aims t Idle = (t.aim ≡ None) × ((region : ℕ) → IsOld t region → ⊥)
-Aims t (Running c) = t.aim ≡ Some c.aim.what
+abbrev pub PhaseAgrees : Table → Phase → Type 0
+PhaseAgrees t Idle = (t.aim ≡ None) × ((region : ℕ) → IsOld t region → ⊥)
+PhaseAgrees t (Running c) = t.aim ≡ Some c.aim.what

@@ -1,7 +1,7 @@
 use Rattle.std.proofs.Common.{◌≡◌, ℕ, ◌+◌, ◌++◌, [], ◌∷◌, length, ap, arith, rules, length-append}
 use Rattle.world_text.specs.writing.NumberTable.{HasNumbers}
 use Rattle.world_text.proofs.writing_laws.Entries.{numbers_added, numbers_same}
-use Rattle.world_text.proofs.writing.numbering.Keys.add.Goals as goal
+use Rattle.world_text.proofs.writing.numbering.KeyNumbers.add.Goals as goal
 
 pub invariant_of-self-2 : goal.invariant_of-self-2
 invariant_of-self-2 c =

@@ -1,4 +1,4 @@
--- Which pages get marks by the words of a new object.
+-- Which pages get marks by words that are written.
 use Rattle.std.specs.Prelude.{◌≡◌, ℕ, ◌+◌, ◌/◌, ◌<◌}
 use Rattle.mem_port.specs.Store.{Store, level_of_word}
 use Rattle.obj_layout.specs.Forwards.{word_at}

@@ -3,7 +3,7 @@ use Rattle.std.specs.Prelude.{◌==◌}
 use Rattle.world_text.specs.writing.Numbering.{is_numbered}
 use Rattle.world_text.specs.writing.NumberTable.{entry_at}
 use Rattle.world_text.proofs.writing_laws.Entries.{entry_shows}
-use Rattle.world_text.proofs.writing.numbering.Keys.number_of.Goals as goal
+use Rattle.world_text.proofs.writing.numbering.KeyNumbers.number_of.Goals as goal
 
 pub returns-then-entry-eq0-clause-none : goal.returns-then-entry-eq0-clause-none
 returns-then-entry-eq0-clause-none c =

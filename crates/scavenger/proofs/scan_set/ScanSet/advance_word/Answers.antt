@@ -5,7 +5,7 @@ use Rattle.scavenger.specs.Left.{IsPaged, next_of}
 use Rattle.scavenger.specs.Scanning.{EndsPage, page_done}
 use Rattle.scavenger.proofs.Ending.{ended-paged}
 use Rattle.scavenger.proofs.Near.{left-closed, left-next}
-use Rattle.scavenger.proofs.scan_set.ScanSet.pass_word.Goals as goal
+use Rattle.scavenger.proofs.scan_set.ScanSet.advance_word.Goals as goal
 
 pub end_page-requires-clause-pages : goal.end_page-requires-clause-pages
 end_page-requires-clause-pages g c =
@@ -16,50 +16,50 @@ end_page-requires-clause-pages g c =
 pub close-requires : goal.close-requires
 close-requires g c =
     let pages = c.requires.pages in
-    let low = c.requires.inside in
+    let low = c.requires.in_range in
     let inside : c.args.at / 256 < length c.args.self.now.pages = omega arith in
-    let ending = subst (λ (s : Scan). EndsPage (g.M.Memory.seen c.args.ground.now.mem) c.args.ground.now.table s (g.M.Memory.seen c.end_page.new.ground.mem) c.end_page.new.ground.table (c.args.at / 256)) c.mark_word.ensures c.end_page.ensures.ends in
+    let ending = subst (λ (s : Scan). EndsPage (g.M.Memory.seen c.args.ground.now.mem) c.args.ground.now.table s (g.M.Memory.seen c.end_page.new.ground.mem) c.end_page.new.ground.table (c.args.at / 256)) c.mark_word.ensures c.end_page.ensures.end in
     let paged = ended-paged (g.M.Memory.seen c.args.ground.now.mem) (g.M.Memory.seen c.end_page.new.ground.mem) c.args.ground.now.table c.end_page.new.ground.table c.args.self.now c.args.at c.requires.first inside c.requires.paged ending in
     subst (λ (s : Scan). IsPaged s c.end_page.new.ground.table) (sym c.mark_word.ensures) paged
 
-pub returns-in-Some-clause-closed : goal.returns-in-Some-clause-closed
-returns-in-Some-clause-closed g c =
+pub returns-in-Some-clause-after : goal.returns-in-Some-clause-after
+returns-in-Some-clause-after g c =
     let pages = c.requires.pages in
-    let low = c.requires.inside in
+    let low = c.requires.in_range in
     let inside : c.args.at / 256 < length c.args.self.now.pages = omega arith in
-    let ending = subst (λ (s : Scan). EndsPage (g.M.Memory.seen c.args.ground.now.mem) c.args.ground.now.table s (g.M.Memory.seen c.end_page.new.ground.mem) c.end_page.new.ground.table (c.args.at / 256)) c.mark_word.ensures c.end_page.ensures.ends in
+    let ending = subst (λ (s : Scan). EndsPage (g.M.Memory.seen c.args.ground.now.mem) c.args.ground.now.table s (g.M.Memory.seen c.end_page.new.ground.mem) c.end_page.new.ground.table (c.args.at / 256)) c.mark_word.ensures c.end_page.ensures.end in
     let paged = ended-paged (g.M.Memory.seen c.args.ground.now.mem) (g.M.Memory.seen c.end_page.new.ground.mem) c.args.ground.now.table c.end_page.new.ground.table c.args.self.now c.args.at c.requires.first inside c.requires.paged ending in
     let left = subst (λ (s : Scan). page_done s c.args.ground.now.table (c.args.at / 256) ≡ false) c.mark_word.ensures (sym c.end_page.ensures.done ∙ c.if-end_page.false) in
-    c.mark_word.ensures ∙ sym (left-closed (g.M.Memory.seen c.args.ground.now.mem) (g.M.Memory.seen c.end_page.new.ground.mem) c.args.ground.now.table c.end_page.new.ground.table c.args.self.now c.args.at ending c.known.ensures.used_size paged c.requires.going left)
+    c.mark_word.ensures ∙ sym (left-closed (g.M.Memory.seen c.args.ground.now.mem) (g.M.Memory.seen c.end_page.new.ground.mem) c.args.ground.now.table c.end_page.new.ground.table c.args.self.now c.args.at ending c.assert_invariant.ensures.used_size paged c.requires.going left)
 
-pub returns-in_default-clause-closed : goal.returns-in_default-clause-closed
-returns-in_default-clause-closed g c =
+pub returns-in_default-clause-after : goal.returns-in_default-clause-after
+returns-in_default-clause-after g c =
     let pages = c.requires.pages in
-    let low = c.requires.inside in
+    let low = c.requires.in_range in
     let inside : c.args.at / 256 < length c.args.self.now.pages = omega arith in
-    let ending = subst (λ (s : Scan). EndsPage (g.M.Memory.seen c.args.ground.now.mem) c.args.ground.now.table s (g.M.Memory.seen c.end_page.new.ground.mem) c.end_page.new.ground.table (c.args.at / 256)) c.mark_word.ensures c.end_page.ensures.ends in
+    let ending = subst (λ (s : Scan). EndsPage (g.M.Memory.seen c.args.ground.now.mem) c.args.ground.now.table s (g.M.Memory.seen c.end_page.new.ground.mem) c.end_page.new.ground.table (c.args.at / 256)) c.mark_word.ensures c.end_page.ensures.end in
     let paged = ended-paged (g.M.Memory.seen c.args.ground.now.mem) (g.M.Memory.seen c.end_page.new.ground.mem) c.args.ground.now.table c.end_page.new.ground.table c.args.self.now c.args.at c.requires.first inside c.requires.paged ending in
     let left = subst (λ (s : Scan). page_done s c.args.ground.now.table (c.args.at / 256) ≡ false) c.mark_word.ensures (sym c.end_page.ensures.done ∙ c.if-end_page.false) in
-    c.mark_word.ensures ∙ sym (left-closed (g.M.Memory.seen c.args.ground.now.mem) (g.M.Memory.seen c.end_page.new.ground.mem) c.args.ground.now.table c.end_page.new.ground.table c.args.self.now c.args.at ending c.known.ensures.used_size paged c.requires.going left)
+    c.mark_word.ensures ∙ sym (left-closed (g.M.Memory.seen c.args.ground.now.mem) (g.M.Memory.seen c.end_page.new.ground.mem) c.args.ground.now.table c.end_page.new.ground.table c.args.self.now c.args.at ending c.assert_invariant.ensures.used_size paged c.requires.going left)
 
-pub returns-in_default-2-clause-closed : goal.returns-in_default-2-clause-closed
-returns-in_default-2-clause-closed g c =
+pub returns-in_default-2-clause-after : goal.returns-in_default-2-clause-after
+returns-in_default-2-clause-after g c =
     let pages = c.requires.pages in
-    let low = c.requires.inside in
+    let low = c.requires.in_range in
     let inside : c.args.at / 256 < length c.args.self.now.pages = omega arith in
-    let ending = subst (λ (s : Scan). EndsPage (g.M.Memory.seen c.args.ground.now.mem) c.args.ground.now.table s (g.M.Memory.seen c.end_page.new.ground.mem) c.end_page.new.ground.table (c.args.at / 256)) c.mark_word.ensures c.end_page.ensures.ends in
+    let ending = subst (λ (s : Scan). EndsPage (g.M.Memory.seen c.args.ground.now.mem) c.args.ground.now.table s (g.M.Memory.seen c.end_page.new.ground.mem) c.end_page.new.ground.table (c.args.at / 256)) c.mark_word.ensures c.end_page.ensures.end in
     let paged = ended-paged (g.M.Memory.seen c.args.ground.now.mem) (g.M.Memory.seen c.end_page.new.ground.mem) c.args.ground.now.table c.end_page.new.ground.table c.args.self.now c.args.at c.requires.first inside c.requires.paged ending in
     let left = subst (λ (s : Scan). page_done s c.args.ground.now.table (c.args.at / 256) ≡ false) c.mark_word.ensures (sym c.end_page.ensures.done ∙ c.if-end_page.false) in
-    c.mark_word.ensures ∙ sym (left-closed (g.M.Memory.seen c.args.ground.now.mem) (g.M.Memory.seen c.end_page.new.ground.mem) c.args.ground.now.table c.end_page.new.ground.table c.args.self.now c.args.at ending c.known.ensures.used_size paged c.requires.going left)
+    c.mark_word.ensures ∙ sym (left-closed (g.M.Memory.seen c.args.ground.now.mem) (g.M.Memory.seen c.end_page.new.ground.mem) c.args.ground.now.table c.end_page.new.ground.table c.args.self.now c.args.at ending c.assert_invariant.ensures.used_size paged c.requires.going left)
 
 pub returns-in-Some-clause-near : goal.returns-in-Some-clause-near
 returns-in-Some-clause-near g c =
     let pages = c.requires.pages in
-    let low = c.requires.inside in
+    let low = c.requires.in_range in
     let inside : c.args.at / 256 < length c.args.self.now.pages = omega arith in
-    let ending = subst (λ (s : Scan). EndsPage (g.M.Memory.seen c.args.ground.now.mem) c.args.ground.now.table s (g.M.Memory.seen c.end_page.new.ground.mem) c.end_page.new.ground.table (c.args.at / 256)) c.mark_word.ensures c.end_page.ensures.ends in
+    let ending = subst (λ (s : Scan). EndsPage (g.M.Memory.seen c.args.ground.now.mem) c.args.ground.now.table s (g.M.Memory.seen c.end_page.new.ground.mem) c.end_page.new.ground.table (c.args.at / 256)) c.mark_word.ensures c.end_page.ensures.end in
     let paged = ended-paged (g.M.Memory.seen c.args.ground.now.mem) (g.M.Memory.seen c.end_page.new.ground.mem) c.args.ground.now.table c.end_page.new.ground.table c.args.self.now c.args.at c.requires.first inside c.requires.paged ending in
     let left = subst (λ (s : Scan). page_done s c.args.ground.now.table (c.args.at / 256) ≡ false) c.mark_word.ensures (sym c.end_page.ensures.done ∙ c.if-end_page.false) in
     let last = sym c.last_moved.ensures ∙ c.in-Some.is ∙ ap (λ (p : ℕ). Some p) c.if-last-page.true in
     subst (λ (s : Scan). next_of s c.end_page.new.ground.table ≡ Some (Word (c.args.at + 1))) (sym c.mark_word.ensures)
-    (left-next (g.M.Memory.seen c.args.ground.now.mem) (g.M.Memory.seen c.end_page.new.ground.mem) c.args.ground.now.table c.end_page.new.ground.table c.args.self.now c.args.at ending c.known.ensures.used_size paged c.requires.going left inside last)
+    (left-next (g.M.Memory.seen c.args.ground.now.mem) (g.M.Memory.seen c.end_page.new.ground.mem) c.args.ground.now.table c.end_page.new.ground.table c.args.self.now c.args.at ending c.assert_invariant.ensures.used_size paged c.requires.going left inside last)
