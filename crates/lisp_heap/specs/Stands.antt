@@ -68,7 +68,7 @@ frees_pages c = false
 abbrev pub resident_before : Command → HeapView → List ℕ
 resident_before c heap = if allocates c then resident_from heap.table heap.scan heap.space heap.resident else heap.resident
 
--- What a command, with these counts of memory accesses before and after it, reports of the memory: each swap error is in its count, each access too, and at least as many pages are resident as after the silent steps, or, if the reply is `fault`, at most one fewer: the one that was evicted for a page that wasn't read.
+-- What a command, with these counts of memory accesses before and after it, reports of the memory: each swap error is in its count, each access too. After the silent steps the number of resident pages doesn't fall or, if the reply is `fault`, falls by one at most, for a page that was evicted for one that wasn't read.
 pub record Told (old new : HeapView) (before after : ℕ) (c : Command) (r : Reply) : Type 0 where
   pub later : old.faults ≤ new.faults
   pub fault : r ≡ R.Fault → old.faults < new.faults
