@@ -20,7 +20,7 @@ use Rattle.block_store.proofs.transporter.Extended.{new-extends}
 use Rattle.block_store.proofs.transporter.Marked.{plain-value, within-placed}
 use Rattle.block_store.specs.Making.{CanMake, MakesBlock, block_word}
 use Rattle.cdr_lists.specs.Lists.{CanList, ListedOn, cell_word, item_word}
-use Rattle.transporter.specs.WrittenMarks.{MarksByWords}
+use Rattle.heap_state.specs.transporter.WrittenMarks.{MarksByWords}
 use Rattle.cdr_lists.specs.Pairs.{CanPair, PairedOn, first_word}
 use Rattle.heap_commands.specs.NewMarks.{GivesMarks, MarksMade}
 
