@@ -1,18 +1,21 @@
 -- The accounts of areas follow the charges and the husks of their classes.
 use Rattle.std.proofs.Common.{◌≡◌, ◌≢◌, ℕ, ◌+◌, ◌*◌, ◌-◌, ◌/◌, ◌%◌, ◌<◌, ◌≤◌, List, [], length, slice_index, slice_set, sym, ◌∙◌, ap, subst, arith, inl, inr, length-set, get_or-set_same, get_or-set_other}
 use Rattle.std.proofs.lemmas.Bool.{cases_eq}
+use Rattle.std.proofs.lemmas.Nat.{div-mul-add}
 use Rattle.area_space.proofs.Sums.{block-cong}
 use Rattle.area_space.proofs.Slots.{block-at_slot, block-other_slot}
-use Rattle.area_space.proofs.Charging.{area_below, debt_in_account, husked_debt}
-use Rattle.area_space.proofs.Turning.{made_old_facts}
+use Rattle.area_space.proofs.ChargeChanges.{area_below, debt_in_account, husked_debt, discharged_is, left_below}
+use Rattle.area_space.proofs.CondemnedClasses.{made_old_facts}
+use Rattle.area_space.specs.declared.classes.Class.{Class}
+use Rattle.area_space.specs.declared.classes.Origin.TheVariants.{Moved}
 use Rattle.area_space.specs.Accounts.{account_of, debt}
-use Rattle.area_space.specs.Charges.{charged, discharged, husked}
+use Rattle.area_space.specs.Charges.{charged, discharged, husked, charged_by, AllowsOrigin}
 use Rattle.area_space.specs.Flips.{made_old}
 use Rattle.area_space.specs.Frees.{forgiven}
 use Rattle.area_space.specs.Inside.{HasAccounts}
 use Rattle.area_space.specs.Sound.{IsTable}
 use Rattle.area_space.specs.Sums.{both}
-use Rattle.area_space.specs.Table.{Table, levels_of, slots_of, areas_of, chain, live, stale}
+use Rattle.area_space.specs.Table.{Table, levels_of, slots_of, areas_of, slot_of, chain, live, stale}
 
 -- what one slot owes is another number
 slot_owes : (t : Table) (charges husks debts : List ℕ) (slot owed : ℕ) → slot < slots_of t → HasAccounts debts t
@@ -87,6 +90,36 @@ discharged_accounts t class amount debts v low enough has =
     slot_owes t u.charges t.husks debts k (slice_index debts (k / levels_of t) - amount) (omega arith) has
     (λ m ne. let x = other (2 * m) (λ e. ne (omega arith)) in let y = other (2 * m + 1) (λ e. ne (omega arith)) in omega arith)
     (omega arith)
+
+-- a charge that moves stays in its area
+pub moved_accounts : (t : Table) (slot amount : ℕ) (from : Class) (debts : List ℕ) → IsTable t → slot < slots_of t → AllowsOrigin t slot amount (Moved from) → HasAccounts debts t
+    → HasAccounts debts (charged_by t slot amount (Moved from))
+moved_accounts t slot amount from debts v inside allowed has =
+    let in_area = allowed.1 in
+    let in_level = allowed.2 in
+    let enough = allowed.3 in
+    let h = levels_of t in
+    let class = stale (slot_of t from.area from.level) in
+    let low = left_below t slot amount from inside allowed in
+    let k = slot / h in
+    let there : class / 2 ≡ from.area * h + from.level = omega arith in
+    let k1 : class / 2 / h ≡ k = ap (λ (q : ℕ). q / h) there ∙ (div-mul-add from.area h from.level in_level ∙ in_area) in
+    let less = discharged_accounts t class amount debts v (omega arith) enough has in
+    let first = slice_set debts (class / 2 / h) (slice_index debts (class / 2 / h) - amount) in
+    let more = charged_accounts (discharged t class amount) slot amount first (discharged_is t class amount v (omega arith)) inside less in
+    let owed = class_in_account t class debts (omega arith) has in
+    let bound : k < areas_of t = area_below t slot inside in
+    let size = has.0 in
+    let size1 = less.0 in
+    let taken : slice_index first k ≡ slice_index debts k - amount = subst (λ (q : ℕ). slice_index (slice_set debts q (slice_index debts q - amount)) k ≡ slice_index debts k - amount) (sym k1) (get_or-set_same debts k (slice_index debts k - amount) 0 (omega arith)) in
+    let held : amount ≤ slice_index debts k = subst (λ (q : ℕ). amount ≤ slice_index debts q) k1 (omega arith) in
+    let given = get_or-set_same first k (slice_index first k + amount) 0 (omega arith) in (
+      has.0,
+      λ a inside_a. elim (cases_eq a k) [
+        | inl e ↦ subst (λ (q : ℕ). slice_index debts q ≡ account_of (charged_by t slot amount (Moved from)) q) (sym e) (let after = more.1 k bound in omega arith)
+        | inr ne ↦ sym (get_or-set_other first k a (slice_index first k + amount) 0 ne ∙ get_or-set_other debts (class / 2 / h) a (slice_index debts (class / 2 / h) - amount) 0 (λ e. ne (e ∙ k1))) ∙ more.1 a inside_a
+      ],
+    )
 
 pub husked_accounts : (t : Table) (class words : ℕ) (debts : List ℕ) → IsTable t → class < 2 * slots_of t → words ≤ slice_index t.charges class → HasAccounts debts t → HasAccounts debts (husked t class words)
 husked_accounts t class words debts v low enough has =

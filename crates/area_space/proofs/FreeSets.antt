@@ -6,7 +6,7 @@ use Rattle.std.proofs.lemmas.List.Elements.{Contains-append_cases, Contains-appe
 use Rattle.index_lists.specs.Chains.{Chains, IsFree, IsSound, list_at, with_list, without, first_of}
 use Rattle.index_lists.specs.Members.{Has}
 use Rattle.index_lists.proofs.Members.{has_from_contains}
-use Rattle.index_lists.proofs.Callers.{list_at-with_list_same, list_at-with_list_other, list_in, Contains-first, Contains-push_old, Contains-push_new, Contains-push_back, Contains-without, Contains-without_back, free_from_without}
+use Rattle.index_lists.proofs.ListUpdates.{list_at-with_list_same, list_at-with_list_other, list_in, Contains-first, Contains-push_old, Contains-push_new, Contains-push_back, Contains-without, Contains-without_back, free_from_without}
 use Rattle.area_space.specs.PageList.{PageList, IsAscending, Adds, Drops}
 use Rattle.area_space.specs.FreeSet.{HoldsFree}
 

@@ -6,7 +6,7 @@ use Rattle.lisp_graph.specs.declared.command.Condemn.{Condemn}
 use Rattle.store_word.specs.Words.{Parts, address_of, null_word}
 use Rattle.mem_port.specs.Store.{Store, IsFresh, Stores}
 use Rattle.index_lists.specs.Chains.{list_at}
-use Rattle.index_lists.proofs.Callers.{list_in}
+use Rattle.index_lists.proofs.ListUpdates.{list_in}
 use Rattle.area_space.specs.declared.classes.Origin.{Origin}
 use Rattle.area_space.specs.declared.classes.Origin.TheVariants.{New, Moved, Reserve}
 use Rattle.lisp_graph.specs.declared.world.AreaRule.{AreaRule}
@@ -20,8 +20,8 @@ use Rattle.area_space.specs.Ground.{IsGround, NamesNoFree}
 use Rattle.std.proofs.lemmas.List.{length-replicate}
 use Rattle.std.proofs.lemmas.Option.{slice_get_within}
 use Rattle.mem_port.proofs.Lookups.{get-set_same, get-set_other, get-replicate}
-use Rattle.area_space.proofs.Extending.{end_region}
-use Rattle.area_space.proofs.Deciding.{half_cases}
+use Rattle.area_space.proofs.UsedEnds.{end_region}
+use Rattle.area_space.proofs.RegionStates.{half_cases}
 use Rattle.area_space.proofs.FreeSets.{empties}
 
 -- A memory that is the same in words and levels

@@ -10,12 +10,12 @@ use Rattle.area_space.specs.Room.{RoomRule, words_of_area}
 use Rattle.area_space.specs.Places.{IsEnd}
 use Rattle.area_space.specs.Charges.{committed}
 use Rattle.area_space.specs.History.{Call, Open, Commit, Husk, Flip, Reclaim, Note, Allows, Leads, LeadsThrough, HasPlace}
-use Rattle.area_space.proofs.Charging.{husked_is}
-use Rattle.area_space.proofs.Keeping.{noted_is}
-use Rattle.area_space.proofs.Lasting.{opening_lasts, commit_lasts}
-use Rattle.area_space.proofs.Handing.{flip_lasts}
-use Rattle.area_space.proofs.Sparing.{reclaim_lasts}
-use Rattle.area_space.proofs.Opening.{slot_below}
+use Rattle.area_space.proofs.ChargeChanges.{husked_is}
+use Rattle.area_space.proofs.TableFields.{noted_is}
+use Rattle.area_space.proofs.CommitInvariant.{opening_lasts, commit_lasts}
+use Rattle.area_space.proofs.FlipInvariant.{flip_lasts}
+use Rattle.area_space.proofs.ReclaimInvariant.{reclaim_lasts}
+use Rattle.area_space.proofs.NewRegions.{slot_below}
 use Rattle.area_space.proofs.Room.{fits_share, free_region}
 
 committed_room : (t : Table) (slot at words charge : ℕ) (o : Origin) (pages : List ℕ) → RoomRule t → RoomRule (record (committed t slot at words charge o) { pages = pages })

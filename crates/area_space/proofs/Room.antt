@@ -6,7 +6,7 @@ use Rattle.index_lists.specs.Chains.{last_of}
 use Rattle.lisp_graph.specs.Totals.{total}
 use Rattle.lisp_graph.proofs.Totals.{total-lt, total-suc, total-zero}
 use Rattle.area_space.proofs.Sums.{total-blocks, total-pairs, block-at}
-use Rattle.area_space.proofs.Deciding.{listed_or_free}
+use Rattle.area_space.proofs.RegionStates.{listed_or_free}
 use Rattle.area_space.proofs.Chains.{packed_length, packed_full, covered}
 use Rattle.area_space.specs.Room.{RoomRule, share, words_of_class, words_of_area, regions_of_class, regions_of_area}
 use Rattle.area_space.specs.Sound.{IsTable}

@@ -11,10 +11,10 @@ use Rattle.area_space.specs.Charges.{committed}
 use Rattle.area_space.specs.Flips.{Slot, state_of, after_flip, condemns, Condemns}
 use Rattle.area_space.specs.Frees.{Frees}
 use Rattle.area_space.proofs.Chains.{words_in-same}
-use Rattle.area_space.proofs.Extending.{words_extended, words_extended_other}
-use Rattle.area_space.proofs.Flipping.{nothing_in}
+use Rattle.area_space.proofs.UsedEnds.{words_extended, words_extended_other}
+use Rattle.area_space.proofs.FlipSteps.{nothing_in}
 use Rattle.area_space.proofs.GroundLaws.{committed_beside}
-use Rattle.area_space.proofs.Opening.{words_opened}
+use Rattle.area_space.proofs.NewRegions.{words_opened}
 
 -- the words of a class, by its chain and the used ends
 by_chain : (t u : Table) (c d : ℕ) → chain u c ≡ chain t d → u.used ≡ t.used → words_of_class u c ≡ words_of_class t d

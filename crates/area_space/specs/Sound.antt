@@ -1,8 +1,8 @@
 -- What always holds of a table.
-use Rattle.std.specs.Prelude.{◌≡◌, ℕ, ◌*◌, ◌<◌, ◌≤◌, [], length}
+use Rattle.std.specs.Prelude.{◌≡◌, ℕ, ◌*◌, ◌<◌, ◌≤◌, None, [], length}
 use Rattle.index_lists.specs.Chains.{IsSound, IsFree}
 use Rattle.lisp_graph.specs.Totals.{total}
-use Rattle.area_space.specs.Table.{Table, areas_of, slots_of, live, lists_of, chain, used_of, mark_of, quota_of}
+use Rattle.area_space.specs.Table.{Table, areas_of, slots_of, live, stale, lists_of, chain, used_of, mark_of, quota_of}
 use Rattle.area_space.specs.Accounts.{debt, account_of}
 use Rattle.area_space.specs.Room.{IsPacked, regions_of_area, share, words_of_class}
 
@@ -32,3 +32,5 @@ pub record IsTable (t : Table) : Type 0 where
   pub fitting : (area : ℕ) → area < areas_of t → regions_of_area t area ≤ share t area
   -- what was placed since the latest flip is in live regions
   pub counted : t.placed ≤ total (λ slot. words_of_class t (live slot)) (slots_of t)
+  -- while no collection runs, no region is old
+  pub idle : t.aim ≡ None → (slot : ℕ) → chain t (stale slot) ≡ []

@@ -1,5 +1,5 @@
 //! The region table: which class each region has, and how far it is used.
-ghost use Rattle.std.specs.Prelude.{◌≡◌, ℕ, ◌*◌, ◌/◌, ◌<◌, ◌≤◌, ◌↔◌, IsTrue, IfSome, IfNone, Some, Contains, length, MatchOption};
+ghost use Rattle.std.specs.Prelude.{◌≡◌, ◌≢◌, ℕ, ◌*◌, ◌/◌, ◌<◌, ◌≤◌, ◌↔◌, IsTrue, IfSome, IfNone, Some, None, false, Contains, length, MatchOption};
 ghost use Rattle.area_space.specs.Table.{areas_of, kind_of, levels_of, slots_of, slot_of, live, chain, used_of, mark_of, quota_of, IsOld, IsUnclassed, class_number};
 ghost use Rattle.area_space.specs.Flips.{kind_is_static};
 ghost use Rattle.area_space.specs.Sound.{IsTable};
@@ -34,6 +34,7 @@ pub struct RegionTable {
     debts: Vec<u32>,
     quotas: Vec<u32>,
     kinds: Vec<AreaKind>,
+    classes: Vec<Class>,
     scan: PageSet,
     regions: u32,
     areas: u32,
@@ -125,6 +126,7 @@ impl RegionTable {
 
     /// The class of the region of an address. It is None if and only if the region is free, and
     /// has `stale` if and only if the region is old.
+    #[inline]
     pub fn class_of(&self, at: u32) -> Option<Class>
         requires { at / 4096 < self.now.regions }
         ensures none { IfNone result (IsUnclassed self.now (at / 4096)) }
@@ -134,20 +136,22 @@ impl RegionTable {
         ensures cases { IfSome result (λ class. IsTrue class.stale ↔ IsOld self.now (at / 4096)) }
     {
         match self.class_at(at / 4096) {
-            Some(class) => {
-                let levels = self.top as u32 + 1;
-                let slot = class / 2;
-                Some(Class {
-                    area: (slot / levels) as u8,
-                    level: (slot % levels) as u8,
-                    stale: class % 2 == 1,
-                })
-            }
+            Some(number) => Some(self.classes[number as usize]),
             None => None,
         }
     }
 
+    /// Whether a collection runs. If none does, no region is old.
+    #[inline]
+    pub fn is_collecting(&self) -> bool
+        ensures collecting { IsTrue result ↔ (self.now.aim ≢ None) }
+        ensures idle { result ≡ false → (region : ℕ) → IsOld self.now region → ⊥ }
+    {
+        self.aim.is_some()
+    }
+
     /// Whether the region of an address is old.
+    #[inline]
     pub fn is_old(&self, at: u32) -> bool
         requires { at / 4096 < self.now.regions }
         ensures { IsTrue result ↔ IsOld self.now (at / 4096) }
@@ -159,6 +163,7 @@ impl RegionTable {
     }
 
     // The slot of an area and a level.
+    #[inline]
     fn slot(&self, area: u8, level: u8) -> u32
         requires area { area < areas_of self.now }
         requires level { level < levels_of self.now }
@@ -169,7 +174,17 @@ impl RegionTable {
         area as u32 * (self.top as u32 + 1) + level as u32
     }
 
+    // The area of a class.
+    fn area_of(&self, class: u32) -> u8
+        requires { class < 2 * slots_of self.now }
+        ensures value { result ≡ class / 2 / levels_of self.now }
+        ensures in_range { result < areas_of self.now }
+    {
+        self.classes[class as usize].area
+    }
+
     // The class of a region; None if it is free.
+    #[inline]
     fn class_at(&self, region: u32) -> Option<u32>
         requires { region < self.now.regions }
         ensures cases { MatchOption result (IsUnclassed self.now region) (λ class. Contains (chain self.now class) region) }
@@ -180,6 +195,7 @@ impl RegionTable {
     }
 
     // The slot of a region that is live.
+    #[inline]
     pub(crate) fn slot_at(&self, region: u32) -> u32
         requires { (slot : ℕ) × Contains (chain self.now (live slot)) region }
         ensures value { (slot : ℕ) → Contains (chain self.now (live slot)) region → result ≡ slot }

@@ -6,8 +6,8 @@ use Rattle.band_disk.specs.Disks.{Elapses, Follows, Only, Torn, overwritten}
 use Rattle.band_disk.specs.Logs.{AreWithin, Call, DiskContents, IsImage, MemoryDisk, Restarted, Synced, Writes, Wrote, accepts, after, after_call, as_read, contents, contents_of, counted, disk_bytes, failed, image_of, image_since, noted, restarted, unsynced, with_writes}
 use Rattle.band_disk.proofs.Images.{elapses_push, elapses_same, image_left, image_push, image_whole}
 use Rattle.band_disk.proofs.Invariant.{contents_push, writes_are}
-use Rattle.band_disk.proofs.Laying.{with_writes-append}
-use Rattle.band_disk.proofs.Tears.{torn_lost}
+use Rattle.band_disk.proofs.WriteSequences.{with_writes-append}
+use Rattle.band_disk.proofs.TornWrites.{torn_lost}
 
 -- the calls with or without this one added
 abbrev pub calls_with : Bool → List Call → Call → List Call

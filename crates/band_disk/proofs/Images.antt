@@ -5,8 +5,8 @@ use Rattle.std.proofs.lemmas.List.{take-append-le, length-replicate, length_push
 use Rattle.band_disk.specs.Disks.{Elapses, Torn, overwritten}
 use Rattle.band_disk.specs.Logs.{AreWithin, Call, IsImage, MemoryDisk, Writes, as_of, contents_of, image_of, image_since, left_by, spoiled, with_writes}
 use Rattle.band_disk.specs.Moments.{as_of-all}
-use Rattle.band_disk.proofs.Laying.{spoiled_within}
-use Rattle.band_disk.proofs.Tears.{torn_laid, torn_lost}
+use Rattle.band_disk.proofs.WriteSequences.{spoiled_within}
+use Rattle.band_disk.proofs.TornWrites.{torn_laid, torn_lost}
 
 -- Images
 

@@ -9,7 +9,7 @@ use Rattle.band_disk.specs.Disks.{overwritten}
 use Rattle.band_disk.specs.Logs.{AreWithin, Call, DiskContents, MemoryDisk, Restarted, accepts, after_call, counted, noted, failed, Synced, Writes, Wrote, after, as_read, bytes_of, contents_of, left_by, spoiled, unsynced, unsynced_after, with_writes}
 use Rattle.band_disk.specs.Entries.{IsLog, IsNoted, calls_of, log_calls, written_size}
 use Rattle.band_disk.specs.Memory.{LogInvariant}
-use Rattle.band_disk.proofs.Laying.{length-overwritten, length-with_writes, spoiled_within, with_writes-append, within_push}
+use Rattle.band_disk.proofs.WriteSequences.{length-overwritten, length-with_writes, spoiled_within, with_writes-append, within_push}
 
 writes_from : (tear : ℕ) (contents : DiskContents) (calls : List Call) → (fold (after tear) contents calls).writes ≡ fold unsynced_after contents.writes calls
 writes_from tear contents [] = refl

@@ -2,7 +2,7 @@ mod Calls
 mod DiskCalls
 mod Images
 mod Invariant
-mod Laying
+mod WriteSequences
 pub mod Moments
-mod Overwriting
-pub mod Tears
+mod OverwrittenBytes
+pub mod TornWrites

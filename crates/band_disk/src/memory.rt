@@ -54,7 +54,7 @@ impl Model for BandMemory {
 
 /// Changes the synced bytes as a restart does: with a tear of 0 they are unchanged, with 1 the log's unsynced writes are
 /// made, and with 2 or more each byte of those writes is 255.
-#[tactic(auto, using(crate::proofs::Laying::spoiled_within))]
+#[tactic(auto, using(crate::proofs::WriteSequences::spoiled_within))]
 fn leave(log: &Log, tear: u8, synced: &mut Vec<u8>)
     requires sound { IsLog log.now }
     requires in_range { AreWithin (vec_capacity synced.old) synced.old.items (unsynced (log_calls log.now)) }

@@ -43,7 +43,7 @@ fn fill(bytes: &mut [u8], at: usize, len: usize, byte: u8)
 }
 
 /// Overwrites the bytes from a position on with a piece, which may reach past their end.
-#[tactic(auto, using(crate::proofs::Overwriting::overwritten_parts))]
+#[tactic(auto, using(crate::proofs::OverwrittenBytes::overwritten_parts))]
 pub fn overwrite(bytes: &mut Vec<u8>, at: usize, piece: &[u8])
     requires at_most { at ≤ vec_len bytes.old }
     requires room { at + length piece.now ≤ vec_capacity bytes.old }
@@ -56,7 +56,7 @@ pub fn overwrite(bytes: &mut Vec<u8>, at: usize, piece: &[u8])
 }
 
 /// Sets `len` bytes from a position on to one value; they may reach past the end.
-#[tactic(auto, using(crate::proofs::Overwriting::spoiled_parts))]
+#[tactic(auto, using(crate::proofs::OverwrittenBytes::spoiled_parts))]
 pub fn spoil(bytes: &mut Vec<u8>, at: usize, len: usize, byte: u8)
     requires at_most { at ≤ vec_len bytes.old }
     requires room { at + len ≤ vec_capacity bytes.old }

@@ -1,17 +1,17 @@
 mod Images
-mod Opening
-mod Saving
-mod Loading
+mod RestartedDisk
+mod SaveTransitions
+mod LoadTransitions
 mod Parts
-mod Lines
-mod Openings
+mod NameLines
+mod ReplySequences
 mod Runs
-mod Going
-mod Ending
-mod Firsts
-pub mod Bytes
+mod CommandSteps
+mod RunEnds
+mod StoreCases
+pub mod JoinedLines
 pub mod LineLaws
-pub mod Stands
-pub mod SpelledLaw
-pub mod TakenLines
-pub mod TakenLaw
+pub mod InputPrefixes
+pub mod InputLines
+pub mod AcceptedLines
+pub mod AcceptedInputs

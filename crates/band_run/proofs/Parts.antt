@@ -6,7 +6,7 @@ use Rattle.std.specs.List.{flat_map}
 use Rattle.outer_ports.specs.Ports.{IsCut}
 use Rattle.outer_ports.specs.Buffers.{Gathered}
 use Rattle.outer_ports.proofs.Gains.{cut_behind, cut_longer, parts_more}
-use Rattle.outer_ports.proofs.Pending.{gathered_more, gathered_nothing}
+use Rattle.outer_ports.proofs.BufferGains.{gathered_more, gathered_nothing}
 
 -- all parts, split into those before one of them, that one, and those after it
 all_parts : {X : Type 0} (f : X → List ℕ) (parts : List X) (i : ℕ) (d : X) → i < length parts → flat_map f parts ≡ flat_map f (take i parts) ++ (f (get_or parts i d) ++ flat_map f (drop (i + 1) parts))

@@ -13,7 +13,7 @@ use Rattle.band_run.specs.declared.reply.Reply.{Reply}
 use Rattle.band_run.specs.declared.reply.Reply.TheVariants as R
 use Rattle.band_run.specs.Bands.{AtSome, Given, IsUnfit, Runs, Saves, BandState, Step, Stepped, closed, faults_in, last_state, list_reply, load_reply, opened_on, room_for, save_refusal, text_of, text_reply}
 use Rattle.band_run.specs.Replies.{is_fault, reply_text}
-use Rattle.band_run.proofs.Openings.{quiet_more, rises_more}
+use Rattle.band_run.proofs.ReplySequences.{quiet_more, rises_more}
 
 -- one more command
 pub runs_more : (given : Given) (old : BandState) (commands : List BandCommand) (steps : List Stepped) (command : BandCommand) (step : Stepped) → Runs given old commands steps → Step given (last_state old steps) command step.reply step.state → Runs given old (commands ++ command ∷ []) (steps ++ step ∷ [])

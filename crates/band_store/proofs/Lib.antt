@@ -1,11 +1,11 @@
-mod Fronts
-mod Heads
-mod Lasts
+mod BufferBytes
+mod RecordBytes
+mod LastSaves
 mod LogRoom
 pub mod Names
-mod Once
+mod UniqueAnswers
 pub mod Records
 mod Saves
 mod Texts
-mod Torn
+mod TornRecords
 pub use Rattle.band_disk.proofs as band_disk

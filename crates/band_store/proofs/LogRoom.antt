@@ -10,7 +10,7 @@ use Rattle.band_disk.specs.outer_ports.Ports.{next_count}
 use Rattle.band_disk.specs.Logs.{Call, MemoryDisk, Synced, Wrote, accepts, after_call, bytes_of, counted, entries_of, failed, fresh, has_place, noted, stops}
 use Rattle.band_store.specs.Format.{Save, record_of, record_size}
 use Rattle.band_store.specs.Calls.{after_calls, all_calls}
-use Rattle.band_store.proofs.Heads.{length-record_of}
+use Rattle.band_store.proofs.RecordBytes.{length-record_of}
 
 -- no call of the disk has failed, and its log has this number of entries and bytes
 record Fits (room : ℕ) (disk : MemoryDisk) (entries bytes : ℕ) : Type 0 where

@@ -13,7 +13,7 @@ use Rattle.band_store.specs.Format.{HasHeader, Holds, IsDamaged, IsSave, Save, f
 use Rattle.band_store.specs.declared.format.HeaderState.{HeaderState}
 use Rattle.band_store.specs.declared.format.HeaderState.TheVariants.{Shut, Broken}
 use Rattle.band_store.specs.Gates.{IsGate, IsRecordAt}
-use Rattle.band_store.proofs.Heads.{length-record_of}
+use Rattle.band_store.proofs.RecordBytes.{length-record_of}
 use Rattle.band_store.proofs.Names.{Bands}
 
 -- one more save

@@ -10,7 +10,7 @@ use Rattle.band_store.specs.declared.directory.Extent.{Extent}
 use Rattle.band_store.specs.Directory.{directory, index, listing, name_order, named, placed, put_name, sizes}
 use Rattle.band_store.specs.Format.{Holds, Save, first_gate, header, record_of, record_size, records}
 use Rattle.band_store.specs.Store.{IsOpenOn, Store}
-use Rattle.band_store.proofs.Heads.{length-big_bytes, length-record_of}
+use Rattle.band_store.proofs.RecordBytes.{length-big_bytes, length-record_of}
 
 abbrev pub Extents : Type 0
 Extents = List (List ℕ × Extent)

@@ -14,13 +14,13 @@ use Rattle.transporter.specs.lisp_meaning.State.{Condemned, Store, object}
 use Rattle.transporter.specs.lisp_meaning.Classes.{classes}
 use Rattle.transporter.specs.lisp_meaning.Roles.{AsBlock, Field, Head, RoleMap, names_as, owner, field_of, header_of, value_of}
 use Rattle.transporter.specs.lisp_meaning.Fits.{Holds, IsField}
-use Rattle.transporter.proofs.lisp_meaning.Standing.{block_fits, field_fits}
+use Rattle.transporter.proofs.lisp_meaning.layout.ObjectWords.{block_fits, field_fits}
 use Rattle.transporter.specs.lisp_ground.Image.{ground_image}
 use Rattle.transporter.specs.lisp_ground.GroundInvariant.{GroundInvariant}
-use Rattle.transporter.proofs.lisp_ground.StoredOn.{same_header_size}
+use Rattle.transporter.proofs.lisp_ground.invariant.Stores.{same_header_size}
 use Rattle.transporter.specs.LiveWordsUnchanged.{IsLiveWord}
 use Rattle.transporter.proofs.LiveWords as Live
-use Rattle.block_store.proofs.Finding.{head_role}
+use Rattle.block_store.proofs.BlockReferences.{head_role}
 
 value_held : (role : ℕ → Rattle.transporter.specs.lisp_meaning.Roles.Role) (word : Parts) (part : Option Value) (v : Value) → Holds role word.content part → part ≡ Some v → value_of role word.content ≡ Some v
 value_held role word part v holds is = holds.2 ∙ sym holds.1 ∙ is

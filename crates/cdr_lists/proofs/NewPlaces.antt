@@ -7,15 +7,15 @@ use Rattle.mem_port.specs.Store.{StoresNothing}
 use Rattle.mem_port.specs.Store as Memory
 use Rattle.area_space.specs.Table.{Table, areas_of, chain, levels_of, live, slot_of, used_of}
 use Rattle.area_space.specs.Places.{IsEnd, opened}
-use Rattle.area_space.proofs.Opening.{contains_opened, slot_below}
+use Rattle.area_space.proofs.NewRegions.{contains_opened, slot_below}
 use Rattle.obj_layout.specs.Forwards.{word_at}
 use Rattle.transporter.specs.lisp_meaning.State.{Condemned, Store}
 use Rattle.transporter.specs.lisp_meaning.Roles.{RoleMap}
 use Rattle.transporter.specs.lisp_ground.GroundInvariant.{GroundInvariant}
 use Rattle.transporter.specs.lisp_ground.Placing.{Opens}
 use Rattle.transporter.specs.lisp_ground.After.{old_on}
-use Rattle.transporter.proofs.lisp_ground.Places.{place_kept_on}
-use Rattle.transporter.proofs.Moved.{old-opened}
+use Rattle.transporter.proofs.lisp_ground.words.Places.{place_kept_on}
+use Rattle.transporter.proofs.MovedObjects.{old-opened}
 use Rattle.transporter.specs.Growth.{OpensOrStays}
 use Rattle.transporter.specs.LiveWordsUnchanged.{LiveWordsUnchanged}
 use Rattle.transporter.specs.Relocations.{OpensIfFull}
@@ -23,10 +23,10 @@ use Rattle.transporter.specs.Preserving.{NoOldAddresses}
 use Rattle.transporter.specs.Transports.{WordsUnchanged}
 use Rattle.transporter.specs.Marking.{MarksFollow}
 use Rattle.transporter.specs.Moving.{MovesAtMost}
-use Rattle.transporter.proofs.Moving.{writes-moves}
-use Rattle.transporter.proofs.Marked.{marks-opened}
-use Rattle.transporter.proofs.Preserved.{stays_fresh-tended, opened-preserves}
-use Rattle.transporter.proofs.Opened as Opened
+use Rattle.transporter.proofs.TransportSequences.{writes-moves}
+use Rattle.transporter.proofs.PageMarks.{marks-opened}
+use Rattle.transporter.proofs.ScannedWords.{stays_fresh-tended, opened-preserves}
+use Rattle.transporter.proofs.NewRegions as Opened
 use Rattle.cdr_lists.specs.Opening.{OpensIfNeeded}
 
 -- a region was opened only if it was needed

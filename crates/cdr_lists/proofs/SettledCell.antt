@@ -12,19 +12,19 @@ use Rattle.area_space.specs.Table.{Table}
 use Rattle.obj_layout.specs.Forwards.{word_at, forward_of, Final, IsFinal, here}
 use Rattle.transporter.specs.lisp_meaning.State.{Condemned, Store}
 use Rattle.transporter.specs.lisp_meaning.Roles.{RoleMap, value_of}
-use Rattle.transporter.proofs.lisp_meaning.Frames.{refined}
+use Rattle.transporter.proofs.lisp_meaning.maps.Frames.{refined}
 use Rattle.transporter.specs.Growth.{Grows}
 use Rattle.transporter.specs.LiveWordsUnchanged.{IsLiveWord, LiveWordsUnchanged, LiveWordsUnchangedExcept, OnlyGrows}
 use Rattle.transporter.specs.Moving.{FetchMoves, MovesAtMost}
 use Rattle.transporter.specs.Settling.{CanSettle, RefersToOld, IsSettleable, Settles, SettlesOn, content_to, readdressed}
 use Rattle.transporter.specs.Preserving.{NoOldAddresses, FreshOn}
 use Rattle.transporter.specs.Transports.{RepresentedByLaterMap, WordsUnchanged}
-use Rattle.transporter.proofs.Alive.{grows-then, old-before, still-live}
-use Rattle.transporter.proofs.Fetched.{live-inside}
+use Rattle.transporter.proofs.LiveObjects.{grows-then, old-before, still-live}
+use Rattle.transporter.proofs.FetchedWords.{live-inside}
 use Rattle.cdr_lists.specs.Parts.{IsCellAt, LaysPair, RelaysCell, SettlesWord}
-use Rattle.cdr_lists.proofs.Addressed.{CanSetAt, SetsCdrAt}
-use Rattle.cdr_lists.proofs.Addressed.{CanReadAt, IsReadableAt, KeepsConsAt}
-use Rattle.cdr_lists.proofs.Settling.{car_faulted, car_live, car_settleable, car_settles, cons_here, settled_code}
+use Rattle.cdr_lists.proofs.ConsAddresses.{CanSetAt, SetsCdrAt}
+use Rattle.cdr_lists.proofs.ConsAddresses.{CanReadAt, IsReadableAt, KeepsConsAt}
+use Rattle.cdr_lists.proofs.PartReads.{car_faulted, car_live, car_settleable, car_settles, cons_here, settled_code}
 
 pub no_change : (m : Memory.Store) → StoresNothing m m
 no_change m = record { words = refl; levels = refl; top = refl; unmarked = λ page e. e }

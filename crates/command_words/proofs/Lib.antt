@@ -1,7 +1,7 @@
-mod Kind
+mod ArgumentKinds
 mod Options
 mod Ranges
-mod Seen
+mod ParserState
 mod Rows
 mod Walk
-mod Sought
+mod WalkResult

@@ -16,10 +16,10 @@ use Rattle.clap.specs.declared.builder.value_parser.ValueParser.TheVariants as v
 use Rattle.command_words.specs.declared.mode.Mode.{Mode}
 use Rattle.command_words.specs.Given.{asked}
 use Rattle.command_words.specs.Words.{equals_at, mode_in}
-use Rattle.command_words.proofs.Kind.{IsPlain, IsShort}
+use Rattle.command_words.proofs.ArgumentKinds.{IsPlain, IsShort}
 use Rattle.command_words.proofs.Options.{Name, Object, Number, Count, Values, options_of, text}
 use Rattle.command_words.proofs.Rows.{Shows}
-use Rattle.command_words.proofs.Seen.{all, position}
+use Rattle.command_words.proofs.ParserState.{all, position}
 
 -- The command as built
 

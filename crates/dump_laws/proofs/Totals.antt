@@ -8,8 +8,8 @@ use Rattle.trace_text.specs.lisp_graph.declared.object.Object.{Object}
 use Rattle.trace_text.specs.lisp_graph.declared.world.AreaRule.{AreaRule}
 use Rattle.trace_text.specs.world_text.Objects.{quota_in}
 use Rattle.trace_text.specs.world_text.Limits.{charged_in}
-use Rattle.dump_laws.proofs.Objects.{charged_append}
-use Rattle.dump_laws.proofs.Lengths.{total, total_append}
+use Rattle.dump_laws.proofs.ObjectLines.{charged_append}
+use Rattle.dump_laws.proofs.LineLengths.{total, total_append}
 
 -- the charges of this many areas
 all_areas : ℕ → List Object → ℕ

@@ -1,64 +1,33 @@
 -- The lines of a dump are judged as those of a world file, one after another.
 use Rattle.std.proofs.Common.{◌≡◌, ℕ, suc, ◌+◌, ◌^◌, ◌≤◌, List, [], ◌∷◌, ◌++◌, length, length-append, true, false, Result, Ok, Err, codes, refl, sym, ap, ◌∙◌, append_assoc, arith}
-use Rattle.std.specs.Prelude.{◌==◌}
 use Rattle.std.specs.List.{All}
-use Rattle.std.proofs.lemmas.Bool.{ne_eqb}
 use Rattle.lisp_graph.specs.store_word.declared.space.Space.{Space}
 use Rattle.lisp_graph.specs.KeyedGraph.{KeyedGraph}
 use Rattle.lisp_graph.specs.declared.world.AreaRule.{AreaRule}
 use Rattle.lisp_graph.specs.declared.world.World.{World}
-use Rattle.world_text.specs.declared.fault.WorldFault.TheVariants.{Bad}
 use Rattle.world_text.specs.declared.fault.WorldStep.{WorldStep}
 use Rattle.world_text.specs.declared.fault.WorldStep.TheVariants.{WorldEnds}
-use Rattle.world_text.specs.declared.reading.reason.Reason.TheVariants.{BadLine}
-use Rattle.world_text.specs.declared.reading.reader.Section.{Section}
-use Rattle.world_text.specs.declared.reading.reader.Section.TheVariants.{Opening, Sizing, FirstArea, Areas, Objects, Roots, Closed}
+use Rattle.world_text.specs.declared.reading.reader.Section.TheVariants.{Closed}
 use Rattle.world_text.specs.declared.reading.reader.WorldReader.{WorldReader}
 use Rattle.world_text.specs.Dump.{IsDump}
-use Rattle.world_text.specs.Line.{line_at, line_in as world_line_in}
+use Rattle.world_text.specs.Line.{line_at}
 use Rattle.world_text.specs.Next.{◌>>=◌}
 use Rattle.world_text.specs.Reader.{Said as WorldSaid, is_closed}
-use Rattle.world_text.specs.Words.{is_well_formed}
-use Rattle.world_text.proofs.reading_laws.ReadLaws.{guard_ok}
 use Rattle.line_input.specs.declared.judging.input.InputReader.{InputReader}
 use Rattle.line_input.specs.declared.world_file.WorldFile.{WorldFile}
 use Rattle.line_input.specs.declared.statuses.status.RunError.{RunError}
-use Rattle.line_input.specs.Lines.{Line, lines_of}
+use Rattle.line_input.specs.Lines.{lines_of}
 use Rattle.line_input.specs.Reader.{no_feed}
 use Rattle.line_input.specs.Verdict.{Said, decided, ended, judged, judged_as}
 use Rattle.line_input.specs.Verdict as lines
 use Rattle.line_input.specs.WorldFile.{file_rules, next, start, verdict}
 use Rattle.line_input.proofs.Cuts.{lines_feed}
-use Rattle.line_input.proofs.Judged.{judged_here}
+use Rattle.line_input.proofs.JudgedLines.{judged_here}
+use Rattle.line_input.proofs.WorldLines.{accepts_open, printable_has_no_feed}
 use Rattle.file_modes.specs.dump_laws.Back.{IsLine, KeepsLimits, read_from, read_world, with_feeds}
-use Rattle.file_modes.proofs.dump_laws.Back.{dump_back}
+use Rattle.file_modes.proofs.dump_laws.DumpLines.{dump_back}
 
 -- One line
-
-clean : (line : List ℕ) → All (λ byte. (32 ≤ byte) × (byte ≤ 126)) line → no_feed line ≡ true
-clean [] all = refl
-clean (x ∷ xs) all =
-    let low : 32 ≤ x = (all 0 x (omega arith)).0 in
-    let other : x == 10 ≡ false = ne_eqb x 10 (λ e. omega arith) in
-    let rest = clean xs (λ index default within. all (suc index) default (omega arith)) in
-    rw (other, rest) refl
-
--- no line is accepted after the one that closes the world
-accepts_going : (place : WorldReader) (text : List ℕ) (said : WorldStep × WorldReader) → line_at place text ≡ Ok said → is_closed place.part ≡ false
-unfolding world_line_in
-accepts_going place text said is = go place.part refl
-  where
-    go : (part : Section) → place.part ≡ part → is_closed part ≡ false
-    go Opening e = refl
-    go Sizing e = refl
-    go FirstArea e = refl
-    go Areas e = refl
-    go Objects e = refl
-    go Roots e = refl
-    go Closed e =
-        let closed = rw e at is in
-        let g = guard_ok (is_well_formed text) _ (Bad BadLine) said closed in
-        absurd (cc (g.1))
 
 -- the place after a line with this number of bytes, after which the builder is this one
 abbrev after : InputReader WorldFile → ℕ → WorldReader → InputReader WorldFile
@@ -67,7 +36,7 @@ after place size builder = record { judge = record { builder = builder }; lines 
 one_line : (place : InputReader WorldFile) (line rest : List ℕ) (said : WorldStep × WorldReader) → line_at place.judge.builder line ≡ Ok said → no_feed line ≡ true → length line ≤ 32768 → place.bytes + (length line + 1) ≤ 2 ^ 40
     → judged file_rules place (lines_of ((line ++ 10 ∷ []) ++ rest)) ≡ judged file_rules (after place (length line + 1) said.1) (lines_of rest)
 one_line place line rest (step, builder) is feed short small =
-    let going : is_closed place.judge.builder.part ≡ false = accepts_going place.judge.builder line (step, builder) is in
+    let going : is_closed place.judge.builder.part ≡ false = accepts_open place.judge.builder line (step, builder) is in
     let cut : lines_of ((line ++ 10 ∷ []) ++ rest) ≡ record { text = line; whole = true } ∷ lines_of rest = ap lines_of (append_assoc line (10 ∷ []) rest) ∙ lines_feed line rest feed in
     let here : judged_as file_rules place line (length line + 1) ≡ Ok (after place (length line + 1) builder) =
     judged_here file_rules place (record { builder = builder }) line (length line + 1) going (omega arith) short (ap (next (place.lines + 1) place.judge) is) in
@@ -94,7 +63,7 @@ line_more line others place last rest behind is good small = go (line_at place.j
         let size = length-append line (10 ∷ []) in
         let sum = length-append (line ++ 10 ∷ []) (with_feeds others) in
         let more : InputReader WorldFile = after place (length line + 1) builder in
-        let one = one_line place line (with_feeds others ++ rest) (step, builder) e (clean line good.graphic) good.short (omega arith) in
+        let one = one_line place line (with_feeds others ++ rest) (step, builder) e (printable_has_no_feed line good.graphic) good.short (omega arith) in
         let b = behind more f (omega arith) in
         record {
           next = b.next;

@@ -1,11 +1,11 @@
-pub mod Telling
-pub mod Charged
-pub mod Lines
+pub mod ModeAnswers
+pub mod ObjectCounts
+pub mod WorldFiles
 mod DumpFiles
-mod Sound
-mod Taking
+mod WorldReferences
+mod TextPrefixes
 mod Worlds
-mod Meant
+mod SexprTexts
 pub use Rattle.why_held.proofs.dump_laws
 pub use Rattle.line_input.proofs as line_input
 pub use Rattle.sexpr_text.proofs as sexpr_text

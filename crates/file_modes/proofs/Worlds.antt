@@ -18,7 +18,7 @@ use Rattle.world_text.specs.declared.reading.reader.WorldReader.{WorldReader}
 use Rattle.world_text.specs.Reader.{Said, opening_place}
 use Rattle.world_text.specs.Line.{line_at}
 use Rattle.world_text.specs.Limits.{IsReached, has_objects}
-use Rattle.world_text.proofs.reading_laws.Reached.{judged_reached, opening_reached}
+use Rattle.world_text.proofs.reading_laws.PlaceInvariant.{judged_reached, opening_reached}
 use Rattle.sexpr_text.specs.declared.bracket.Bracket.{Bracket}
 use Rattle.sexpr_text.specs.declared.token.Piece.{Piece}
 use Rattle.sexpr_text.specs.declared.token.Token.{Token}
@@ -34,7 +34,7 @@ use Rattle.sexpr_text.specs.Reading.{expression, misplaced, refused}
 use Rattle.sexpr_text.specs.Roots.{Rooted, ended, is_last_token, is_root, register_at, root_at, roots_from, unrooted, with_root}
 use Rattle.sexpr_text.specs.Meaning.{Head, behind_line, first_line, graph_behind, header, header_line, meaning, place_behind, said_behind, second_place}
 use Rattle.file_modes.specs.Modes.{IsDumpable}
-use Rattle.file_modes.proofs.Sound.{ArePlain, AreBelow, IsPlain, behind, bind_parts, expression_sound, ok_is}
+use Rattle.file_modes.proofs.WorldReferences.{ArePlain, AreBelow, IsPlain, behind, bind_parts, expression_sound, ok_is}
 
 -- Tokens
 

@@ -1,6 +1,6 @@
-pub mod Moving
-pub mod Keeping
-pub mod Padding
+pub mod FrameMoves
+pub mod PoolUpdates
+pub mod PaddedWords
 pub mod Spans
-pub mod Starting
+pub mod NewPool
 pub use Rattle.index_lists.proofs as index_lists

@@ -231,6 +231,17 @@ impl FramePool {
         self.words.page(frame)
     }
 
+    /// One word of a frame. The offset is below 256.
+    #[inline]
+    pub fn word(&self, frame: u32, offset: u32) -> Word
+        requires frame { frame < frames_of self.now }
+        requires in_range { offset < 256 }
+        ensures value { result ≡ slice_index_or self.now.words (256 * frame + offset) null_word }
+        ensures sound { IsPool self.now }
+    {
+        self.words.word(frame, offset)
+    }
+
     /// Changes one word of a frame. The offset is below 256.
     pub fn set_word(&mut self, frame: u32, offset: u32, word: Word)
         requires frame { frame < frames_of self.old }

@@ -60,6 +60,21 @@ impl FrameWords {
         }
     }
 
+    /// One word of a frame.
+    #[inline]
+    pub(crate) fn word(&self, frame: u32, offset: u32) -> Word
+        requires frame { 256 * frame + 256 ≤ length self.now }
+        requires in_range { offset < 256 }
+        ensures { result ≡ slice_index_or self.now (256 * frame + offset) null_word }
+    {
+        let at = frame as usize * PAGE_WORDS + offset as usize;
+        if at < self.stored.len() {
+            self.stored[at]
+        } else {
+            Word::null()
+        }
+    }
+
     /// Changes one word of a frame.
     pub(crate) fn set(&mut self, frame: u32, offset: u32, word: Word)
         requires frame { 256 * frame + 256 ≤ length self.old }

@@ -7,16 +7,19 @@ use Rattle.lisp_graph.specs.declared.command.Condemn.{Condemn}
 use Rattle.lisp_graph.specs.declared.reply.Reply.TheVariants as R
 use Rattle.mem_port.specs.Store.{Store}
 use Rattle.area_space.specs.Table.{Table}
+use Rattle.area_space.specs.View.{GroundView}
 use Rattle.heap_state.specs.lisp_meaning.State.{Collection, Phase, Idle, Running, State}
 use Rattle.heap_state.specs.lisp_meaning.Flip.{Settles, flipped}
 use Rattle.heap_state.specs.lisp_meaning.Roles.{RoleMap}
 use Rattle.heap_state.specs.lisp_meaning.Step.{Flips, Reclaims, Replied}
 use Rattle.scavenger.specs.Scan.{Scan}
+use Rattle.scavenger.specs.Starting.{base_pages}
 use Rattle.heap_state.specs.RepresentsAll.{RepresentsAll}
 use Rattle.heap_state.specs.StepsTo.{StepsTo}
+use Rattle.heap_collect.specs.Collections.{BeginsCollection, EndsCollection}
 use Rattle.heap_collect.specs.Moments.{HasSettled, IsDone, IsIdle, RepresentsMachineState, StandsForSome}
-use Rattle.heap_collect.proofs.Reclaimed.{swept_of}
-use Rattle.heap_collect.proofs.ScannedAhead.{idle_phase, running_phase}
+use Rattle.heap_collect.proofs.GroundReclaims.{swept_of}
+use Rattle.heap_collect.proofs.ScanSequences.{idle_phase, running_phase}
 
 pub stands_for_some : {m : Store} {t : Table} {scan : Scan} {registers : List Parts} → RepresentsMachineState m t scan registers → StandsForSome m t scan
 stands_for_some {m} {t} {scan} {registers} x = record { registers = registers; map = x.map; state = x.state; represents = x.represents }
@@ -34,21 +37,6 @@ module _ (m : Store) (t : Table) (scan : Scan) where
   busy_steps registers what some k s b =
       let run = running_phase t s.phase b.represents.aims some in
       record { next = s; step = inl (subst (λ (p : Phase). Flips s p what (Replied R.Busy) s) (sym run.1) (refl, refl)); map = k; represents = b.represents; scans = b.scans }
-
-  pub flip_steps : (m' : Store) (t' : Table) (scan' : Scan) (registers : List Parts) (what : Condemn) (pages : ℕ) → t.aim ≡ None → pages ≤ 16 * t.regions
-      → ((registers : List Parts) (k : RoleMap) (s : State) → RepresentsAll m t scan registers k s → s.phase ≡ Idle → length registers ≡ s.space.registers → RepresentsAll m' t' scan' registers k (flipped s what pages))
-      → (k : RoleMap) (s : State) → RepresentsAll m t scan registers k s → length registers ≡ s.space.registers → t.regions ≡ s.space.regions → StepsTo m' t' scan' registers s (C.Flip what) (R.Flipped pages)
-  flip_steps m' t' scan' registers what pages none few flips k s b count size =
-      let idle = idle_phase t s.phase b.represents.aims none in
-      let x = flips registers k s b idle count in
-      let low : pages ≤ 16 * s.space.regions = omega arith in
-      record {
-        next = flipped s what pages;
-        step = inl (subst (λ (p : Phase). Flips s p what (Replied (R.Flipped pages)) (flipped s what pages)) (sym idle) (pages, low, refl, refl));
-        map = k;
-        represents = x.represents;
-        scans = x.scans;
-      }
 
   pub flips_told : (m' : Store) (t' : Table) (scan' : Scan) (what : Condemn) (pages told : ℕ) → t.aim ≡ None → pages ≡ told
       → ((registers : List Parts) (k : RoleMap) (s : State) → RepresentsAll m t scan registers k s → s.phase ≡ Idle → length registers ≡ s.space.registers → RepresentsAll m' t' scan' registers k (flipped s what pages))
@@ -91,15 +79,6 @@ module _ (m : Store) (t : Table) (scan : Scan) where
         scans = b.scans;
       }
 
-  pub settled : (m' : Store) (t' : Table) (registers : List Parts) → (t.aim ≡ None → ⊥) → scan.over ≡ true
-      → ((scan : Scan) (registers : List Parts) (k : RoleMap) (s : State) (c : Collection) → RepresentsAll m t scan registers k s → s.phase ≡ Running c → c.over ≡ true
-      → (map : RoleMap) × (new : State) × RepresentsAll m' t' scan registers map new × Settles s c.aim new)
-      → (k : RoleMap) (s : State) → RepresentsAll m t scan registers k s → HasSettled m' t' scan registers s
-  settled m' t' registers some over reclaims k s b =
-      let run = running_phase t s.phase b.represents.aims some in
-      let x = reclaims scan registers k s run.0 b run.1 (sym (over_by registers k s run.0 b run.1) ∙ over) in
-      record { collection = run.0; running = run.1; next = x.1; settles = x.3; map = x.0; represents = x.2 }
-
   pub reclaim_steps : (m' : Store) (t' : Table) (registers : List Parts) → scan.over ≡ true
       → (k : RoleMap) (s : State) → RepresentsAll m t scan registers k s → HasSettled m' t' scan registers s → StepsTo m' t' scan registers s C.Reclaim R.Reclaimed
   reclaim_steps m' t' registers over k s b x =
@@ -113,3 +92,24 @@ module _ (m : Store) (t : Table) (scan : Scan) where
         represents = x.represents.represents;
         scans = x.represents.scans;
       }
+
+module _ {old new : GroundView} {scan : Scan} where
+  pub flip_steps : {scan' : Scan} {what : Condemn} {pages : ℕ} → BeginsCollection old new scan scan' what → pages ≡ base_pages new.mem.store new.table what → old.table.aim ≡ None
+      → (registers : List Parts) (k : RoleMap) (s : State) → RepresentsAll old.mem.store old.table scan registers k s → length registers ≡ s.space.registers → old.table.regions ≡ s.space.regions → StepsTo new.mem.store new.table scan' registers s (C.Flip what) (R.Flipped pages)
+  flip_steps {scan'} {what} {pages} begins same none registers k s b count size =
+      let idle = idle_phase old.table s.phase b.represents.aims none in
+      let x : RepresentsAll new.mem.store new.table scan' registers k (flipped s what pages) = rw same (begins.flips registers k s b count) in
+      let few = begins.at_most in
+      let low : pages ≤ 16 * s.space.regions = omega arith in
+      record {
+        next = flipped s what pages;
+        step = inl (subst (λ (p : Phase). Flips s p what (Replied (R.Flipped pages)) (flipped s what pages)) (sym idle) (pages, low, refl, refl));
+        map = k;
+        represents = x.represents;
+        scans = x.scans;
+      }
+
+  pub settled : EndsCollection old new → (old.table.aim ≡ None → ⊥) → scan.over ≡ true → (registers : List Parts) (k : RoleMap) (s : State) → RepresentsAll old.mem.store old.table scan registers k s → HasSettled new.mem.store new.table scan registers s
+  settled ends some over registers k s b =
+      let run = running_phase old.table s.phase b.represents.aims some in
+      ends.settles scan registers k s run.0 b run.1 (sym (over_by old.mem.store old.table scan registers k s run.0 b run.1) ∙ over)

@@ -15,21 +15,24 @@ use Rattle.area_space.specs.Accounts.{debt, level_total}
 use Rattle.area_space.specs.Flips.{Slot}
 use Rattle.area_space.specs.Frees.{Frees, outside_old}
 use Rattle.area_space.specs.Table.{Table, areas_of, levels_of, live, slot_of, slots_of}
+use Rattle.area_space.specs.View.{GroundView}
 use Rattle.heap_state.specs.lisp_meaning.Maps.{some_below}
 use Rattle.heap_state.specs.lisp_meaning.State.{Condemned, Collection, Idle, Phase, Running, State, aim_of, is_idle, no_aim}
 use Rattle.heap_state.specs.lisp_meaning.Flip.{Settles, flipped}
 use Rattle.heap_state.specs.lisp_meaning.Roles.{RoleMap}
 use Rattle.heap_state.specs.lisp_meaning.Run.{SilentFlip, SilentReclaim, capacity_of, full_levels, is_full}
 use Rattle.heap_state.specs.lisp_ground.GroundInvariant.{GroundInvariant}
-use Rattle.heap_state.proofs.lisp_ground.Levels.{level_totals_on}
+use Rattle.heap_state.proofs.lisp_ground.sums.Levels.{level_totals_on}
 use Rattle.scavenger.specs.Scan.{Scan}
 use Rattle.heap_state.specs.RepresentsAll.{RepresentsAll}
-use Rattle.heap_state.specs.Scans.{Scans}
-use Rattle.heap_collect.specs.Moments.{IsDone, IsIdle}
+use Rattle.heap_collect.specs.Collections.{EndsCollection}
+use Rattle.heap_collect.specs.Moments.{IsIdle}
 use Rattle.heap_collect.specs.Silent.{IsSilent, PreparesTo, StandsIn, capacity_at, collects_alone, done_from, flips_alone, flips_idle, full_bits, full_levels_on, is_full_on, placed_from, reclaims_alone, resident_from, some_set}
-use Rattle.heap_collect.proofs.Full.{bits_some, set_none, set_some}
-use Rattle.heap_collect.proofs.Reclaimed.{swept_of}
-use Rattle.heap_collect.proofs.ScannedAhead.{idle_phase, running_phase}
+use Rattle.heap_collect.specs.SilentSteps.{FlipsAlone, ReclaimsAlone}
+use Rattle.heap_collect.proofs.FreedRegions.{frees_nothing}
+use Rattle.heap_collect.proofs.FullLevels.{bits_some, set_none, set_some}
+use Rattle.heap_collect.proofs.GroundReclaims.{swept_of}
+use Rattle.heap_collect.proofs.ScanSequences.{idle_phase, over_while_idle, running_phase}
 
 -- Totals of levels after a reclaim
 
@@ -62,10 +65,6 @@ same_full t u space totals low =
 
 -- A reclaim
 
--- a phase for an aim
-pub over_while_idle : (m : Store) (t : Table) (scan : Scan) (registers : List Parts) (k : RoleMap) (s : State) → RepresentsAll m t scan registers k s → s.phase ≡ Idle → scan.over ≡ true
-over_while_idle m t scan registers k s x idle = (subst (λ (p : Phase). Scans m t scan registers k s.store p 0) idle x.scans).over
-
 module _ (m : Store) (t : Table) (scan : Scan) (registers : List Parts) (k : RoleMap) (s : State) (x : RepresentsAll m t scan registers k s) where
   pub done_here : (some : t.aim ≡ None → ⊥) → scan.over ≡ true → (c : Collection) × (s.phase ≡ Running c) × (c.over ≡ true)
   done_here some over =
@@ -88,10 +87,28 @@ module _ (m : Store) (t : Table) (scan : Scan) (registers : List Parts) (k : Rol
 pub reclaim_silent : (s new : State) (c : Collection) → s.phase ≡ Running c → c.over ≡ true → Settles s c.aim new → SilentReclaim s s.phase new
 reclaim_silent s new c running over settles = subst (λ (p : Phase). SilentReclaim s p new) (sym running) (subst (λ (b : Bool). MatchBool b (Settles s c.aim new) (new ≡ s)) (sym over) settles)
 
-pub is_done : (m : Store) (t : Table) (scan : Scan) (space : Space) → StandsIn m t scan space → (t.aim ≡ None → ⊥) → scan.over ≡ true → IsDone m t
-is_done m t scan space x some over =
-    let c = done_here m t scan x.registers x.map x.state x.represents some over in
-    record { scan = scan; registers = x.registers; map = x.map; state = x.state; collection = c.0; represents = x.represents; running = c.1; over = c.2 }
+-- both, for each state
+pub silent_reclaim : {old new : GroundView} {scan : Scan} → EndsCollection old new → (old.table.aim ≡ None → ⊥) → scan.over ≡ true → (registers : List Parts) (k : RoleMap) (s : State) → RepresentsAll old.mem.store old.table scan registers k s
+    → (map : RoleMap) × (mid : State) × RepresentsAll new.mem.store new.table scan registers map mid × SilentReclaim s s.phase mid × (mid.space ≡ s.space)
+silent_reclaim {old} {new} {scan} ends some over registers k s x =
+    let o = done_here old.mem.store old.table scan registers k s x some over in
+    let y = ends.settles scan registers k s o.0 x o.1 o.2 in
+    let same : o.0 ≡ y.collection = cc (o.1, y.running) in
+    (y.map, y.next, y.represents, reclaim_silent s y.next y.collection y.running (rw (← same) o.2) y.settles, y.settles.space)
+
+pub no_silent_reclaim : {scan : Scan} (v : GroundView) → (v.table.aim ≡ None) ⊎ (scan.over ≡ false) → ReclaimsAlone v v scan
+no_silent_reclaim {scan} v never = record {
+  step = λ registers k s x. (k, s, x, no_reclaim v.mem.store v.table scan registers k s x never, refl);
+  frees = frees_nothing v.mem.store v.table;
+  idle = λ over. gone over never;
+  going = λ _. refl;
+  levels = refl;
+  count = λ level low. refl;
+}
+  where
+    gone : scan.over ≡ true → (v.table.aim ≡ None) ⊎ (scan.over ≡ false) → v.table.aim ≡ None
+    gone over (inl none) = none
+    gone over (inr going) = absurd (cc)
 
 -- A flip
 
@@ -140,6 +157,18 @@ no_flip_running s c running =
 pub is_resting : (m : Store) (t : Table) (scan : Scan) (space : Space) → StandsIn m t scan space → t.aim ≡ None → IsIdle m t scan
 is_resting m t scan space x none = record { registers = x.registers; map = x.map; state = x.state; represents = x.represents; idle = idle_phase t x.state.phase x.represents.represents.aims none }
 
+-- no silent flip occurs, if a collection runs or no level is full
+pub no_silent_flip : {v : GroundView} {scan : Scan} {space : Space} → ((s : State) (registers : List Parts) (k : RoleMap) → RepresentsAll v.mem.store v.table scan registers k s → s.space ≡ space → SilentFlip s s) → (flips_idle v.table space ≡ true → ⊥) → FlipsAlone v v scan scan space
+no_silent_flip same never = record {
+  step = λ registers k s x is count. (s, x, same s registers k x is);
+  used = λ region. refl;
+  free = λ region free. free;
+  regions = refl;
+  begins = λ flips. absurd (never flips);
+  done = λ flips. absurd (never flips);
+  placed = λ flips. absurd (never flips);
+}
+
 -- Whether there is one, by tests
 
 pub aim_some : {A : Type 0} (o r : Option A) (b : Bool) → r ≡ o → b ≡ is_some r → b ≡ true → o ≡ None → ⊥
@@ -171,11 +200,9 @@ not_due true due is never = never
 not_due false due is never = absurd (cc)
 
 -- the ground after a reclaim is one that a flip may begin with
-pub stands_after : (m m' : Store) (t t' : Table) (scan : Scan) (space : Space) → StandsIn m t scan space → t'.regions ≡ t.regions
-    → ((registers : List Parts) (k : RoleMap) (s : State) → RepresentsAll m t scan registers k s → (map : RoleMap) × (mid : State) × RepresentsAll m' t' scan registers map mid × SilentReclaim s s.phase mid × (mid.space ≡ s.space))
-    → StandsIn m' t' scan space
-stands_after m m' t t' scan space x regions reclaims =
-    let r = reclaims x.registers x.map x.state x.represents in
+pub stands_after : {old new : GroundView} {scan : Scan} {space : Space} → StandsIn old.mem.store old.table scan space → new.table.regions ≡ old.table.regions → ReclaimsAlone old new scan → StandsIn new.mem.store new.table scan space
+stands_after x regions reclaims =
+    let r = reclaims.step x.registers x.map x.state x.represents in
     record { registers = x.registers; map = r.0; state = r.1; represents = r.2; space_is = r.4 ∙ x.space_is; count = x.count; regions = regions ∙ x.regions }
 
 both_silent : (s mid new : State) (space : Space) → s.space ≡ space → collects_alone space ≡ true → SilentReclaim s s.phase mid → SilentFlip mid new → IsSilent s new
@@ -209,14 +236,23 @@ prepares m t scan registers s mid new map space same alone first within second r
   represents = represents;
 }
 
+-- if no level is collected without a command, there are none
+pub prepares_none : (m : Store) (t : Table) (scan : Scan) (registers : List Parts) (k : RoleMap) (s : State) (space : Space) → RepresentsAll m t scan registers k s → s.space ≡ space → collects_alone space ≡ false → PreparesTo m t scan registers s
+prepares_none m t scan registers k s space x same quiet = record {
+  mid = s;
+  silent = subst (λ (b : Bool). MatchBool b ((mid : State) × SilentReclaim s s.phase mid × SilentFlip mid s) (s ≡ s)) (sym (ap collects_alone same ∙ quiet)) refl;
+  space = refl;
+  areas = refl;
+  map = k;
+  represents = x;
+}
+
 -- whether a flip occurs could be seen before the reclaim
-pub comes_alone : (m : Store) (t t' : Table) (scan : Scan) (space : Space) → StandsIn m t scan space → collects_alone space ≡ true
-    → (scan.over ≡ true → t'.aim ≡ None) → (scan.over ≡ false → t'.aim ≡ t.aim) → ((level : ℕ) → level < levels_of t → level_total t' level ≡ level_total t level)
-    → flips_idle t' space ≡ flips_alone t scan space
-comes_alone m t t' scan space x alone over going totals = go scan.over refl
+pub comes_alone : {old new : GroundView} {scan : Scan} {space : Space} → StandsIn old.mem.store old.table scan space → collects_alone space ≡ true → ReclaimsAlone old new scan → flips_idle new.table space ≡ flips_alone old.table scan space
+comes_alone {old} {new} {scan} {space} x alone reclaims = go scan.over refl
   where
-    full : is_some (full_levels_on t' space) ≡ is_some (full_levels_on t space)
-    full = ap is_some (same_full t t' space totals (low_levels m t scan space x).0)
+    full : is_some (full_levels_on new.table space) ≡ is_some (full_levels_on old.table space)
+    full = ap is_some (same_full old.table new.table space reclaims.count (low_levels old.mem.store old.table scan space x).0)
 
     idle : (o : Option Condemn) → o ≡ None → is_none o ≡ true
     idle o e = ap is_none e
@@ -225,13 +261,13 @@ comes_alone m t t' scan space x alone over going totals = go scan.over refl
     busy None some = absurd (some refl)
     busy (Some w) some = refl
 
-    go : (b : Bool) → scan.over ≡ b → flips_idle t' space ≡ flips_alone t scan space
+    go : (b : Bool) → scan.over ≡ b → flips_idle new.table space ≡ flips_alone old.table scan space
     go true e =
-        ap (λ (b : Bool). b && is_some (full_levels_on t' space)) (idle t'.aim (over e)) ∙ full
-        ∙ sym (ap (λ (b : Bool). b && (scan.over && is_some (full_levels_on t space))) alone ∙ ap (λ (b : Bool). b && is_some (full_levels_on t space)) e)
+        ap (λ (b : Bool). b && is_some (full_levels_on new.table space)) (idle new.table.aim (reclaims.idle e)) ∙ full
+        ∙ sym (ap (λ (b : Bool). b && (scan.over && is_some (full_levels_on old.table space))) alone ∙ ap (λ (b : Bool). b && is_some (full_levels_on old.table space)) e)
     go false e =
-        ap (λ (b : Bool). b && is_some (full_levels_on t' space)) (busy t'.aim (λ none. some_aim m t scan x.registers x.map x.state x.represents e (sym (going e) ∙ none)))
-        ∙ sym (ap (λ (b : Bool). b && (scan.over && is_some (full_levels_on t space))) alone ∙ ap (λ (b : Bool). b && is_some (full_levels_on t space)) e)
+        ap (λ (b : Bool). b && is_some (full_levels_on new.table space)) (busy new.table.aim (λ none. some_aim old.mem.store old.table scan x.registers x.map x.state x.represents e (sym (reclaims.going e) ∙ none)))
+        ∙ sym (ap (λ (b : Bool). b && (scan.over && is_some (full_levels_on old.table space))) alone ∙ ap (λ (b : Bool). b && is_some (full_levels_on old.table space)) e)
 
 -- the units that are scanned and the words that are placed after both
 
@@ -260,6 +296,14 @@ idle_flips t space flips = go t.aim flips
     go : (aim : Option Condemn) → (is_none aim && is_some (full_levels_on t space)) ≡ true → aim ≡ None
     go None is = refl
     go (Some what) is = absurd (cc (is))
+
+-- and only if a level is full
+pub full_flips : (t : Table) (space : Space) → full_levels_on t space ≡ None → flips_idle t space ≡ true → ⊥
+full_flips t space none flips = go (is_none t.aim) (sym (ap (λ (o : Option Levels). is_none t.aim && is_some o) none) ∙ flips)
+  where
+    go : (b : Bool) → (b && false) ≡ true → ⊥
+    go true e = cc
+    go false e = cc
 
 -- some property of the full levels, if they are those of another table
 pub full_again : (t u : Table) (space : Space) (P : Levels → Type 0) → full_levels_on u space ≡ full_levels_on t space → IfSome (full_levels_on u space) P → IfSome (full_levels_on t space) P

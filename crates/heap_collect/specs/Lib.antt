@@ -1,7 +1,10 @@
 pub mod Admitting
 pub mod Amounts
+pub mod Collections
 pub mod Freeing
 pub mod Laws
+pub mod MachineView
 pub mod Moments
 pub mod Silent
+pub mod SilentSteps
 pub mod Views

@@ -55,9 +55,13 @@ flips_idle t space = is_none t.aim && is_some (full_levels_on t space)
 abbrev pub flips_alone : Table → Scan → Space → Bool
 flips_alone t scan space = collects_alone space && (scan.over && is_some (full_levels_on t space))
 
--- and a reclaim does: some level is collected by itself, a collection runs, and its scan has finished
+-- a collection runs, and its scan has finished
+abbrev pub has_finished : Table → Scan → Bool
+has_finished t scan = scan.over && is_some t.aim
+
+-- and a reclaim does: some level is collected without a command, and a collection has finished
 abbrev pub reclaims_alone : Table → Scan → Space → Bool
-reclaims_alone t scan space = collects_alone space && (scan.over && is_some t.aim)
+reclaims_alone t scan space = collects_alone space && has_finished t scan
 
 -- the units that were scanned of the collection that runs when an allocation begins, and the words placed since its flip
 abbrev pub done_from : Table → Scan → Space → ℕ

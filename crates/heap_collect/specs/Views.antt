@@ -5,7 +5,6 @@ use Rattle.heap_state.specs.lisp_meaning.State.{State}
 use Rattle.scavenger.specs.Scan.{Scan}
 use Rattle.store_word.specs.Words.{Parts}
 use Rattle.store_word.specs.declared.space.Space.{Space}
-use Rattle.heap_collect.specs.Amounts as amounts
 use Rattle.heap_collect.specs.Freeing as freeing
 use Rattle.heap_collect.specs.Moments as moments
 use Rattle.heap_collect.specs.Silent as silent
@@ -27,9 +26,6 @@ RepresentsMachineState v = moments.RepresentsMachineState v.mem.store v.table
 
 abbrev pub PreparesTo : GroundView → Scan → List Parts → State → Type 0
 PreparesTo v = silent.PreparesTo v.mem.store v.table
-
-abbrev pub ScansOn : GroundView → Scan → List Parts → GroundView → Scan → List Parts → Type 0
-ScansOn v scan registers v' = amounts.ScansOn v.mem.store v.table scan registers v'.mem.store v'.table
 
 abbrev pub StandsForSome : GroundView → Scan → Type 0
 StandsForSome v = moments.StandsForSome v.mem.store v.table

@@ -1,17 +1,15 @@
 //! Flips and reclaims.
-ghost use Rattle.std.specs.Prelude.{◌≡◌, ◌≢◌, List, [], None, ◌*◌, false, length, true, ◌≤◌};
-ghost use Rattle.area_space.specs.View.{view};
-ghost use Rattle.scavenger.specs.Views.{Begins, base_pages};
-ghost use Rattle.heap_collect.specs.Views.{FreesAtMost, HasSettled, IsDone, IsIdle, StandsForSome};
-ghost use Rattle.heap_state.specs.Views.{RepresentsAll, StepsTo};
-ghost use Rattle.lisp_graph.specs.declared.command.Command.TheVariants.{Flip as FlipCommand, Reclaim as ReclaimCommand};
+ghost use Rattle.std.specs.Prelude.{◌≡◌, ◌≢◌, List, None, false, length, true};
 ghost use Rattle.store_word.specs.Words.{Parts};
-ghost use Rattle.area_space.specs.Flips.{Condemns};
-ghost use Rattle.area_space.specs.Frees.{Frees, outside_old};
-ghost use Rattle.heap_state.specs.lisp_meaning.State.{Collection, Idle, Running, State};
-ghost use Rattle.heap_state.specs.lisp_meaning.Flip.{Settles, flipped};
+ghost use Rattle.lisp_graph.specs.declared.command.Command.TheVariants.{Flip as FlipCommand, Reclaim as ReclaimCommand};
+ghost use Rattle.area_space.specs.Frees.{outside_old};
+ghost use Rattle.area_space.specs.View.{view};
+ghost use Rattle.scavenger.specs.Views.{base_pages};
+ghost use Rattle.heap_state.specs.Views.{RepresentsAll, StepsTo};
 ghost use Rattle.heap_state.specs.lisp_meaning.Roles.{RoleMap};
-ghost use Rattle.scavenger.specs.Scan.{Scan};
+ghost use Rattle.heap_state.specs.lisp_meaning.State.{State};
+ghost use Rattle.heap_collect.specs.Collections.{BeginsCollection, CountsUnchanged, EndsCollection, Reclaims};
+ghost use Rattle.heap_collect.specs.Views.{FreesAtMost, IsDone, IsIdle, StandsForSome};
 
 use area_space::Ground;
 use lisp_graph::{Condemn, Reply};
@@ -27,21 +25,11 @@ pub fn flip<M: Memory>(ground: &mut Ground<M>, scan: &mut ScanSet, what: Condemn
     ensures step { (registers : List Parts) (k : RoleMap) (s : State) → RepresentsAll (view ground.old) scan.old registers k s
         → length registers ≡ s.space.registers → ground.old.table.regions ≡ s.space.regions
         → StepsTo (view ground.new) scan.new registers s (FlipCommand what) result }
-    ensures flips { ground.old.table.aim ≡ None → (registers : List Parts) (k : RoleMap) (s : State)
-        → RepresentsAll (view ground.old) scan.old registers k s → length registers ≡ s.space.registers
-        → RepresentsAll (view ground.new) scan.new registers k (flipped s what (base_pages (view ground.new) what)) }
+    ensures begins { ground.old.table.aim ≡ None → BeginsCollection (view ground.old) (view ground.new) scan.old scan.new what }
 
     // the reply
-    ensures refused { ground.old.table.aim ≢ None → (result ≡ Reply.Busy) × (ground.new ≡ ground.old) × (scan.new ≡ scan.old) }
     ensures pages { ground.old.table.aim ≡ None → result ≡ Reply.Flipped (base_pages (view ground.new) what) }
-
-    // what is old, and what remains to be scanned
-    ensures table { ground.old.table.aim ≡ None → Condemns ground.old.table (record ground.new.table { pages = [] }) what }
-    ensures begins { ground.old.table.aim ≡ None → Begins (view ground.new) what scan.old scan.new }
-    ensures at_most { ground.old.table.aim ≡ None → base_pages (view ground.new) what ≤ 16 * ground.old.table.regions }
-    ensures going { ground.old.table.aim ≡ None → scan.new.over ≡ false }
-    ensures done { ground.old.table.aim ≡ None → scan.new.done ≡ 0 }
-    ensures placed { ground.old.table.aim ≡ None → ground.new.table.placed ≡ 0 }
+    ensures refused { ground.old.table.aim ≢ None → (result ≡ Reply.Busy) × (ground.new ≡ ground.old) × (scan.new ≡ scan.old) }
 
     // what is unchanged
     ensures memory { ground.new.mem ≡ ground.old.mem }
@@ -63,29 +51,18 @@ pub fn reclaim<M: Memory>(ground: &mut Ground<M>, scan: &ScanSet) -> Reply
     // what the machine represents
     ensures step { (registers : List Parts) (k : RoleMap) (s : State) → RepresentsAll (view ground.old) scan.now registers k s
         → StepsTo (view ground.new) scan.now registers s ReclaimCommand result }
-    ensures reclaims { result ≡ Reply.Reclaimed → (registers : List Parts) (k : RoleMap) (s : State)
-        → RepresentsAll (view ground.old) scan.now registers k s → HasSettled (view ground.new) scan.now registers s }
-    ensures settles { result ≡ Reply.Reclaimed → (other : Scan) (registers : List Parts) (k : RoleMap) (s : State) (c : Collection)
-        → RepresentsAll (view ground.old) other registers k s → s.phase ≡ Running c → c.over ≡ true
-        → HasSettled (view ground.new) other registers s }
+    ensures reclaims { result ≡ Reply.Reclaimed → Reclaims (view ground.old) (view ground.new) scan.now }
 
     // the reply
-    ensures idle { ground.old.table.aim ≡ None → (result ≡ Reply.NotFlipped) × (ground.new ≡ ground.old) }
-    ensures left { ground.old.table.aim ≢ None → scan.now.over ≡ false → (result ≡ Reply.NotDone) × (ground.new ≡ ground.old) }
+    ensures idle { ground.old.table.aim ≡ None → result ≡ Reply.NotFlipped }
+    ensures left { ground.old.table.aim ≢ None → scan.now.over ≡ false → result ≡ Reply.NotDone }
     ensures over { ground.old.table.aim ≢ None → scan.now.over ≡ true → result ≡ Reply.Reclaimed }
 
-    // what is freed
-    ensures free { result ≡ Reply.Reclaimed → Frees ground.old.table ground.new.table }
+    // what is freed, and what is unchanged
     ensures at_most { FreesAtMost (view ground.old) (view ground.new) }
     ensures resident { result ≡ Reply.Reclaimed → M.resident ground.new.mem ≡ outside_old ground.old.table (M.resident ground.old.mem) }
-    ensures end { result ≡ Reply.Reclaimed → ground.new.table.aim ≡ None }
-
-    // what is unchanged
     ensures unchanged { result ≢ Reply.Reclaimed → ground.new ≡ ground.old }
-    ensures regions { ground.new.table.regions ≡ ground.old.table.regions }
-    ensures placed { ground.new.table.placed ≡ ground.old.table.placed }
-    ensures no_fault { M.faults ground.new.mem ≡ M.faults ground.old.mem }
-    ensures taken { M.taken ground.new.mem ≡ M.taken ground.old.mem }
+    ensures no_fault { CountsUnchanged (view ground.old) (view ground.new) }
 {
     if ground.table.condemned().is_none() {
         return Reply::NotFlipped;
@@ -107,22 +84,8 @@ pub(crate) fn begin_collection<M: Memory>(
     what: Condemn,
 ) -> u32
     requires idle { IsIdle (view ground.old) scan.old }
-
-    // what the machine represents, and what is old
-    ensures flips { (registers : List Parts) (k : RoleMap) (s : State)
-        → RepresentsAll (view ground.old) scan.old registers k s → s.phase ≡ Idle → length registers ≡ s.space.registers
-        → RepresentsAll (view ground.new) scan.new registers k (flipped s what result) }
-    ensures table { Condemns ground.old.table (record ground.new.table { pages = [] }) what }
-
-    // what remains to be scanned
+    ensures begins { BeginsCollection (view ground.old) (view ground.new) scan.old scan.new what }
     ensures pages { result ≡ base_pages (view ground.new) what }
-    ensures begins { Begins (view ground.new) what scan.old scan.new }
-    ensures at_most { result ≤ 16 * ground.old.table.regions }
-    ensures going { scan.new.over ≡ false }
-    ensures done { scan.new.done ≡ 0 }
-    ensures placed { ground.new.table.placed ≡ 0 }
-
-    // what is unchanged
     ensures memory { ground.new.mem ≡ ground.old.mem }
     ensures regions { ground.new.table.regions ≡ ground.old.table.regions }
 {
@@ -138,18 +101,11 @@ pub(crate) fn begin_collection<M: Memory>(
 // condemned object that was transported remains, at its survivor's level. The swap can't fail in it.
 pub(crate) fn end_collection<M: Memory>(ground: &mut Ground<M>)
     requires done { IsDone (view ground.old) }
-    ensures reclaims { (scan : Scan) (registers : List Parts) (k : RoleMap) (s : State) (c : Collection)
-        → RepresentsAll (view ground.old) scan registers k s → s.phase ≡ Running c → c.over ≡ true
-        → (map : RoleMap) × (new : State) × RepresentsAll (view ground.new) scan registers map new × Settles s c.aim new }
-    ensures free { Frees ground.old.table ground.new.table }
+    ensures reclaims { EndsCollection (view ground.old) (view ground.new) }
     ensures at_most { FreesAtMost (view ground.old) (view ground.new) }
     ensures resident { M.resident ground.new.mem ≡ outside_old ground.old.table (M.resident ground.old.mem) }
-    ensures idle { ground.new.table.aim ≡ None }
-    ensures placed { ground.new.table.placed ≡ ground.old.table.placed }
-    ensures no_fault { M.faults ground.new.mem ≡ M.faults ground.old.mem }
-    ensures taken { M.taken ground.new.mem ≡ M.taken ground.old.mem }
+    ensures no_fault { CountsUnchanged (view ground.old) (view ground.new) }
 {
-    ground.table.assert_invariant();
     ground.free_old();
     ground.table.assert_invariant();
     assert_invariant(&ground.mem);

@@ -1,17 +1,15 @@
 //! Scans a number of units.
-ghost use Rattle.std.specs.Prelude.{◌≡◌, ◌≢◌, ◌+◌, ◌-◌, ◌*◌, ◌<◌, ◌≤◌, None, OnOk, OnErr, false, true};
+ghost use Rattle.std.specs.Prelude.{◌≡◌, ◌≢◌, None, OnOk, OnErr, false, true};
 ghost use Rattle.mem_port.specs.View.{AccountsForFaults, AccountsForFaultsIf};
 ghost use Rattle.area_space.specs.View.{view};
-ghost use Rattle.heap_collect.specs.Views.{RepresentsMachineState, ScansOn};
-ghost use Rattle.heap_state.specs.Reads.{is_fault};
-ghost use Rattle.heap_state.specs.Views.{HasScannedAhead, RepresentsAll, StepsTo};
-ghost use Rattle.scavenger.specs.Views.{ScansUpTo};
 ghost use Rattle.lisp_graph.specs.declared.command.Command.TheVariants.{Scavenge as ScavengeCommand};
+ghost use Rattle.heap_state.specs.Reads.{is_fault};
+ghost use Rattle.heap_state.specs.Views.{RepresentsAll, StepsTo};
 ghost use Rattle.heap_state.specs.lisp_meaning.Roles.{RoleMap};
 ghost use Rattle.heap_state.specs.lisp_meaning.State.{State};
-ghost use Rattle.heap_state.specs.transporter.LiveWordsUnchanged.{OnlyGrows};
-ghost use Rattle.heap_state.specs.transporter.Preserving.{RegistersPreserved};
-ghost use Rattle.heap_collect.specs.Amounts.{Amount, CountsPlaced};
+ghost use Rattle.heap_collect.specs.Amounts.{RepresentsAhead, ScansOn, ScansUnits};
+ghost use Rattle.heap_collect.specs.MachineView.{machine};
+ghost use Rattle.heap_collect.specs.Views.{RepresentsMachineState};
 
 use area_space::Ground;
 use lisp_graph::Reply;
@@ -38,31 +36,11 @@ pub(crate) fn scan_ahead<M: Memory, L: Ledger>(
     steps: &mut Steps<L>,
 ) -> Result<(), SwapFault>
     requires represented { RepresentsMachineState (view ground.old) scan.old registers.old }
-
-    // what the machine represents
-    ensures step { OnOk result ((k : RoleMap) (s : State) → RepresentsAll (view ground.old) scan.old registers.old k s
-        → HasScannedAhead (view ground.old) (view ground.new) scan.new registers.new k s limit) }
-    ensures fault { OnErr result ((k : RoleMap) (s : State) → RepresentsAll (view ground.old) scan.old registers.old k s
-        → HasScannedAhead (view ground.old) (view ground.new) scan.new registers.new k s 0) }
-
-    // what is scanned
-    ensures scans { OnOk result (ground.old.table.aim ≢ None → ScansUpTo (view ground.old) scan.old registers.old (view ground.new) scan.new registers.new limit) }
-    ensures count { OnOk result (Amount scan.old scan.new limit) }
-    ensures goes_on { ScansOn (view ground.old) scan.old registers.old (view ground.new) scan.new registers.new }
-
-    // what is unchanged
-    ensures unchanged { OnOk result (scan.new.begun ≡ scan.old.begun) }
+    ensures ok { OnOk result (ScansUnits (machine ground.old scan.old registers.old) (machine ground.new scan.new registers.new) limit steps.old steps.new) }
+    ensures fault { OnErr result (RepresentsAhead (machine ground.old scan.old registers.old) (machine ground.new scan.new registers.new) 0) }
+    ensures goes_on { ScansOn (machine ground.old scan.old registers.old) (machine ground.new scan.new registers.new) }
     ensures idle { ground.old.table.aim ≡ None → (ground.new ≡ ground.old) × (scan.new ≡ scan.old) × (registers.new ≡ registers.old) × (steps.new ≡ steps.old) }
-    ensures registers { RegistersPreserved ground.new.table registers.old registers.new }
-    ensures regions { ground.new.table.regions ≡ ground.old.table.regions }
-    ensures table { OnlyGrows ground.old.table ground.new.table }
-
-    // costs and swap errors
-    ensures grows { ground.old.table.placed ≤ ground.new.table.placed }
-    ensures placed { CountsPlaced ground.old.table ground.new.table }
-    ensures at_most { OnOk result (ground.new.table.placed ≤ ground.old.table.placed + 2048 * (scan.new.done - scan.old.done)) }
     ensures accounted { AccountsForFaults (view ground.old).mem (view ground.new).mem steps.old steps.new result }
-    ensures cost { OnOk result (steps.new ≤ steps.old + 4 * (ground.new.table.placed - ground.old.table.placed) + 48 * (scan.new.done - scan.old.done)) }
 {
     if ground.table.condemned().is_none() {
         return Ok(());
@@ -90,29 +68,15 @@ pub fn scavenge<M: Memory, L: Ledger>(
     ensures step { (k : RoleMap) (s : State) → RepresentsAll (view ground.old) scan.old registers.old k s
         → StepsTo (view ground.new) scan.new registers.new s (ScavengeCommand count) result }
 
-    // what is scanned
-    ensures scans { result ≢ Reply.Fault → ground.old.table.aim ≢ None → ScansUpTo (view ground.old) scan.old registers.old (view ground.new) scan.new registers.new count }
-    ensures count { result ≢ Reply.Fault → Amount scan.old scan.new count }
-    ensures goes_on { ScansOn (view ground.old) scan.old registers.old (view ground.new) scan.new registers.new }
+    // what is scanned, and at which cost
+    ensures scans { result ≢ Reply.Fault → ScansUnits (machine ground.old scan.old registers.old) (machine ground.new scan.new registers.new) count steps.old steps.new }
+    ensures goes_on { ScansOn (machine ground.old scan.old registers.old) (machine ground.new scan.new registers.new) }
     ensures going { result ≡ Reply.More → scan.new.over ≡ false }
     ensures done { result ≡ Reply.Done → scan.new.over ≡ true }
-
-    // what is unchanged
-    ensures unchanged { result ≢ Reply.Fault → scan.new.begun ≡ scan.old.begun }
-    ensures registers { RegistersPreserved ground.new.table registers.old registers.new }
-    ensures table { OnlyGrows ground.old.table ground.new.table }
-
-    // costs and swap errors
-    ensures grows { ground.old.table.placed ≤ ground.new.table.placed }
-    ensures placed { CountsPlaced ground.old.table ground.new.table }
-    ensures at_most { result ≢ Reply.Fault → ground.new.table.placed ≤ ground.old.table.placed + 2048 * (scan.new.done - scan.old.done) }
     ensures accounted { AccountsForFaultsIf (view ground.old).mem (view ground.new).mem steps.old steps.new (is_fault result) }
-    ensures cost { result ≢ Reply.Fault → steps.new ≤ steps.old + 4 * (ground.new.table.placed - ground.old.table.placed) + 48 * (scan.new.done - scan.old.done) }
 {
-    if ground.table.condemned().is_none() {
-        return Reply::NotFlipped;
-    }
-    match scan.scan_up_to(ground, registers, u64::from(count), steps) {
+    match scan_ahead(ground, scan, registers, u64::from(count), steps) {
+        Ok(()) if ground.table.condemned().is_none() => Reply::NotFlipped,
         Ok(()) if scan.is_over() => Reply::Done,
         Ok(()) => Reply::More,
         Err(_) => Reply::Fault,

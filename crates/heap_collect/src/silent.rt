@@ -1,17 +1,12 @@
 //! The steps that a machine takes by itself before an allocation (silent steps).
-ghost use Rattle.std.specs.Prelude.{◌≡◌, ℕ, ◌*◌, ◌<◌, ◌≤◌, ◌&&◌, true, false, List, length, None, is_some, IfSome};
-ghost use Rattle.area_space.specs.View.{view};
-ghost use Rattle.scavenger.specs.Views.{Begins};
-ghost use Rattle.heap_collect.specs.Views.{FreesAtMost, PreparesTo, StandsIn};
-ghost use Rattle.heap_state.specs.Views.{RepresentsAll};
-ghost use Rattle.store_word.specs.Words.{Parts};
-ghost use Rattle.area_space.specs.Accounts.{level_total};
+ghost use Rattle.std.specs.Prelude.{◌≡◌, ◌<◌, ◌≤◌, true, false};
 ghost use Rattle.area_space.specs.Frees.{outside_old};
-ghost use Rattle.area_space.specs.Table.{levels_of, used_of, IsUnclassed};
-ghost use Rattle.heap_state.specs.lisp_meaning.Roles.{RoleMap};
-ghost use Rattle.heap_state.specs.lisp_meaning.Run.{SilentFlip, SilentReclaim};
-ghost use Rattle.heap_state.specs.lisp_meaning.State.{State};
-ghost use Rattle.heap_collect.specs.Silent.{collects_alone, done_from, flips_alone, flips_idle, full_levels_on, is_full_on, placed_from, reclaims_alone, resident_from};
+ghost use Rattle.area_space.specs.Table.{levels_of};
+ghost use Rattle.area_space.specs.View.{view};
+ghost use Rattle.heap_collect.specs.Collections.{CountsUnchanged};
+ghost use Rattle.heap_collect.specs.Silent.{collects_alone, flips_alone, flips_idle, full_levels_on, has_finished, is_full_on, reclaims_alone, resident_from};
+ghost use Rattle.heap_collect.specs.SilentSteps.{FlipsAlone, ReclaimsAlone, SilentSteps};
+ghost use Rattle.heap_collect.specs.Views.{StandsIn};
 
 use crate::collecting::{begin_collection, end_collection};
 use area_space::{Ground, RegionTable};
@@ -63,19 +58,10 @@ fn has_capacity(space: &Space) -> bool
 #[inline(never)]
 fn reclaim_alone<M: Memory>(ground: &mut Ground<M>, scan: &ScanSet, space: &Space)
     requires represented { StandsIn (view ground.old) scan.now space.now }
-    ensures reclaims { (registers : List Parts) (k : RoleMap) (s : State) → RepresentsAll (view ground.old) scan.now registers k s
-        → (map : RoleMap) × (mid : State) × RepresentsAll (view ground.new) scan.now registers map mid × SilentReclaim s s.phase mid × (mid.space ≡ s.space) }
-    ensures at_most { FreesAtMost (view ground.old) (view ground.new) }
-    ensures unchanged { (scan.now.over && is_some ground.old.table.aim) ≡ false → ground.new ≡ ground.old }
-    ensures resident { (scan.now.over && is_some ground.old.table.aim) ≡ true → M.resident ground.new.mem ≡ outside_old ground.old.table (M.resident ground.old.mem) }
-    ensures idle { scan.now.over ≡ true → ground.new.table.aim ≡ None }
-    ensures going { scan.now.over ≡ false → ground.new.table.aim ≡ ground.old.table.aim }
-    ensures count { (level : ℕ) → level < levels_of ground.old.table → level_total ground.new.table level ≡ level_total ground.old.table level }
-    ensures levels { levels_of ground.new.table ≡ levels_of ground.old.table }
-    ensures regions { ground.new.table.regions ≡ ground.old.table.regions }
-    ensures placed { ground.new.table.placed ≡ ground.old.table.placed }
-    ensures no_fault { M.faults ground.new.mem ≡ M.faults ground.old.mem }
-    ensures taken { M.taken ground.new.mem ≡ M.taken ground.old.mem }
+    ensures reclaims { ReclaimsAlone (view ground.old) (view ground.new) scan.now }
+    ensures unchanged { has_finished ground.old.table scan.now ≡ false → ground.new ≡ ground.old }
+    ensures resident { has_finished ground.old.table scan.now ≡ true → M.resident ground.new.mem ≡ outside_old ground.old.table (M.resident ground.old.mem) }
+    ensures no_fault { CountsUnchanged (view ground.old) (view ground.new) }
 {
     if scan.is_over() && ground.table.condemned().is_some() {
         end_collection(ground);
@@ -86,19 +72,9 @@ fn reclaim_alone<M: Memory>(ground: &mut Ground<M>, scan: &ScanSet, space: &Spac
 #[inline(never)]
 fn flip_alone<M: Memory>(ground: &mut Ground<M>, scan: &mut ScanSet, space: &Space)
     requires represented { StandsIn (view ground.old) scan.old space.now }
-    ensures flips { (registers : List Parts) (k : RoleMap) (s : State) → RepresentsAll (view ground.old) scan.old registers k s
-        → s.space ≡ space.now → length registers ≡ space.now.registers
-        → (new : State) × RepresentsAll (view ground.new) scan.new registers k new × SilentFlip s new }
+    ensures flips { FlipsAlone (view ground.old) (view ground.new) scan.old scan.new space.now }
     ensures memory { ground.new.mem ≡ ground.old.mem }
-    ensures used { (region : ℕ) → used_of ground.new.table region ≡ used_of ground.old.table region }
-    ensures free { (region : ℕ) → IsUnclassed ground.old.table region → IsUnclassed ground.new.table region }
     ensures unchanged { flips_idle ground.old.table space.now ≡ false → (ground.new ≡ ground.old) × (scan.new ≡ scan.old) }
-    ensures done { flips_idle ground.old.table space.now ≡ true → (ground.new.table.placed ≡ 0) × (scan.new.done ≡ 0) }
-    ensures begins { flips_idle ground.old.table space.now ≡ true → IfSome (full_levels_on ground.old.table space.now)
-        (λ levels. Begins (view ground.new) (Condemn.Chosen levels) scan.old scan.new) }
-    ensures regions { ground.new.table.regions ≡ ground.old.table.regions }
-    ensures no_fault { M.faults ground.new.mem ≡ M.faults ground.old.mem }
-    ensures taken { M.taken ground.new.mem ≡ M.taken ground.old.mem }
 {
     if ground.table.condemned().is_some() {
         return;
@@ -117,22 +93,11 @@ fn flip_alone<M: Memory>(ground: &mut Ground<M>, scan: &mut ScanSet, space: &Spa
 #[inline(always)]
 pub fn take_silent_steps<M: Memory>(ground: &mut Ground<M>, scan: &mut ScanSet, space: &Space)
     requires represented { StandsIn (view ground.old) scan.old space.now }
-    ensures step { (registers : List Parts) (k : RoleMap) (s : State) → RepresentsAll (view ground.old) scan.old registers k s
-        → s.space ≡ space.now → length registers ≡ space.now.registers
-        → PreparesTo (view ground.new) scan.new registers s }
-    ensures at_most { FreesAtMost (view ground.old) (view ground.new) }
+    ensures step { SilentSteps (view ground.old) (view ground.new) scan.old scan.new space.now }
     ensures idle { collects_alone space.now ≡ false → (ground.new ≡ ground.old) × (scan.new ≡ scan.old) }
     ensures memory { reclaims_alone ground.old.table scan.old space.now ≡ false → ground.new.mem ≡ ground.old.mem }
     ensures resident { M.resident ground.new.mem ≡ resident_from ground.old.table scan.old space.now (M.resident ground.old.mem) }
     ensures end { reclaims_alone ground.old.table scan.old space.now ≡ false → flips_alone ground.old.table scan.old space.now ≡ false → ground.new ≡ ground.old }
-    ensures done { scan.new.done ≡ done_from ground.old.table scan.old space.now }
-    ensures placed { ground.new.table.placed ≡ placed_from ground.old.table scan.old space.now }
-    ensures unchanged { flips_alone ground.old.table scan.old space.now ≡ false → scan.new ≡ scan.old }
-    ensures begins { flips_alone ground.old.table scan.old space.now ≡ true → IfSome (full_levels_on ground.old.table space.now)
-        (λ levels. Begins (view ground.new) (Condemn.Chosen levels) scan.old scan.new) }
-    ensures regions { ground.new.table.regions ≡ ground.old.table.regions }
-    ensures no_fault { M.faults ground.new.mem ≡ M.faults ground.old.mem }
-    ensures taken { M.taken ground.new.mem ≡ M.taken ground.old.mem }
 {
     if has_capacity(space) {
         reclaim_alone(ground, scan, space);

@@ -8,14 +8,14 @@ use Rattle.mem_port.specs.Store.{Store, StoresNothing}
 use Rattle.area_space.specs.Table.{Table}
 use Rattle.block_store.specs.obj_layout.Forwards.{word_at}
 use Rattle.block_store.specs.transporter.Moving.{MovesAtMost}
-use Rattle.block_store.proofs.transporter.Moving.{moves-more, moves-then, read-writes, writes-moves}
+use Rattle.block_store.proofs.transporter.TransportSequences.{moves-more, moves-then, read-writes, writes-moves}
 use Rattle.cdr_lists.specs.Parts.{RelaysCdr}
 use Rattle.cdr_lists.specs.Reading.{IsConsPlace}
 use Rattle.block_store.specs.transporter.Settling.{RefersToOld}
 use Rattle.heap_state.specs.Consistent.{RepresentsState}
 use Rattle.heap_state.specs.Settled.{IsSettled}
 use Rattle.heap_commands.specs.Moves.{MovesOrLays}
-use Rattle.heap_commands.proofs.Marked.{cons_at, normal_cases, place}
+use Rattle.heap_commands.proofs.StoreMarks.{cons_at, normal_cases, place}
 
 -- nothing was placed after it
 pub moves_still : {m m1 m2 : Store} {t t1 t2 : Table} {n : ℕ} → MovesAtMost m t m1 t1 n → MovesAtMost m1 t1 m2 t2 0 → MovesAtMost m t m2 t2 n

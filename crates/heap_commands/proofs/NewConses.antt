@@ -35,12 +35,12 @@ use Rattle.heap_state.specs.RepresentsLater.{RepresentsLater}
 use Rattle.heap_state.specs.Performs.{PerformsAt, PerformsOn}
 use Rattle.heap_state.specs.Reads.{reads}
 use Rattle.heap_state.specs.Settled.{IsSettled, NoOldAddressesInRegisters}
-use Rattle.heap_state.proofs.Allocating.{allocation_answers, fits_quota, list_fresh, made_represented, placed_more, quota_left}
-use Rattle.heap_state.proofs.OneSettled.{registers_same, settled_on, stays_represented}
-use Rattle.heap_state.proofs.Playing.{Leaves, set_others}
+use Rattle.heap_state.proofs.Allocations.{allocation_answers, fits_quota, list_fresh, made_represented, placed_more, quota_left}
+use Rattle.heap_state.proofs.SettledRegister.{registers_same, settled_on, stays_represented}
+use Rattle.heap_state.proofs.CommandEffects.{Leaves, set_others}
 use Rattle.cdr_lists.specs.Lists.{CanList, ListedOn, MeansValues, item_word}
 use Rattle.cdr_lists.specs.Pairs.{CanPair, PairedOn}
-use Rattle.heap_commands.proofs.Readable.{either, only_two, value_there}
+use Rattle.heap_commands.proofs.ConsRegisters.{either, only_two, value_there}
 
 -- after a swap error the same states are represented
 pub stays_leaves_at : (m m' : Store) (t t' : Table) (registers : List Parts) → WordsUnchanged m t m' t' → PreservesScanned m t m' t' → (NoOldAddressesInRegisters t registers → NoOldAddresses m t → NoOldAddresses m' t') → MarksFollow m t m' t' → Leaves m t registers m' t' registers

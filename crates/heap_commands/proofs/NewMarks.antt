@@ -16,8 +16,8 @@ use Rattle.block_store.specs.transporter.Growth.{OpensOrStays}
 use Rattle.block_store.specs.transporter.Making.{PlacesNew}
 use Rattle.block_store.specs.transporter.Marking.{IsForward, IsPlaced, MarksFollow, MayMark, TurnsOneWay, placed, forwarded, settled}
 use Rattle.block_store.specs.transporter.Settling.{RefersToOld, reference_of}
-use Rattle.block_store.proofs.transporter.Extended.{new-extends}
-use Rattle.block_store.proofs.transporter.Marked.{plain-value, within-placed}
+use Rattle.block_store.proofs.transporter.UsedEnds.{new-extends}
+use Rattle.block_store.proofs.transporter.PageMarks.{plain-value, within-placed}
 use Rattle.block_store.specs.Making.{CanMake, MakesBlock, block_word}
 use Rattle.cdr_lists.specs.Lists.{CanList, ListedOn, cell_word, item_word}
 use Rattle.heap_state.specs.transporter.WrittenMarks.{MarksByWords}

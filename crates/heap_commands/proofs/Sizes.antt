@@ -15,15 +15,15 @@ use Rattle.area_space.specs.Table.{Table}
 use Rattle.block_store.specs.lisp_meaning.State.{State, aim_of, object}
 use Rattle.block_store.specs.lisp_meaning.Flip.{graph_of}
 use Rattle.block_store.specs.lisp_meaning.Roles.{RoleMap, header_of}
-use Rattle.block_store.proofs.lisp_ground.StoredOn.{same_header_size}
+use Rattle.block_store.proofs.lisp_ground.invariant.Stores.{same_header_size}
 use Rattle.block_store.specs.Headers.{TellsLength}
 use Rattle.heap_state.specs.Represents.{Represents}
 use Rattle.heap_state.specs.Performs.{Performs}
 use Rattle.heap_state.specs.Settled.{IsSettled}
-use Rattle.heap_state.proofs.Playing.{Leaves, leaves_same, performs_fault, performs_refused}
-use Rattle.heap_commands.proofs.Answering.{performs_same}
+use Rattle.heap_state.proofs.CommandEffects.{Leaves, leaves_same, performs_fault, performs_refused}
+use Rattle.heap_commands.proofs.NoAllocation.{performs_same}
 use Rattle.heap_commands.specs.Growth.{IsBlock}
-use Rattle.heap_commands.proofs.Referring.{other_word, register_means, struct_block, with_block}
+use Rattle.heap_commands.proofs.RegisterReferences.{other_word, register_means, struct_block, with_block}
 
 -- the number of fields in the reply is the block's
 pub told_length : (m : Store) (t : Table) (registers : List Parts) (k : RoleMap) (s : State) (b : Represents m t registers k s) (r count : ℕ) (word : Parts) → word ≡ get_or registers r word → r < length registers → TellsLength m t word.content count → (x : IsBlock s (value_at s.registers r)) → count ≡ length x.fields

@@ -11,12 +11,12 @@ use Rattle.transporter.specs.lisp_meaning.Sound.{Reach}
 use Rattle.transporter.specs.lisp_meaning.Stands.{PhaseOf, IsScanned, Work}
 use Rattle.transporter.specs.lisp_meaning.Invariant.{MachineInvariant}
 use Rattle.transporter.specs.lisp_ground.Image.{image_of}
-use Rattle.transporter.proofs.lisp_ground.Closing.{kept_image}
-use Rattle.transporter.proofs.lisp_ground.Standings.{old_region}
+use Rattle.transporter.proofs.lisp_ground.invariant.OfImage.{kept_image}
+use Rattle.transporter.proofs.lisp_ground.regions.OldAndLive.{old_region}
 use Rattle.scavenger.specs.Scan.{Scan}
 use Rattle.scavenger.specs.Left.{rest_of}
 use Rattle.transporter.specs.lisp_ground.Collecting.{StandsOn}
-use Rattle.transporter.proofs.lisp_ground.Standings.{not_old_region}
+use Rattle.transporter.proofs.lisp_ground.regions.OldAndLive.{not_old_region}
 use Rattle.heap_state.specs.PhaseAgrees.{PhaseAgrees}
 use Rattle.heap_state.specs.Represents.{Represents}
 use Rattle.heap_state.specs.RepresentsAll.{RepresentsAll}

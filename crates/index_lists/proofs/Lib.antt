@@ -2,8 +2,8 @@ pub mod Members
 pub mod Ends
 pub mod Paths
 pub mod Rings
-pub mod Holding
-pub mod Answering
-pub mod Callers
-pub mod Changing
-pub mod Moving
+pub mod LinkUpdates
+pub mod LinkReads
+pub mod ListUpdates
+pub mod ChainUpdates
+pub mod ListMoves

@@ -1,9 +1,10 @@
-pub mod Named
+pub mod TraceNames
 mod Faults
 mod Places
-pub mod Accepted
-pub mod Judged
-pub mod WellFormed
-mod OneLine
-pub mod MadeWhole
-pub mod Asked
+pub mod AcceptedLines
+pub mod VerdictInvariant
+pub mod WellFormedLines
+mod LineVerdicts
+mod Buffered
+pub mod GeneratedInput
+pub mod DumpVerdicts

@@ -6,7 +6,7 @@ use Rattle.lisp_graph.specs.Flips.{InLevels}
 use Rattle.trace_text.specs.Commands.{Run, trace_line}
 use Rattle.std.specs.Prelude.{Ok}
 use Rattle.lisp_graph.specs.Commands.{IsRunnable}
-use Rattle.input_verdict.proofs.Named.{trace_named}
+use Rattle.input_verdict.proofs.TraceNames.{trace_named}
 
 -- a command of the trace can be run
 pub runnable : (world : World) (text : List ℕ) (command : Command) → trace_line world.space world.areas text ≡ Ok (Run command) → InLevels world.space.levels command → IsRunnable world command

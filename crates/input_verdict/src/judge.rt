@@ -1,19 +1,20 @@
 //! Judging one line.
-ghost use Rattle.std.specs.Prelude.{◌≡◌, ◌≢◌, ◌<◌, ◌≤◌, ◌+◌, ◌^◌, length, true, false, IfErr, IfOk, OnErr, OnOk};
+ghost use Rattle.std.specs.Prelude.{◌≡◌, ◌≢◌, ◌<◌, ◌≤◌, ◌+◌, ◌^◌, length, take, true, false, None, Ok, IfErr, IfOk, IfSome, OnErr, OnOk};
 ghost use Rattle.lisp_graph.specs.declared.command.Command.{Command as OneCommand};
 ghost use Rattle.world_text.specs.Reader.{NamesArea, is_closed};
 ghost use Rattle.world_text.specs.Limits.{IsAccepted};
 ghost use Rattle.world_text.specs.Line.{line_at};
 ghost use Rattle.trace_text.specs.Commands.{trace_line};
+ghost use Rattle.line_input.specs.Reader.{IsWholeLine};
 ghost use Rattle.line_input.specs.Statuses.{status_of};
-ghost use Rattle.input_verdict.specs.Events.{event_of, events, trouble_at};
+ghost use Rattle.input_verdict.specs.Events.{Does, event_of, events, trouble_at};
 ghost use Rattle.input_verdict.specs.Places.{IsPlace, Judged, MayDo};
 ghost use Rattle.input_verdict.specs.Verdict.{in_trace, judged_as, line_in, trace_next, world_next};
 
 use crate::input::{JudgedInput, LineEffect};
-use line_input::{RunError, Status, world_trouble};
+use line_input::{LineReader, LineSpan, RunError, Status, world_trouble};
 use lisp_graph::Request;
-use trace_text::{LineKind, read_request};
+use trace_text::{LineKind, read_fast, read_request};
 use world_text::WorldFault;
 
 /// Judges a line of the world.
@@ -97,6 +98,39 @@ pub fn run_error_of(place: &JudgedInput, fault: WorldFault) -> RunError
     ensures swap { result ≢ RunError.Swap }
 {
     world_trouble(place.lines + 1, place.judge.world().areas.as_slice(), fault)
+}
+
+/// Goes past the next line if its line feed is buffered and it is one of the most frequent commands, which is written to `command`. It looks at
+/// each byte once. Otherwise the place is unchanged, and the line is judged by `judge_line`.
+#[inline(always)]
+pub fn judge_buffered(
+    place: &mut JudgedInput,
+    reader: &LineReader,
+    command: &mut Request,
+) -> Option<LineSpan>
+    requires { IsPlace place.old }
+    ensures found { IfSome result (IsWholeLine reader.now) }
+    ensures at_most { IfSome result (λ _. length reader.now.bytes ≤ 32769) }
+    ensures judged { IfSome result (λ found. judged_as place.old (take found.length reader.now.bytes) found.size ≡ Ok (record { event = Does command.new; place = place.new })) }
+    ensures stays_sound { IsPlace place.new }
+    ensures none { result ≡ None → place.new ≡ place.old }
+    ensures allowed { IfSome result (λ _. MayDo place.new.judge.builder.world (Does command.new)) }
+{
+    if place.judge.ended || !place.judge.builder.is_closed() || !place.has_room_for_a_line() {
+        return None;
+    }
+    let world = place.judge.builder.world();
+    let bytes = reader.bytes();
+    let rest = read_fast(&world.space, &world.areas, bytes, command)?;
+    if rest.is_empty() || rest[0] != b'\n' {
+        return None;
+    }
+    let length = bytes.len() - rest.len();
+    place.advance(length + 1);
+    Some(LineSpan {
+        length,
+        size: length + 1,
+    })
 }
 
 /// Goes past the next line, which has this text and, including its line feed if it has one, this many bytes. A command is written to

@@ -9,5 +9,5 @@ mod judge;
 mod laws;
 
 pub use input::{InputJudge, JudgedInput, LineEffect};
-pub use judge::{judge_line, run_error_of};
+pub use judge::{judge_buffered, judge_line, run_error_of};
 pub use laws::dumps_are_whole_inputs;

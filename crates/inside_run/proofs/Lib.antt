@@ -1,3 +1,3 @@
-pub mod Behind
-pub mod Showing
-pub mod Reading
+pub mod FinalText
+pub mod ShownMachines
+pub mod RunStatuses

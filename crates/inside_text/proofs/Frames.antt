@@ -9,7 +9,7 @@ use Rattle.area_space.specs.index_lists.Members.{IsApart}
 use Rattle.area_space.proofs.index_lists.Members.{apart_from_distinct, contains_from_has}
 use Rattle.outer_ports.specs.Ports.{IsCut}
 use Rattle.outer_ports.specs.Buffers.{Gathered, Gathers}
-use Rattle.inside_text.proofs.Gathering.{gathered_both, gathers_cut, gathers_then}
+use Rattle.inside_text.proofs.TextSequences.{gathered_both, gathers_cut, gathers_then}
 use Rattle.inside_text.proofs.Rows.{has_at, next_behind}
 
 -- The lines of `turn` pages were gathered, and `next` is the next page.

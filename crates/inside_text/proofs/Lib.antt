@@ -1,6 +1,6 @@
 mod Classes
 mod Frames
-mod Gathering
+mod TextSequences
 mod Levels
 mod Rows
-mod Worked
+mod WorkedHeap

@@ -16,7 +16,7 @@ use Rattle.paged_memory.specs.page_map.Map.{place_at}
 use Rattle.paged_memory.specs.page_map.declared.place.PagePlace.{PagePlace}
 use Rattle.paged_memory.specs.page_map.declared.place.PagePlace.TheVariants.{Empty, InFrame, Swapped}
 use Rattle.paged_memory.specs.Paging.{IsPaged, Paging, is_swapped, marks_in, marks_of, resident_of, size_of, store_of, swapped_of}
-use Rattle.paged_memory.proofs.Nexts.{resident_inside}
+use Rattle.paged_memory.proofs.NextPages.{resident_inside}
 use Rattle.lisp_heap.specs.HeapView.{HeapView, MemoryLists, lists_of}
 use Rattle.inside_text.specs.InsideText.{calls_line, frame_line, page_lines, row_line}
 use Rattle.inside_text.specs.Pages.{frame_of, row_of}

@@ -1,6 +1,7 @@
-pub mod Feeds
+pub mod LineFeeds
 pub mod Cuts
-pub mod Closing
-pub mod Broken
-pub mod Judged
-pub mod Going
+pub mod LastLine
+pub mod BrokenLimits
+pub mod JudgedLines
+pub mod ReaderInvariant
+pub mod WorldLines

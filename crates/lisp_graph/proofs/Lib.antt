@@ -1,6 +1,6 @@
-pub mod Numbered
+pub mod NumberedMaps
 pub mod Cells
-pub mod Keeping
-pub mod Lasting
+pub mod GraphInvariant
+pub mod Persistence
 pub mod SameValues
 pub mod Totals

@@ -10,7 +10,7 @@ use Rattle.area_space.specs.Table.{areas_of}
 use Rattle.area_space.specs.Accounts.{account_of}
 use Rattle.word_graph.specs.lisp_meaning.State.{State, aim_of, no_rule, rule_of}
 use Rattle.word_graph.specs.lisp_meaning.Charges.{account_now}
-use Rattle.word_graph.proofs.lisp_ground.Accounts.{account_agrees, areas_agree}
+use Rattle.word_graph.proofs.lisp_ground.sums.Accounts.{account_agrees, areas_agree}
 use Rattle.lisp_heap.specs.HeapView.{HeapView, store_of}
 use Rattle.lisp_heap.specs.Stands.{Stands}
 

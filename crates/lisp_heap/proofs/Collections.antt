@@ -17,12 +17,12 @@ use Rattle.scavenger.specs.Scan.{Scan}
 use Rattle.heap_state.specs.RepresentsAll.{RepresentsAll}
 use Rattle.heap_state.specs.Laws.{PerformsIsStep}
 use Rattle.heap_state.specs.StepsTo.{StepsTo}
-use Rattle.heap_state.proofs.Playing.{leaves_same, performs_fault}
+use Rattle.heap_state.proofs.CommandEffects.{leaves_same, performs_fault}
 use Rattle.lisp_heap.specs.Words.{paged}
 use Rattle.scavenger.specs.Starting.{Begins, base_pages, is_base, may_name, units_on, used_on}
 use Rattle.lisp_heap.specs.HeapView.{lists_of, store_of}
-use Rattle.lisp_heap.proofs.Listed.{read_all, same_mark}
-use Rattle.lisp_heap.proofs.Unwanted.{pays_nothing}
+use Rattle.lisp_heap.proofs.ListedMemory.{read_all, same_mark}
+use Rattle.lisp_heap.proofs.NoAllocation.{pays_nothing}
 
 -- The reply
 
@@ -43,30 +43,30 @@ pub flip_sure : (aim : Option Condemn) (r : Reply) (pages : ℕ) → (aim ≢ No
 flip_sure None r pages busy flips fault = let e = flips refl in cc
 flip_sure (Some what) r pages busy flips fault = let e = busy (λ none. cc) in cc
 
-module _ (aim : Option Condemn) (over : Bool) (r : Reply) (A B : Type 0) (idle : aim ≡ None → (r ≡ R.NotFlipped) × A) (left : aim ≢ None → over ≡ false → (r ≡ R.NotDone) × B) (ends : aim ≢ None → over ≡ true → r ≡ R.Reclaimed) where
+module _ (aim : Option Condemn) (over : Bool) (r : Reply) (idle : aim ≡ None → r ≡ R.NotFlipped) (left : aim ≢ None → over ≡ false → r ≡ R.NotDone) (ends : aim ≢ None → over ≡ true → r ≡ R.Reclaimed) where
   pub reclaim_sure : r ≢ R.Fault
   reclaim_sure fault = by aim over idle left ends
     where
-      by : (aim : Option Condemn) (over : Bool) → (aim ≡ None → (r ≡ R.NotFlipped) × A) → (aim ≢ None → over ≡ false → (r ≡ R.NotDone) × B) → (aim ≢ None → over ≡ true → r ≡ R.Reclaimed) → ⊥
-      by None over idle left ends = let e = (idle refl).0 in cc
+      by : (aim : Option Condemn) (over : Bool) → (aim ≡ None → r ≡ R.NotFlipped) → (aim ≢ None → over ≡ false → r ≡ R.NotDone) → (aim ≢ None → over ≡ true → r ≡ R.Reclaimed) → ⊥
+      by None over idle left ends = let e = idle refl in cc
       by (Some what) true idle left ends = let e = ends (λ none. cc) refl in cc
-      by (Some what) false idle left ends = let e = (left (λ none. cc) refl).0 in cc
+      by (Some what) false idle left ends = let e = left (λ none. cc) refl in cc
 
   pub was_left : r ≡ R.NotDone → over ≡ false
   was_left is = by aim over refl idle ends
     where
-      by : (aim : Option Condemn) (b : Bool) → over ≡ b → (aim ≡ None → (r ≡ R.NotFlipped) × A) → (aim ≢ None → over ≡ true → r ≡ R.Reclaimed) → over ≡ false
-      by None b e idle ends = absurd (let a = (idle refl).0 in cc)
+      by : (aim : Option Condemn) (b : Bool) → over ≡ b → (aim ≡ None → r ≡ R.NotFlipped) → (aim ≢ None → over ≡ true → r ≡ R.Reclaimed) → over ≡ false
+      by None b e idle ends = absurd (let a = idle refl in cc)
       by (Some what) true e idle ends = absurd (let a = ends (λ none. cc) e in cc)
       by (Some what) false e idle ends = e
 
   pub was_over : r ≡ R.Reclaimed → over ≡ true
   was_over is = by aim over refl idle left
     where
-      by : (aim : Option Condemn) (b : Bool) → over ≡ b → (aim ≡ None → (r ≡ R.NotFlipped) × A) → (aim ≢ None → over ≡ false → (r ≡ R.NotDone) × B) → over ≡ true
-      by None b e idle left = absurd (let a = (idle refl).0 in cc)
+      by : (aim : Option Condemn) (b : Bool) → over ≡ b → (aim ≡ None → r ≡ R.NotFlipped) → (aim ≢ None → over ≡ false → r ≡ R.NotDone) → over ≡ true
+      by None b e idle left = absurd (let a = idle refl in cc)
       by (Some what) true e idle left = e
-      by (Some what) false e idle left = absurd (let a = (left (λ none. cc) e).0 in cc)
+      by (Some what) false e idle left = absurd (let a = left (λ none. cc) e in cc)
 
 -- Pages
 

@@ -1,26 +1,26 @@
-pub mod Listed
-pub mod Marked
+pub mod ListedMemory
+pub mod PageMarks
 pub mod Worlds
-pub mod Unwanted
-pub mod Running
-pub mod Setting
+pub mod NoAllocation
+pub mod CommandRuns
+pub mod PlainValues
 pub mod Collections
 pub mod Accounts
 pub mod OpenHeaps
-pub mod Allocating
-pub mod Admitting
-pub mod Meaning
-pub mod Walking
+pub mod Allocations
+pub mod Admissions
+pub mod RepresentedStates
+pub mod HeapWalks
 pub mod Loads
-pub mod Dumping
-pub mod Fitting
-pub mod Growing
+pub mod HeapDumps
+pub mod WorldQuotas
+pub mod BlockGrowth
 pub mod Units
-pub mod Freed
-mod Looking
-mod Making
-mod Ordered
-mod Transporting
+pub mod FinalAccounts
+mod HeapReads
+mod AllocationMoments
+mod ScanOrder
+mod ScanTransports
 pub mod Room
 pub use Rattle.word_graph.proofs.lisp_meaning
-pub mod Telling
+pub mod MemoryReports

@@ -12,7 +12,7 @@ use Rattle.lisp_heap.specs.HeapView.{HeapView, Counts, SameWorld, contents_of}
 use Rattle.lisp_heap.specs.Form.{world_with}
 use Rattle.lisp_heap.specs.Loaded.{StandsGrouped}
 use Rattle.lisp_heap.specs.Stands.{IsSound, Stands}
-use Rattle.lisp_heap.proofs.Listed.{listed, unlisted}
+use Rattle.lisp_heap.proofs.ListedMemory.{listed, unlisted}
 
 module _ (m : Store) (t : Table) (scan : Scan) (registers : List Parts) (space : Space) (faults : ℕ) (resident : List ℕ) (counts : Counts) (world : World) (h : HeapView) (view : contents_of m t scan registers space faults resident counts ≡ h)
     (empty : Stands h (opening (world_with world.space world.areas))) where

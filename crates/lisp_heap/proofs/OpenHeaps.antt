@@ -12,14 +12,14 @@ use Rattle.mem_port.specs.Store.{IsFresh, IsSound}
 use Rattle.mem_port.specs.Store as Memory
 use Rattle.area_space.specs.Table.{IsOld, Table, stale}
 use Rattle.area_space.specs.Fresh.{fresh, quotas_in}
-use Rattle.area_space.proofs.Starting.{fresh_is, room_from}
+use Rattle.area_space.proofs.EmptyTable.{fresh_is, room_from}
 use Rattle.area_space.proofs.FreeSets.{empties}
 use Rattle.word_graph.specs.lisp_meaning.State.{no_aim}
 use Rattle.word_graph.specs.lisp_meaning.Opening.{opening}
 use Rattle.word_graph.specs.lisp_meaning.Empty.{blank_map, IsBare}
 use Rattle.word_graph.specs.lisp_meaning.Roles.{value_of}
 use Rattle.word_graph.specs.lisp_ground.GroundInvariant.{GroundInvariant}
-use Rattle.word_graph.proofs.lisp_ground.Starting.{fresh_kept_on}
+use Rattle.word_graph.proofs.lisp_ground.invariant.EmptyMachine.{fresh_kept_on}
 use Rattle.lisp_heap.specs.HeapView.{HeapView, Counts, contents_of}
 use Rattle.lisp_heap.specs.Form.{IsForm, world_with}
 use Rattle.lisp_heap.specs.Stands.{Stands, IsSound as IsSoundHeap}
@@ -27,7 +27,7 @@ use Rattle.heap_commands.specs.cdr_lists.Words.{plain}
 use Rattle.scavenger.specs.Scan.{Scan, nothing_left}
 use Rattle.heap_state.specs.RepresentsAll.{RepresentsAll}
 use Rattle.lisp_graph.specs.declared.world.World.{World}
-use Rattle.lisp_heap.proofs.Listed.{listed}
+use Rattle.lisp_heap.proofs.ListedMemory.{listed}
 
 -- no region of a new table is old
 fresh_none_old : (regions top : ℕ) (rules : List AreaRule) → (region : ℕ) → IsOld (fresh regions top rules) region → ⊥

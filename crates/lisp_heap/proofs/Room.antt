@@ -1,6 +1,6 @@
 -- There is room in the state of each heap.
 use Rattle.word_graph.specs.lisp_meaning.State.{aim_of}
-use Rattle.word_graph.proofs.lisp_ground.PlaceRoom.{moved_room, new_room, spare_room}
+use Rattle.word_graph.proofs.lisp_ground.words.PlaceRoom.{moved_room, new_room, spare_room}
 use Rattle.lisp_heap.specs.HeapView.{store_of}
 use Rattle.lisp_heap.specs.Room.{HeapsArePlaceable, MovedHasPlace, NewHasPlace, SpareHasPlace}
 use Rattle.lisp_heap.proofs.Accounts.{area_known}

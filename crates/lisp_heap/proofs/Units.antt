@@ -13,7 +13,7 @@ use Rattle.scavenger.specs.Scan.{Scan}
 use Rattle.scavenger.specs.Left.{register_left, units_of, word_left}
 use Rattle.scavenger.specs.Collecting.{ScanInvariant}
 use Rattle.heap_state.specs.Scans.{Scans}
-use Rattle.heap_state.proofs.Over.{at_last, some_left}
+use Rattle.heap_state.proofs.RemainingUnits.{at_last, some_left}
 use Rattle.heap_collect.specs.Amounts.{Amount}
 use Rattle.heap_collect.specs.Silent.{flips_alone}
 use Rattle.lisp_heap.specs.HeapView.{HeapView, store_of}

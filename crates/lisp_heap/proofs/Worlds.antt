@@ -12,7 +12,7 @@ use Rattle.word_graph.specs.lisp_meaning.State.{Phase, Idle, Running, State, Con
 use Rattle.word_graph.specs.lisp_meaning.Flip.{Settles, flipped, graph_of}
 use Rattle.word_graph.specs.lisp_meaning.Step.{Answer, Replied, Ends, Flips, Reclaims, Scavenges, Serves, Step, StepsBy, answer_of, answer_wanting, exceeds, exhausted}
 use Rattle.word_graph.specs.lisp_meaning.Run.{Does, Silent, SilentFlip, SilentReclaim, full_levels}
-use Rattle.word_graph.proofs.lisp_meaning.Runs.{either}
+use Rattle.word_graph.proofs.lisp_meaning.closure.Transitions.{either}
 
 -- the sizes and the areas are the same
 pub record SameSizes (s new : State) : Type 0 where

@@ -1,2 +1,2 @@
 pub mod Boxes
-pub mod Feeds
+pub mod LineFeeds

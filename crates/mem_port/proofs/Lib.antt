@@ -1,8 +1,8 @@
-pub mod Covering
+pub mod SpanStores
 pub mod Lookups
 mod PlainLaws
 mod PlainSpans
 mod SpanLaws
 pub mod StoreLaws
 mod TagLaws
-pub mod Telling
+pub mod CallReports

@@ -3,7 +3,7 @@ use Rattle.std.proofs.Common.{IsTrue, ◌↔◌, ℕ, ◌≡◌, ◌<◌, ◌≤
 use Rattle.std.proofs.lemmas.Bool.{cases_eq, cases_lt, cases_Bool}
 use Rattle.std.proofs.lemmas.Option.{slice_get-get_or, slice_get_within, unwrap_or-slice_get}
 use Rattle.store_word.specs.Words.{Parts, null_word}
-use Rattle.mem_port.proofs.Covering.{found_read, tagged_over, tagged_alike}
+use Rattle.mem_port.proofs.SpanStores.{found_read, tagged_over, tagged_alike}
 use Rattle.mem_port.proofs.PlainLaws.{tag_at-set_same, tag_at-set_other}
 use Rattle.mem_port.specs.Store.{level_of_word, Overwrites, Covers}
 use Rattle.mem_port.specs.Tags.{HasEphemeral, HasYoung}

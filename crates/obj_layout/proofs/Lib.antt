@@ -1,3 +1,3 @@
-pub mod Following
+pub mod ForwardChains
 pub mod RunLaws
-mod Running
+mod RunCells

@@ -10,7 +10,7 @@ use Rattle.obj_layout.specs.declared.run.RunEnd.TheVariants.{Nil, Pair, Forwarde
 use Rattle.obj_layout.specs.declared.run.Run.{Run}
 use Rattle.obj_layout.specs.Forwards.{word_at}
 use Rattle.obj_layout.specs.Runs.{IsCell, StandsBehind, last_code, IsRun}
-use Rattle.obj_layout.proofs.Following.{leads-same}
+use Rattle.obj_layout.proofs.ForwardChains.{leads-same}
 
 -- a last cell is a run
 pub run-one : (words : List Parts) (at : ℕ) (ending : RunEnd) → IsCell words at → (word_at words at).cdr ≡ last_code ending

@@ -2,7 +2,7 @@ mod Copies
 mod Cuts
 mod FirstWords
 pub mod Gains
-pub mod Pending
+pub mod BufferGains
 mod Slots
-mod Stored
+mod PageWords
 mod Tallies

@@ -36,8 +36,10 @@ with_other tally = record {
   fault = next_count_if false tally.fault;
 }
 
--- the counts after one more byte
-abbrev pub with_byte : Counted → ℕ → Counted
-with_byte counted byte =
-    if byte == 10 then record { tally = with_line counted.tally counted.begun; begun = [] }
-    else record { tally = counted.tally; begun = take 11 (counted.begun ++ byte ∷ []) }
+-- the state after more bytes of the line that has begun
+abbrev pub with_rest : Counted → List ℕ → Counted
+with_rest counted bytes = record counted { begun = take 11 (counted.begun ++ bytes) }
+
+-- the state after the last bytes of the line that has begun, and its line feed
+abbrev pub with_end : Counted → List ℕ → Counted
+with_end counted bytes = record { tally = with_line counted.tally (take 11 (counted.begun ++ bytes)); begun = [] }

@@ -1,7 +1,7 @@
 -- The pages of one bucket, after a page has entered it, was removed from it, or neither.
 use Rattle.std.proofs.Common.{◌≡◌, ◌≢◌, ℕ, Bool, true, false, List, refl}
 use Rattle.std.specs.Prelude.{Contains}
-use Rattle.index_lists.proofs.Callers.{Contains-without, Contains-without_back, Contains-push_old, Contains-push_new, Contains-push_back, not_in_without}
+use Rattle.index_lists.proofs.ListUpdates.{Contains-without, Contains-without_back, Contains-push_old, Contains-push_new, Contains-push_back, not_in_without}
 use Rattle.page_map.specs.declared.place.PagePlace.{PagePlace}
 use Rattle.page_map.specs.declared.place.PagePlace.TheVariants.{Empty, InFrame, Swapped}
 use Rattle.page_map.specs.Map.{is_empty, bucket_after}

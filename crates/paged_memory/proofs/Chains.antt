@@ -3,7 +3,7 @@ use Rattle.std.proofs.Common.{ℕ, zero, suc, ◌≡◌, ◌+◌, ◌<◌, false
 use Rattle.std.specs.Prelude.{Contains, OnErr, Result, Ok, Err, slice_index}
 use Rattle.frame_pool.specs.index_lists.Chains.{first_of}
 use Rattle.frame_pool.proofs.index_lists.Members.{has_from_contains, contains_from_has}
-use Rattle.frame_pool.proofs.index_lists.Callers.{Contains-first}
+use Rattle.frame_pool.proofs.index_lists.ListUpdates.{Contains-first}
 use Rattle.mem_port.specs.Frames.{EvictsFewer}
 use Rattle.store_word.specs.Words.{Parts}
 use Rattle.page_map.specs.Map.{place_at}

@@ -6,7 +6,7 @@ use Rattle.std.proofs.lemmas.Bool.{cases_eq}
 use Rattle.frame_pool.specs.index_lists.Chains.{without, first_of}
 use Rattle.frame_pool.specs.index_lists.Members.{Has}
 use Rattle.frame_pool.proofs.index_lists.Members.{has_from_contains, contains_from_has, without_here, without_there}
-use Rattle.frame_pool.proofs.index_lists.Callers.{without-first}
+use Rattle.frame_pool.proofs.index_lists.ListUpdates.{without-first}
 
 pub first_map : (f : ℕ → ℕ) (n : ℕ) (xs : List ℕ) → first_of xs ≡ Some n → first_of (map f xs) ≡ Some (f n)
 first_map f n [] e = absurd (cc)

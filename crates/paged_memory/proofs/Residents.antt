@@ -5,11 +5,11 @@ use Rattle.std.specs.List.{IsDistinct}
 use Rattle.std.proofs.lemmas.Bool.{cases_lt}
 use Rattle.store_word.specs.Words.{Parts}
 use Rattle.frame_pool.specs.index_lists.Chains.{without}
-use Rattle.frame_pool.proofs.index_lists.Callers.{length-without}
+use Rattle.frame_pool.proofs.index_lists.ListUpdates.{length-without}
 use Rattle.paged_memory.specs.Paging.{Paging, resident_of, IsPaged}
 use Rattle.paged_memory.specs.Order.{IsUsed, Uses}
 use Rattle.paged_memory.proofs.Lists.{contains_or_not}
-use Rattle.paged_memory.proofs.Nexts.{resident_once}
+use Rattle.paged_memory.proofs.NextPages.{resident_once}
 
 -- one page fewer at most, if the first one was evicted
 one_dropped : (xs : List ℕ) → length xs ≤ length (drop 1 xs) + 1

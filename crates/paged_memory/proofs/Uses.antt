@@ -4,7 +4,7 @@ use Rattle.std.specs.Prelude.{Contains}
 use Rattle.std.proofs.lemmas.Bool.{cases_eq}
 use Rattle.store_word.specs.Words.{Parts}
 use Rattle.mem_port.specs.Tags.{marks_of_tag}
-use Rattle.frame_pool.proofs.index_lists.Callers.{Contains-first, Contains-push_old, Contains-push_back}
+use Rattle.frame_pool.proofs.index_lists.ListUpdates.{Contains-first, Contains-push_old, Contains-push_back}
 use Rattle.page_map.specs.Map.{place_at}
 use Rattle.frame_pool.specs.Pool.{frames_of}
 use Rattle.paged_memory.specs.Paging.{Paging, marks_of, resident_of, IsPaged}
@@ -12,7 +12,7 @@ use Rattle.paged_memory.specs.Order.{HasLeft, Evicts, Uses, Stops}
 use Rattle.paged_memory.specs.Moves.{Keeps, GoesOut, HasRoom, ComesIn}
 use Rattle.paged_memory.proofs.Lists.{contains_rest}
 use Rattle.paged_memory.proofs.Places.{swapped_framed}
-use Rattle.paged_memory.proofs.Pools.{resident_place}
+use Rattle.paged_memory.proofs.FrameChanges.{resident_place}
 
 -- the page that was evicted is no longer resident
 pub out_absent : (p p' : Paging) (stored' : List Parts) (page : ℕ) → IsPaged p' stored' → GoesOut p p' page → Contains (resident_of p') page → ⊥

@@ -1,3 +1,4 @@
+pub mod Levels
 pub mod Marking
 pub mod Moves
 pub mod Order

@@ -12,7 +12,7 @@ use Rattle.paged_memory.specs.Paging.{Paging, word_at, size_of, marks_of, store_
 
 -- the value of the parts
 abbrev pub paging_of : Pager → Paging
-paging_of p = record { pool = p.pool; places = p.places; rows = p.rows; levels = p.levels.items; top = p.top }
+paging_of p = record { pool = p.pool; places = p.places; rows = p.rows; levels = p.levels; top = p.top }
 
 -- pages have moved: no word is stored, no page without marks gets any, and all holds as before
 pub record Keeps (p : Paging) (stored : List Parts) (p' : Paging) (stored' : List Parts) : Type 0 where

@@ -10,6 +10,7 @@ mod memory;
 mod moves;
 mod paged;
 mod pager;
+mod region_levels;
 mod spans;
 
 pub use mem_port::Memory;

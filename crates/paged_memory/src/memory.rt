@@ -12,7 +12,7 @@ ghost use Rattle.paged_memory.specs.Order.{Evicts, Uses, UsesEach, Stops, StopsA
 
 use crate::marking::{lower, lowest_tagged};
 use crate::paged::PagedMemory;
-use mem_port::{HOLD_LIMIT, Memory, tag_after, tag_anew, tag_meets};
+use mem_port::{HOLD_LIMIT, Memory, tag_anew, tag_meets};
 use outer_ports::Swap;
 use page_map::PagePlace;
 use std::sync::ledger::Ledger;
@@ -40,7 +40,7 @@ impl<D: Swap> Memory for PagedMemory<D> {
         ensures absent { (at : ℕ) → at < 256 * result → place_at self.now.0.places (at / 256) ≡ PagePlace.Swapped
             → slice_get (words_of self.now.0 (D.stored self.now.1)) at ≡ slice_get (D.stored self.now.1) at }
     {
-        self.pager.levels.len() as u32 * 16
+        self.pager.levels.all().len() as u32 * 16
     }
 
     /// The word at an address, whose page is used.
@@ -71,8 +71,7 @@ impl<D: Swap> Memory for PagedMemory<D> {
         let frame = self
             .pager
             .use_page(&mut self.buffer, &mut self.swap, at / 256)?;
-        let words = self.pager.pool.words(frame);
-        Ok(words[(at % 256) as usize])
+        Ok(self.pager.pool.word(frame, at % 256))
     }
 
     /// Stores a word at an address, whose page is used.
@@ -108,9 +107,10 @@ impl<D: Swap> Memory for PagedMemory<D> {
         let frame = self
             .pager
             .use_page(&mut self.buffer, &mut self.swap, at / 256)?;
-        let tag = tag_after(self.pager.pool.tagged(frame), &self.pager.levels, word);
         self.pager.pool.set_word(frame, at % 256, word);
-        self.pager.pool.set_tag(frame, tag);
+        self.pager
+            .levels
+            .tag_word(&mut self.pager.pool, frame, word);
         Ok(())
     }
 
@@ -205,7 +205,7 @@ impl<D: Swap> Memory for PagedMemory<D> {
         ensures taken { self.new.2 ≡ self.old.2 }
         ensures no_fault { D.faults self.new.1 ≡ D.faults self.old.1 }
     {
-        let _levels = self.pager.levels.len();
+        let _levels = self.pager.levels.all().len();
         for page in region * 16..region * 16 + 16 {
             self.pager.empty_page(page);
         }
@@ -225,11 +225,11 @@ impl<D: Swap> Memory for PagedMemory<D> {
         ensures taken { self.new.2 ≡ self.old.2 }
         ensures no_fault { D.faults self.new.1 ≡ D.faults self.old.1 }
     {
-        self.pager.levels[region as usize] = level;
+        self.pager.levels.set(region, level);
     }
 
     fn level_of(&self, at: u32) -> u8 {
-        self.pager.levels[(at / 4096) as usize]
+        self.pager.levels.all()[(at / 4096) as usize]
     }
 
     fn marked(&self, page: u32, levels: Levels) -> bool {
@@ -270,7 +270,7 @@ impl<D: Swap> Memory for PagedMemory<D> {
             let tag = tag_anew(
                 self.pager.pool.tagged(frame),
                 self.pager.pool.words(frame),
-                &self.pager.levels,
+                self.pager.levels.all(),
             );
             self.pager.pool.set_tag(frame, tag);
         }

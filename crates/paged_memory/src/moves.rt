@@ -49,7 +49,7 @@ impl Pager {
         };
         let words = self.pool.words(frame);
         swap.write_page(page, words)?;
-        let set = levels_of(self.pool.tagged(frame), words, &self.levels);
+        let set = levels_of(self.pool.tagged(frame), words, self.levels.all());
         self.rows.note(page, set);
         self.pool.give_back(frame);
         self.places.set(page, PagePlace::Swapped);
@@ -147,6 +147,35 @@ impl Pager {
         if let Some(frame) = self.pool.latest_of(page) {
             return Ok(frame);
         }
+        self.use_other(buffer, swap, page)
+    }
+
+    /// Uses a page that may not be the most recently used.
+    #[inline(never)]
+    fn use_other<D: Swap>(
+        &mut self,
+        buffer: &mut [Word],
+        swap: &mut D,
+        page: u32,
+    ) -> Result<u32, SwapFault>
+        requires paged { IsPaged (paging_of self.old) (D.stored swap.old) }
+        requires in_range { page < length self.old.places.places }
+        requires size { length buffer.old ≡ 256 }
+
+        // The page is in a frame, and the words are unchanged.
+        ensures stays_held { Keeps (paging_of self.old) (D.stored swap.old) (paging_of self.new) (D.stored swap.new) }
+        ensures placed { IfOk result (λ frame. place_at self.new.places page ≡ PagePlace.InFrame frame) }
+
+        // What becomes of the pages in frames.
+        ensures uses { OnOk result (Uses (paging_of self.old) (paging_of self.new) page false) }
+        ensures stops { OnErr result (Stops (paging_of self.old) (paging_of self.new)) }
+        ensures succeeds { Contains (resident_of (paging_of self.old)) page → IsOk result }
+
+        // Swap errors, and the calls of the device.
+        ensures cause { TellsFaults (D.faults swap.old) (D.faults swap.new) result }
+        ensures calls { OnOk result (D.calls swap.new ≡ calls_to_use (paging_of self.old) page (D.calls swap.old)) }
+        ensures stopped { OnErr result (StopsCalls (paging_of self.old) page (D.calls swap.old) (D.calls swap.new)) }
+    {
         match self.places.place_of(page) {
             PagePlace::InFrame(frame) => {
                 self.pool.touch(frame);

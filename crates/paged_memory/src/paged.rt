@@ -144,7 +144,7 @@ impl PagedMemory<SwapMemory> {
     {
         match self.pager.places.place_of(at / 256) {
             PagePlace::Empty => Word::null(),
-            PagePlace::InFrame(frame) => self.pager.pool.words(frame)[(at % 256) as usize],
+            PagePlace::InFrame(frame) => self.pager.pool.word(frame, at % 256),
             PagePlace::Swapped => self.swap.peek(at),
         }
     }

@@ -4,6 +4,7 @@ ghost use Rattle.frame_pool.specs.Pool.{fresh_pool, IsPool};
 ghost use Rattle.page_map.specs.Map.{fresh_map};
 ghost use Rattle.ref_table.specs.Sets.{no_levels};
 
+use crate::region_levels::RegionLevels;
 use frame_pool::FramePool;
 use page_map::PageMap;
 use ref_table::RefTable;
@@ -16,7 +17,7 @@ pub struct Pager {
     pub pool: FramePool,
     pub places: PageMap,
     pub rows: RefTable,
-    pub levels: Vec<u8>,
+    pub levels: RegionLevels,
     pub top: u8,
 }
 
@@ -29,14 +30,14 @@ impl Pager {
         ensures sound { IfOk result (λ p. IsPool p.pool) }
         ensures places { IfOk result (λ p. p.places ≡ fresh_map (space.now.regions * 16)) }
         ensures sets { IfOk result (λ p. p.rows.sets ≡ replicate (space.now.regions * 16) no_levels) }
-        ensures levels { IfOk result (λ p. p.levels.items ≡ replicate space.now.regions 0) }
+        ensures levels { IfOk result (λ p. p.levels ≡ replicate space.now.regions 0) }
         ensures level { IfOk result (λ p. p.top ≡ space.now.levels) }
     {
         let pages = space.regions * 16;
         let pool = FramePool::new(alloc, space.frames)?;
         let places = PageMap::new(alloc, pages)?;
         let rows = RefTable::new(alloc, pages)?;
-        let levels = vec![in alloc; 0u8; space.regions as usize]?;
+        let levels = RegionLevels::new(alloc, space.regions)?;
         Ok(Pager {
             pool,
             places,

@@ -5,7 +5,6 @@ ghost use Rattle.page_map.specs.Map.{place_at};
 ghost use Rattle.frame_pool.specs.Pool.{frames_of, with_latest, IsPool};
 
 use crate::pager::Pager;
-use mem_port::{tag_after, tag_with};
 use page_map::PagePlace;
 use store_word::Word;
 
@@ -35,13 +34,13 @@ impl Pager {
     fn tag_span(&mut self, frame: u32, offset: u32, count: u32)
         requires frame { frame < frames_of self.old.pool }
         requires in_range { offset + count ≤ 256 }
-        ensures marks { (tag : Bool) × TagsSpan self.old.pool self.new.pool self.old.levels.items frame offset count tag }
+        ensures marks { (tag : Bool) × TagsSpan self.old.pool self.new.pool self.old.levels frame offset count tag }
         ensures unchanged { paging_of self.new ≡ record (paging_of self.old) { pool = self.new.pool } }
         ensures sound { IsPool self.new.pool }
     {
         let words = self.pool.words(frame);
         let span = &words[offset as usize..(offset + count) as usize];
-        let tag = tag_with(self.pool.tagged(frame), span, &self.levels);
+        let tag = self.levels.tag_with(self.pool.tagged(frame), span);
         self.pool.set_tag(frame, tag);
     }
 
@@ -75,7 +74,6 @@ impl Pager {
     {
         let frame = self.use_resident(at / 256);
         self.pool.fill_words(frame, at % 256, count, word);
-        let tag = tag_after(self.pool.tagged(frame), &self.levels, word);
-        self.pool.set_tag(frame, tag);
+        self.levels.tag_word(&mut self.pool, frame, word);
     }
 }

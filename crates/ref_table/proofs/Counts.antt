@@ -4,7 +4,7 @@ use Rattle.std.specs.List.{range_with_len}
 use Rattle.std.proofs.lemmas.Bool.{cases_eq}
 use Rattle.store_word.specs.declared.levels.Levels.{Levels}
 use Rattle.ref_table.specs.Sets.{no_levels, set_at, has_row, rows_of}
-use Rattle.ref_table.proofs.Indexing.{tally, tally_low}
+use Rattle.ref_table.proofs.TreeIndex.{tally, tally_low}
 
 length-filter-cons : (p : ℕ → Bool) (x : ℕ) (xs : List ℕ) → length (filter p (x ∷ xs)) ≡ tally (p x) + length (filter p xs)
 length-filter-cons p x xs = elim (p x) as (λ b. length (if b then x ∷ filter p xs else filter p xs) ≡ tally b + length (filter p xs)) [ true ↦ omega arith | false ↦ omega arith ]

@@ -6,10 +6,10 @@ use Rattle.store_word.specs.declared.levels.Levels.{Levels}
 use Rattle.ref_table.specs.Branches.{branch_at, IsPart, Builds}
 use Rattle.ref_table.specs.Rotation.{insert}
 use Rattle.ref_table.specs.Tree.{Tree, link, height, Leaf, Fork}
-use Rattle.ref_table.proofs.Balancing.{Balances, step_left, step_right}
+use Rattle.ref_table.proofs.TreeBalance.{Balances, step_left, step_right}
 use Rattle.ref_table.proofs.Heights.{height_insert}
 use Rattle.ref_table.proofs.Orders.{ordered_insert}
-use Rattle.ref_table.proofs.Standing.{root_fork, part_left, part_right}
+use Rattle.ref_table.proofs.BranchJoins.{root_fork, part_left, part_right}
 
 -- a page that goes to the left side
 pub insert_low : (sets : List Levels) (old mid new : List Branch) (at left at' : Option ℕ) (top page depth lo hi : ℕ) (root : Branch) (t : Tree) → at ≡ Some top → root ≡ branch_at old (Some top) → page < top → 0 < depth

@@ -14,7 +14,7 @@ use Rattle.ref_table.specs.Sets.{no_levels, set_at, has_row, rows_of}
 use Rattle.ref_table.specs.Table.{IsIndexed, table_of}
 use Rattle.ref_table.specs.Tree.{Tree, Leaf}
 use Rattle.ref_table.proofs.Counts.{rows_changed, rows_fit}
-use Rattle.ref_table.proofs.Indexing.{tally, tally_low, rows_in_order, is_indexed}
+use Rattle.ref_table.proofs.TreeIndex.{tally, tally_low, rows_in_order, is_indexed}
 
 fresh_tree : (pages : ℕ) (sets : List Levels) (branches : List Branch) → pages ≤ 16384 → sets ≡ replicate pages no_levels → branches ≡ replicate pages no_branch → HasTree sets branches None Leaf
 fresh_tree pages sets branches few s b =

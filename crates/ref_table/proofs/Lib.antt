@@ -1,8 +1,8 @@
-pub mod Balancing
+pub mod TreeBalance
 pub mod Counts
-pub mod Finds
+pub mod SearchResults
 pub mod Heights
-pub mod Indexing
+pub mod TreeIndex
 pub mod Insertions
 pub mod Invariant
 pub mod ListLaws
@@ -15,5 +15,5 @@ pub mod Rows
 pub mod Searches
 pub mod Shapes
 pub mod Sizes
-pub mod Standing
-pub mod Walks
+pub mod BranchJoins
+pub mod SearchPaths

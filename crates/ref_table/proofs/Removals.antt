@@ -6,11 +6,11 @@ use Rattle.store_word.specs.declared.levels.Levels.{Levels}
 use Rattle.ref_table.specs.Branches.{branch_at, IsPart, Builds}
 use Rattle.ref_table.specs.Rotation.{first, rest, merged_at, merged, removed}
 use Rattle.ref_table.specs.Tree.{Tree, link, height, Leaf, Fork}
-use Rattle.ref_table.proofs.Balancing.{Balances, step_left, step_right}
+use Rattle.ref_table.proofs.TreeBalance.{Balances, step_left, step_right}
 use Rattle.ref_table.proofs.Heights.{height_rest, height_removed}
 use Rattle.ref_table.proofs.Occurrences.{one}
 use Rattle.ref_table.proofs.Orders.{ordered_wider, ordered_rest, ordered_first, ordered_removed}
-use Rattle.ref_table.proofs.Standing.{root_fork, stands_within, builds_after, builds_same, part_left, part_right}
+use Rattle.ref_table.proofs.BranchJoins.{root_fork, stands_within, builds_after, builds_same, part_left, part_right}
 
 -- the first page is on the left side
 pub rest_low : (sets : List Levels) (old mid new : List Branch) (at left at' : Option ℕ) (top one depth lo hi : ℕ) (root : Branch) (t : Tree) → at ≡ Some top → root ≡ branch_at old (Some top) → root.left ≡ Some one → 0 < depth

@@ -9,7 +9,7 @@ use Rattle.ref_table.specs.Rotation.{rotated_right, rotated_left, first}
 use Rattle.ref_table.specs.Tree.{Tree, height, Leaf, Fork}
 use Rattle.ref_table.proofs.Occurrences.{one}
 use Rattle.ref_table.proofs.Rotations.{right_once, right_twice, left_once, left_twice}
-use Rattle.ref_table.proofs.Standing.{root_height, root_fork, join_builds}
+use Rattle.ref_table.proofs.BranchJoins.{root_height, root_fork, join_builds}
 
 pub rotate_right_none : (sets : List Levels) (old new : List Branch) (left right at : Option ℕ) (page lo hi : ℕ) (l r : Tree) → left ≡ None → AreSides sets old left page right lo hi l r 101
     → new ≡ slice_set old page (joined sets old left page right) → at ≡ Some page → Builds sets old new at lo hi (rotated_right l page r)

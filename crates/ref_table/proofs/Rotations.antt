@@ -6,7 +6,7 @@ use Rattle.ref_table.specs.Branches.{joined, AreSides, Builds}
 use Rattle.ref_table.specs.Rotation.{first}
 use Rattle.ref_table.specs.Tree.{Tree, link, Fork}
 use Rattle.ref_table.proofs.Occurrences.{one}
-use Rattle.ref_table.proofs.Standing.{stands_within, join_builds, builds_after}
+use Rattle.ref_table.proofs.BranchJoins.{stands_within, join_builds, builds_after}
 
 -- a rotation to the right
 pub right_once : (sets : List Levels) (old one new : List Branch) (a : Tree) (q : ℕ) (b : Tree) (page : ℕ) (r : Tree) (left right low at side outer : Option ℕ) (lo hi : ℕ)

@@ -5,7 +5,7 @@ use Rattle.std.proofs.lemmas.List.{append-nil, append_assoc, length-append}
 use Rattle.std.proofs.lemmas.List.Concat.{flat_map-append, flat_map-cons}
 use Rattle.outer_ports.specs.Ports.{IsCut}
 use Rattle.outer_ports.specs.Buffers.{Gathered, Gathers}
-use Rattle.outer_ports.proofs.Pending.{gathered_more}
+use Rattle.outer_ports.proofs.BufferGains.{gathered_more}
 use Rattle.lisp_graph.specs.declared.world.AreaRule.{AreaRule}
 use Rattle.paged_machine.specs.lisp_meaning.State.{State}
 use Rattle.paged_machine.specs.lisp_meaning.Charges.{account_now}

@@ -16,12 +16,12 @@ use Rattle.input_verdict.specs.Events.{Event, Nothing, Opens, Does}
 use Rattle.input_verdict.specs.Places.{IsPlace, MayDo}
 use Rattle.lisp_graph.specs.Commands.{IsRunnable}
 use Rattle.input_verdict.specs.Verdict.{Read, noted, world_of}
-use Rattle.input_verdict.proofs.Accepted.{Goes}
-use Rattle.input_verdict.proofs.Judged.{AreInLimits}
+use Rattle.input_verdict.proofs.AcceptedLines.{Goes}
+use Rattle.input_verdict.proofs.VerdictInvariant.{AreInLimits}
 use Rattle.replay_run.specs.Steps.{Acted, IsIn, TakesAfter, Tells}
-use Rattle.replay_run.proofs.Openable.{few_at, sound_at}
+use Rattle.replay_run.proofs.SoundWorlds.{few_at, sound_at}
 use Rattle.replay_run.proofs.Runs.{AreInLimits-append}
-use Rattle.replay_run.proofs.Telling.{tells_moved, tells_as, told_more, told_moved, told_reached}
+use Rattle.replay_run.proofs.BufferedReplies.{tells_moved, tells_as, told_more, told_moved, told_reached}
 
 -- what holds after a line whose event was done
 pub record Steps (held held' : List ℕ → Type 0) (stands : State → Type 0) (takes : Command → Type 0) (idle : Type 0) (before now : ℕ) (place : JudgedInput) (read : Read) (pending : List ℕ) (m base : ℕ) : Type 0 where

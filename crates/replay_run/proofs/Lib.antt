@@ -1,21 +1,22 @@
-pub mod Openable
+pub mod SoundWorlds
 pub mod Runs
-pub mod Staying
-pub mod Acting
+pub mod SpaceAndAreas
+pub mod CommandEffects
 pub mod Accounts
-pub mod Telling
-pub mod Going
+pub mod BufferedReplies
+pub mod SessionInvariant
 pub mod Events
-pub mod Ending
-pub mod Passing
-pub mod Finishing
-pub mod Undumped
+pub mod RunEnds
+pub mod NextLines
+pub mod AcceptedLines
+pub mod LastLine
+pub mod NonDumpLines
 pub mod NoDumps
-mod MadeBare
-pub mod Complete
-mod Words
+mod GeneratedWorld
+pub mod CompleteRuns
+mod UnreadArguments
 pub mod Observations
-pub mod Reading
-mod Made
-pub mod Feeding
+pub mod RepresentedStates
+mod GeneratedRun
+pub mod SessionLines
 pub mod ErrorLines

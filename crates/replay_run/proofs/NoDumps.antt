@@ -12,16 +12,16 @@ use Rattle.world_text.specs.Reader.{Said as WorldSaid, is_closed}
 use Rattle.world_text.proofs.reading_laws.ReadLaws.{guard_ok}
 use Rattle.trace_text.specs.Commands.{TraceLine, Run, End, trace_line}
 use Rattle.trace_text.specs.Made.{command_line, drawn_line, draws, header_line, is_drawn, line_of, made, made_from, set_line, state_of}
-use Rattle.trace_text.proofs.MadeCommands.{made_says}
+use Rattle.trace_text.proofs.GeneratedCommands.{made_says}
 use Rattle.line_input.specs.Lines.{Line, lines_of, size_of}
 use Rattle.line_input.specs.Reader.{no_feed}
 use Rattle.line_input.proofs.Cuts.{lines_feed}
 use Rattle.input_verdict.specs.Input.{JudgedInput}
 use Rattle.input_verdict.specs.Events.{Event, Nothing, Opens, Does}
 use Rattle.input_verdict.specs.Verdict.{Next, Read, Said, Stopped, decided, ended, in_trace, judged, judged_as, line_in, noted, start, trace_next, verdict, world_next}
-use Rattle.input_verdict.proofs.WellFormed.{formed_feed}
-use Rattle.input_verdict.proofs.Accepted.{passed}
-use Rattle.replay_run.proofs.Undumped.{begins_with_d, says_no_dump}
+use Rattle.input_verdict.proofs.WellFormedLines.{formed_feed}
+use Rattle.input_verdict.proofs.AcceptedLines.{passed}
+use Rattle.replay_run.proofs.NonDumpLines.{begins_with_d, says_no_dump}
 
 -- The lines of the generated input
 

@@ -6,9 +6,9 @@ use Rattle.paged_machine.specs.lisp_meaning.State.{State}
 use Rattle.paged_machine.specs.lisp_meaning.Step.{Answer}
 use Rattle.paged_machine.specs.lisp_meaning.Run.{Does, Run}
 use Rattle.paged_machine.specs.lisp_meaning.Sound.{IsAllowed, IsSound}
-use Rattle.paged_machine.proofs.lisp_meaning.Limits.{limits_allowed}
-use Rattle.paged_machine.proofs.lisp_meaning.Runs.{does_sound, some_run}
-use Rattle.input_verdict.proofs.Judged.{AreInLimits}
+use Rattle.paged_machine.proofs.lisp_meaning.closure.Limits.{limits_allowed}
+use Rattle.paged_machine.proofs.lisp_meaning.closure.Transitions.{does_sound, some_run}
+use Rattle.input_verdict.proofs.VerdictInvariant.{AreInLimits}
 
 pub run_then : (old mid new : State) (a : List Command) (ra : List Answer) (b : List Command) (rb : List Answer) → Run old a ra mid → Run mid b rb new → Run old (a ++ b) (ra ++ rb) new
 run_then old mid new [] [] b rb run more = subst (λ state. Run state b rb new) run more

@@ -15,7 +15,7 @@ use Rattle.line_input.specs.declared.statuses.status.Status.{Status}
 use Rattle.line_input.specs.declared.statuses.status.RunError.TheVariants as T
 use Rattle.line_input.specs.declared.statuses.status.RunStop.{RunStop}
 use Rattle.line_input.specs.declared.statuses.status.RunStop.TheVariants.{Write, Tell}
-use Rattle.line_input.specs.Reader.{FitsIn, Buffered, IsNext, IsPart}
+use Rattle.line_input.specs.Reader.{FitsIn, Buffered, IsNext, IsPart, no_feed, without_latest}
 use Rattle.line_input.specs.Statuses.{outcome_line, outcome_status}
 use Rattle.paged_machine.specs.Asks.{IsOf}
 use Rattle.input_verdict.specs.Events.{Event, Nothing, Opens, Does}
@@ -146,6 +146,17 @@ Fetched held enough pending (Ok next) = IsNext held enough next × IfSome next (
 Fetched held enough pending (Err halts.Write) = 0 < length pending
 Fetched held enough pending (Err halts.Read) = IsPart held enough × (held.ended ≡ false)
 Fetched held enough pending (Err _) = ⊥
+
+-- What a call took of the source, to find the next line: one piece after another, which follow the bytes that were buffered. It took none at the source's end, and before it took any, the sink was given all that was pending; the pieces before the last contain no line feed.
+pub record Filled (left left' : Option (List ℕ)) (last last' : ℕ) (old new : Buffered) (held held' : List ℕ → Type 0) (had pending : List ℕ) : Type 0 where
+  pub piece : List ℕ
+  pub gave : Gave left left' piece
+  pub is : new.bytes ≡ old.bytes ++ piece
+  pub once : old.ended ≡ true → piece ≡ []
+  pub later : ((piece ≡ []) × (last' ≡ last)) ⊎ ((pending ≡ []) × (no_feed (without_latest last' new.bytes) ≡ true))
+  pub ended : old.ended ≡ true → new.ended ≡ true
+  pub buffer : length new.bytes ≤ 32769
+  pub gathered : Gathered held held' pending had
 
 -- how a run stops when the input ends
 abbrev pub closed : Ending → Result (Unit {0}) RunStop

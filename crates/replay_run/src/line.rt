@@ -21,7 +21,7 @@ use std::alloc::Global;
 
 /// Does what a line requests.
 #[inline(always)]
-fn act<K: Sink, E: Engine>(
+pub(crate) fn act<K: Sink, E: Engine>(
     alloc: Global,
     buffer: &mut SinkBuffer,
     sink: &mut K,

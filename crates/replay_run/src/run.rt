@@ -1,23 +1,33 @@
 //! The loop over the lines.
-ghost use Rattle.std.specs.Prelude.{◌≡◌, ◌≢◌, ◌⊎◌, ◌≤◌, ◌<◌, ◌-◌, ◌^◌, ◌++◌, List, [], true, false, length, Some, Err, IfErr, OnOk, ℕ};
+ghost use Rattle.std.specs.Prelude.{◌≡◌, ◌≢◌, ◌⊎◌, ◌≤◌, ◌<◌, ◌-◌, ◌^◌, ◌++◌, List, [], true, false, length, Some, Err, IfErr, IfOk, IfSome, OnOk, ℕ};
 ghost use Rattle.outer_ports.specs.Ports.{FailedLast, Gave, IsAtEnd, Rose};
 ghost use Rattle.outer_ports.specs.Buffers.{Gathered};
 ghost use Rattle.line_input.specs.Reader.{no_feed, without_latest};
 ghost use Rattle.input_verdict.specs.Events.{Nothing, event_of};
-ghost use Rattle.input_verdict.specs.Places.{MayDo};
+ghost use Rattle.input_verdict.specs.Places.{IsPlace, MayDo};
 ghost use Rattle.input_verdict.specs.Verdict.{ending_at};
 ghost use Rattle.replay_run.specs.Outcome.{HasNoWorld, HasNoWorldYet};
-ghost use Rattle.replay_run.specs.Steps.{Acted, Fetched, IsIn, RanTo, TakesAfter, closed};
+ghost use Rattle.replay_run.specs.OneLine.{JudgedNext};
+ghost use Rattle.replay_run.specs.Steps.{Acted, Fetched, Filled, IsIn, RanTo, TakesAfter, closed};
 
 use crate::halt::LoopExit;
-use crate::line::answer_line;
-use input_verdict::{InputJudge, JudgedInput};
+use crate::line::act;
+use input_verdict::{
+    InputJudge, JudgedInput, LineEffect, judge_buffered, judge_line, run_error_of,
+};
 use line_input::{InputReader, LineReader, LineSpan, RunError, RunStop, early_end};
 use lisp_graph::Request;
 use outer_ports::{Sink, SinkBuffer, Source};
 use paged_machine::Engine;
 use std::alloc::Global;
 use world_text::Reason;
+
+/// A line that was judged: what it requests, and how many bytes it has, its line feed included.
+#[derive(Clone, Copy, Debug, PartialEq, Eq)]
+pub(crate) struct JudgedLine {
+    pub(crate) effect: LineEffect,
+    pub(crate) size: usize,
+}
 
 /// The next line, or a prefix of it that has enough bytes. More bytes are taken only if neither is buffered, one piece after another until one is,
 /// and after what is pending was given to the sink.
@@ -60,6 +70,55 @@ fn next_line<S: Source, K: Sink>(
     match reader.next(source, enough) {
         Ok(next) => Ok(next),
         Err(_) => Err(LoopExit::Read),
+    }
+}
+
+/// Judges the next line. Most lines are judged where they are buffered. For any other line, more bytes are taken only if neither the line nor
+/// enough of it is buffered, as `next_line` says. A command is written to `command`.
+#[inline(always)]
+fn judge_next<S: Source, K: Sink>(
+    place: &mut JudgedInput,
+    command: &mut Request,
+    reader: &mut LineReader,
+    buffer: &mut SinkBuffer,
+    source: &mut S,
+    sink: &mut K,
+) -> Result<Option<JudgedLine>, RunStop>
+    requires sound { IsPlace place.old }
+    requires ended { reader.old.ended ≡ true → IsAtEnd (S.left source.old) }
+    ensures filled { Filled (S.left source.old) (S.left source.new) (S.last source.old) (S.last source.new) reader.old reader.new
+        (K.stands sink.old) (K.stands sink.new) buffer.old.pending buffer.new.pending }
+    ensures end { reader.new.ended ≡ true → IsAtEnd (S.left source.new) }
+    ensures judged { JudgedNext place.old place.new reader.new buffer.new.pending command.new result }
+    ensures stays_sound { OnOk result (IsPlace place.new) }
+    ensures allowed { IfOk result (λ next. IfSome next (λ line. MayDo place.new.judge.builder.world (event_of line.effect command.new))) }
+    ensures read { IfErr result (λ stop. stop ≡ RunStop.Tell RunError.Read → Rose (S.faults source.old) (S.faults source.new)) }
+    ensures write { IfErr result (λ stop. stop ≡ RunStop.Write → Rose (K.faults sink.old) (K.faults sink.new)) }
+    ensures last { IfErr result (λ stop. stop ≡ RunStop.Write → FailedLast (K.faults sink.old) (K.faults sink.new) (K.failed sink.new)) }
+    ensures swap { IfErr result (λ stop. stop ≢ RunStop.Tell RunError.Swap) }
+    ensures never_falls { K.faults sink.old ≤ K.faults sink.new }
+    ensures source_no_fault { result ≢ Err (RunStop.Tell RunError.Read) → S.faults source.new ≡ S.faults source.old }
+    ensures sink_no_fault { result ≢ Err RunStop.Write → K.faults sink.new ≡ K.faults sink.old }
+{
+    if let Some(found) = judge_buffered(place, reader, command) {
+        return Ok(Some(JudgedLine {
+            effect: LineEffect::Does,
+            size: found.size,
+        }));
+    }
+    let enough = place.bytes_to_decide(place.judge.ended);
+    let found = match next_line(reader, buffer, source, sink, enough) {
+        Ok(Some(found)) => found,
+        Ok(None) => return Ok(None),
+        Err(halt) => return Err(halt.stop()),
+    };
+    let text = &reader.bytes()[..found.length];
+    match judge_line(place, text, found.size, command) {
+        Ok(effect) => Ok(Some(JudgedLine {
+            effect,
+            size: found.size,
+        })),
+        Err(fault) => Err(RunStop::Tell(run_error_of(place, fault))),
     }
 }
 
@@ -107,25 +166,22 @@ pub fn run_trace<S: Source, K: Sink, E: Engine>(
     // Each command is written here.
     let mut command = Request::new();
     loop {
-        let enough = place.bytes_to_decide(place.judge.ended);
-        let found = match next_line(reader, buffer, source, sink, enough) {
-            Ok(Some(found)) => found,
+        let next = match judge_next(&mut place, &mut command, reader, buffer, source, sink) {
+            Ok(Some(next)) => next,
             Ok(None) => return close(&place),
-            Err(halt) => return Err(halt.stop()),
+            Err(stop) => return Err(stop),
         };
-        let text = &reader.bytes()[..found.length];
-        match answer_line(
+        match act(
             alloc,
-            &mut place,
-            &mut command,
             buffer,
             sink,
             engine,
-            text,
-            found.size,
+            place.judge.world(),
+            next.effect,
+            &command,
         ) {
-            Ok(()) => reader.pass(found.size),
-            Err(stop) => return Err(stop),
+            Ok(()) => reader.pass(next.size),
+            Err(halt) => return Err(halt.stop()),
         }
     }
 }

@@ -10,8 +10,8 @@ use Rattle.file_modes.specs.lisp_graph.declared.object.Object.{Object}
 use Rattle.file_modes.specs.sexpr_text.declared.token.Token.{Token}
 use Rattle.file_modes.specs.sexpr_print.Places.{is_among}
 use Rattle.file_modes.specs.sexpr_print.Printing.{Prints, PrintsConses, PrintsFields, PrintsForm, again, block, dotted, done, ends, first, goes, list, more, none, number}
-use Rattle.file_modes.proofs.dump_laws.Growing.{Grows, grows_none, grows_one, grows_twice}
-use Rattle.file_modes.proofs.dump_laws.Numbered.{numbered_last}
+use Rattle.file_modes.proofs.dump_laws.NumberingGrowth.{Grows, grows_none, grows_one, grows_twice}
+use Rattle.file_modes.proofs.dump_laws.KeyNumbers.{numbered_last}
 use Rattle.sexpr_laws.proofs.Labels.{place_front, place_last, place_of}
 
 -- Copies

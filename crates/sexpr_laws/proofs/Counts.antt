@@ -6,7 +6,7 @@ use Rattle.std.proofs.lemmas.List.Sums.{sum_by-append, sum_by-cons}
 use Rattle.file_modes.specs.lisp_graph.Graph.{Graph, is_ref, object_at}
 use Rattle.file_modes.specs.lisp_graph.declared.object.Value.{Value}
 use Rattle.file_modes.specs.sexpr_print.Places.{held, is_among, parts}
-use Rattle.file_modes.proofs.dump_laws.Numbered.{Within, key_same, numbered_append}
+use Rattle.file_modes.proofs.dump_laws.KeyNumbers.{Within, key_same, numbered_append}
 
 -- References
 

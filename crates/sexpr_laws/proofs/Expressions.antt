@@ -19,13 +19,13 @@ use Rattle.file_modes.specs.sexpr_text.declared.fault.SexprFault.{SexprFault}
 use Rattle.file_modes.specs.sexpr_text.Reading.{Read, closes, conses, cons_charge, expression, fields, is_dot, object_begun}
 use Rattle.file_modes.specs.sexpr_print.Places.{is_among, is_cons_like, parts}
 use Rattle.file_modes.specs.sexpr_print.Printing.{Prints, PrintsConses, PrintsFields, PrintsForm, again, block, bracket_of, dotted, done, ends, first, goes, label_of, list, mark, more, none, number}
-use Rattle.file_modes.proofs.dump_laws.Growing.{Grows, grows_one, grows_twice}
-use Rattle.file_modes.proofs.dump_laws.Numbered.{numbered_last}
-use Rattle.sexpr_laws.proofs.Going.{GoesOn, Going, IsFine, IsSetting, again_shared, going_first, graph_with, next_goes, prints_going}
+use Rattle.file_modes.proofs.dump_laws.NumberingGrowth.{Grows, grows_one, grows_twice}
+use Rattle.file_modes.proofs.dump_laws.KeyNumbers.{numbered_last}
+use Rattle.sexpr_laws.proofs.PrinterState.{GoesOn, Going, IsFine, IsSetting, again_shared, going_first, graph_with, next_goes, prints_going}
 use Rattle.sexpr_laws.proofs.Labels.{label_known, label_new, labels_grow, labels_of, labels_stay, place_of}
 use Rattle.sexpr_laws.proofs.Copies.{body_in, conses_grow, fields_grow, form_grows, object_in, place_next, place_stays, prints_grow, since, since_long, since_none, since_one, since_twice, value_in}
-use Rattle.sexpr_laws.proofs.Begins.{Begins, Opens, begins_less, begins_long, begins_plain, conses_start, form_open, prints_start, same_closes, splits, takes}
-use Rattle.sexpr_laws.proofs.Steps.{Labels, again_reads, atom_reads, block_reads, cons_read, conses_dotted, conses_end, conses_go, fields_end, fields_go, form_reads, inside_of, label_reads, list_reads, nil_read}
+use Rattle.sexpr_laws.proofs.TokenPrefixes.{Begins, Opens, begins_less, begins_long, begins_plain, conses_start, form_open, prints_start, same_closes, splits, takes}
+use Rattle.sexpr_laws.proofs.ReaderSteps.{Labels, again_reads, atom_reads, block_reads, cons_read, conses_dotted, conses_end, conses_go, fields_end, fields_go, form_reads, inside_of, label_reads, list_reads, nil_read}
 
 -- what is printed, and the names that are printed in the end
 pub record Context (objects : List Object) (shared : ℕ → Bool) : Type 0 where

@@ -23,11 +23,11 @@ use Rattle.file_modes.specs.world_text.Reader.{opening_place}
 use Rattle.file_modes.specs.world_text.Spelling.{IsWritten, WorldLine, FormatLine, SpaceLine, AreaLine, CapacityLine, ConsLine, BlockLine, RunLine, RootLine, ClosingLine}
 use Rattle.file_modes.proofs.world_text.reading_laws.LineLaws.{accepted_only}
 use Rattle.file_modes.proofs.world_text.reading_laws.ReadLaws.{step_parts}
-use Rattle.file_modes.proofs.world_text.reading_laws.Reached.{accepted_world, judged_reached, known_at, opening_reached}
+use Rattle.file_modes.proofs.world_text.reading_laws.PlaceInvariant.{accepted_world, judged_reached, known_at, opening_reached}
 use Rattle.file_modes.specs.dump_laws.Back.{SayWorld, read_from}
 use Rattle.file_modes.specs.sexpr_print.Spelling.{IsPrint}
 use Rattle.sexpr_laws.specs.Compiled.{FitsTypes, HasIntegers, IsCompiledBack, IsInteger}
-use Rattle.sexpr_laws.proofs.Law.{compiled_back}
+use Rattle.sexpr_laws.proofs.RoundTrip.{compiled_back}
 
 -- Values and objects
 

@@ -21,19 +21,19 @@ use Rattle.file_modes.specs.world_text.Accepts.{outcome}
 use Rattle.file_modes.specs.world_text.Spelling.{WorldLine, AreaLine, BlockLine, CapacityLine, ClosingLine, ConsLine, FormatLine, RootLine, RunLine, SpaceLine, name_of, spelled}
 use Rattle.file_modes.specs.world_text.File.{head_lines, text_of}
 use Rattle.file_modes.proofs.world_text.reading_laws.LineLaws.{accepted_only}
-use Rattle.file_modes.proofs.world_text.reading_laws.Reached.{known_at, line_keeps, opening_reached}
+use Rattle.file_modes.proofs.world_text.reading_laws.PlaceInvariant.{known_at, line_keeps, opening_reached}
 use Rattle.file_modes.proofs.world_text.reading_laws.ReadLaws.{step_parts}
 use Rattle.file_modes.specs.sexpr_text.declared.fault.SexprFault.{SexprFault}
 use Rattle.file_modes.specs.sexpr_text.declared.fault.SexprFault.TheVariants.{Bad}
 use Rattle.file_modes.specs.sexpr_text.declared.fault.SexprReason.TheVariants.{Header, InputTooLong}
 use Rattle.file_modes.specs.sexpr_text.Pieces.{is_feed}
 use Rattle.file_modes.specs.sexpr_text.Meaning.{Head, behind_line, first_line, graph_behind, header_line, line_of_byte, meaning, place_behind, said_behind, second_place}
-use Rattle.file_modes.proofs.sexpr_text.HeaderGoes.{LinesGo, lines_first, lines_last, lines_more}
+use Rattle.file_modes.proofs.sexpr_text.HeaderLines.{LinesGo, lines_first, lines_last, lines_more}
 use Rattle.file_modes.specs.sexpr_print.Spelling.{header_text}
 use Rattle.file_modes.specs.dump_laws.Back.{read_from}
-use Rattle.file_modes.proofs.dump_laws.Head.{AreRules, head_read}
-use Rattle.file_modes.proofs.dump_laws.Lengths.{IsShort, head_few, text_cons}
-use Rattle.file_modes.proofs.dump_laws.Printable.{IsPrintable, is_printable, lines_printable}
+use Rattle.file_modes.proofs.dump_laws.HeaderLines.{AreRules, head_read}
+use Rattle.file_modes.proofs.dump_laws.LineLengths.{IsShort, head_few, text_cons}
+use Rattle.file_modes.proofs.dump_laws.PrintableLines.{IsPrintable, is_printable, lines_printable}
 use Rattle.sexpr_laws.specs.ReadBack.{IsHeaderReadBack, bare_world, header_behind, headed, line_behind, said_with}
 use Rattle.sexpr_laws.proofs.Cuts.{NonePass, first_place, none_from}
 

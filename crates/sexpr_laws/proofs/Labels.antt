@@ -7,7 +7,7 @@ use Rattle.std.proofs.lemmas.List.Sums.{sum_by-cons}
 use Rattle.file_modes.specs.sexpr_text.Labels.{name_of}
 use Rattle.file_modes.specs.sexpr_print.Places.{is_among}
 use Rattle.file_modes.specs.sexpr_print.Printing.{label_of}
-use Rattle.file_modes.proofs.dump_laws.Numbered.{key_same}
+use Rattle.file_modes.proofs.dump_laws.KeyNumbers.{key_same}
 use Rattle.sexpr_laws.proofs.Counts.{or_none, same_name, true_false}
 
 -- Places

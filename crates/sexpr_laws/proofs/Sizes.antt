@@ -20,14 +20,14 @@ use Rattle.file_modes.specs.sexpr_text.declared.token.Token.{Token}
 use Rattle.file_modes.specs.sexpr_text.declared.token.Token.TheVariants.{Root, Dot, Atom, Label, Again, Open, Close}
 use Rattle.file_modes.specs.sexpr_print.Places.{is_among, parts}
 use Rattle.file_modes.specs.sexpr_print.Printing.{Prints, PrintsConses, PrintsFields, PrintsForm, again, block, bracket_of, dotted, done, ends, first, goes, label_of, list, mark, more, none, number}
-use Rattle.file_modes.proofs.dump_laws.Growing.{Grows, grows_long, grows_one, grows_twice}
+use Rattle.file_modes.proofs.dump_laws.NumberingGrowth.{Grows, grows_long, grows_one, grows_twice}
 use Rattle.sexpr_laws.specs.Spellable.{AreSpellable, CanSpell}
 use Rattle.sexpr_laws.specs.ReadBack.{in_order}
-use Rattle.file_modes.proofs.dump_laws.Numbered.{numbered_front, numbered_last}
+use Rattle.file_modes.proofs.dump_laws.KeyNumbers.{numbered_front, numbered_last}
 use Rattle.sexpr_laws.specs.Compiled.{IsInteger}
 use Rattle.sexpr_laws.proofs.Copies.{conses_grow, fields_grow, form_grows, prints_grow}
 use Rattle.sexpr_laws.proofs.Labels.{place_of}
-use Rattle.sexpr_laws.proofs.Rooted.{PrintsAll, a_line, a_nil, all_grow, no_more}
+use Rattle.sexpr_laws.proofs.PrintedRoots.{PrintsAll, a_line, a_nil, all_grow, no_more}
 
 -- an object that can be spelled
 pub record IsWritable (areas : ℕ) (object : Object) : Type 0 where

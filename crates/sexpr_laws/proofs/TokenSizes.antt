@@ -14,7 +14,7 @@ use Rattle.file_modes.specs.sexpr_text.Brackets.{opening}
 use Rattle.file_modes.specs.sexpr_print.Spelling.{binds, gap, is_close, lines_text, token_text, tokens_text}
 use Rattle.sexpr_laws.specs.Spellable.{AreSpellable, CanSpell}
 use Rattle.sexpr_laws.specs.ReadBack.{in_order}
-use Rattle.sexpr_laws.proofs.Shapes.{name_good}
+use Rattle.sexpr_laws.proofs.TokenPieces.{name_good}
 
 number_short : (number : ℕ) → number < 2 ^ 32 → length (decimal number) ≤ 10
 number_short number small = length-decimal-le 10 number (omega arith) (omega arith) (omega arith)

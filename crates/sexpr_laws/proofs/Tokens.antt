@@ -18,8 +18,8 @@ use Rattle.sexpr_laws.specs.Spellable.{AreSpellable, CanSpell}
 use Rattle.sexpr_laws.specs.ReadBack.{in_order, tokens_of}
 use Rattle.sexpr_laws.proofs.Cuts.{first_byte}
 use Rattle.sexpr_laws.proofs.Bytes.{closing_stops}
-use Rattle.sexpr_laws.proofs.Spelled.{token_spelled}
-use Rattle.sexpr_laws.proofs.Shapes.{IsPiece, Stops, token_piece}
+use Rattle.sexpr_laws.proofs.TokenTexts.{token_spelled}
+use Rattle.sexpr_laws.proofs.TokenPieces.{IsPiece, Stops, token_piece}
 
 -- One piece
 

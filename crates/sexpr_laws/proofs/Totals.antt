@@ -7,8 +7,8 @@ use Rattle.file_modes.specs.lisp_graph.Graph.{no_object, object_at}
 use Rattle.file_modes.specs.lisp_graph.declared.object.Object.{Object}
 use Rattle.file_modes.specs.sexpr_print.Places.{is_among}
 use Rattle.file_modes.proofs.world_text.reading_laws.AreaLaws.{before_or_last}
-use Rattle.file_modes.proofs.dump_laws.Lengths.{total}
-use Rattle.file_modes.proofs.dump_laws.Numbered.{Within, numbered_front, numbered_last}
+use Rattle.file_modes.proofs.dump_laws.LineLengths.{total}
+use Rattle.file_modes.proofs.dump_laws.KeyNumbers.{Within, numbered_front, numbered_last}
 use Rattle.sexpr_laws.proofs.Counts.{Distinct, sum_within}
 use Rattle.sexpr_laws.proofs.Sizes.{charges}
 

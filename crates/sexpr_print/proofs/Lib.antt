@@ -1,9 +1,9 @@
-pub mod Counting
-pub mod Marking
+pub mod ReferenceCounts
+pub mod ObjectLabels
 pub mod Writes
 pub mod TaskLaws
 pub mod Steps
-pub mod Opening
+pub mod FormStarts
 pub mod RootLines
-pub mod Shared
-pub mod Whole
+pub mod SharedObjects
+pub mod WholePrint

@@ -25,7 +25,7 @@ use Rattle.sexpr_print.specs.Printing.{Prints, PrintsForm, first, mark}
 use Rattle.sexpr_print.specs.Marks.{Marks, label_in, new_label, shared_in}
 use Rattle.sexpr_print.specs.Writing.{Adds, label_tokens}
 use Rattle.sexpr_print.specs.Tasks.{AllPrint, DoesPrint, IsTask, Opens, Ran, Steps, Wrote, fields_in, work_left, work_of}
-use Rattle.sexpr_print.proofs.Marking.{not_among}
+use Rattle.sexpr_print.proofs.ObjectLabels.{not_among}
 use Rattle.sexpr_print.proofs.Writes.{adds_none, adds_then}
 use Rattle.sexpr_print.proofs.TaskLaws.{no_task, one_task, tasks_join, tasks_split}
 

@@ -1,6 +1,6 @@
 pub mod Scans
-pub mod Shrinks
-pub mod Unfolds
+pub mod RemainingPieces
+pub mod ReaderResults
 pub mod StepLaws
 pub mod RootLaws
-pub mod HeaderGoes
+pub mod HeaderLines

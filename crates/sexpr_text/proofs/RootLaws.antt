@@ -13,7 +13,7 @@ use Rattle.sexpr_text.specs.Pieces.{line_at, token_at}
 use Rattle.sexpr_text.specs.Reading.{IsFault, Read, expression, misplaced, refused}
 use Rattle.sexpr_text.specs.Tasks.{TaskState, grown_value}
 use Rattle.sexpr_text.specs.Roots.{Rooted, ended, is_last_token, is_root, root_at, roots_from}
-use Rattle.sexpr_text.proofs.Shrinks.{expression_takes}
+use Rattle.sexpr_text.proofs.RemainingPieces.{expression_takes}
 
 -- the roots from here on
 abbrev pub roots_here : ℕ → Rooted → List Piece → Result Rooted SexprFault

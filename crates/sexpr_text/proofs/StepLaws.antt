@@ -25,8 +25,8 @@ use Rattle.sexpr_text.specs.declared.task.ParseTask.TheVariants.{Conses, Behind,
 use Rattle.sexpr_text.specs.Pieces.{is_end, line_at, token_at}
 use Rattle.sexpr_text.specs.Reading.{Beginning, IsFault, MayGive, Read, Reader, begun, cdr_behind, closed, closes, conses, cons_in, expression, fields, is_dot, misplaced, read_inside, refused, surplus}
 use Rattle.sexpr_text.specs.Tasks.{AllLead, Does, Fails, IsMade, Leads, TaskState, Steps, grown, grown_value, hole, holes_in, tasks_in}
-use Rattle.sexpr_text.proofs.Shrinks.{begun_fewer, expression_takes, inside_fewer}
-use Rattle.sexpr_text.proofs.Unfolds.{conses_is, conses_value, element, expression_is, field_more, fields_here, fields_is, inside_value}
+use Rattle.sexpr_text.proofs.RemainingPieces.{begun_fewer, expression_takes, inside_fewer}
+use Rattle.sexpr_text.proofs.ReaderResults.{conses_is, conses_value, element, expression_is, field_more, fields_here, fields_is, inside_value}
 
 abbrev pub state : List Object → List (ℕ × ℕ) → List Piece → TaskState
 state objects labels pieces = record { objects = objects; labels = labels; pieces = pieces }

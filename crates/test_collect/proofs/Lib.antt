@@ -1,4 +1,4 @@
-pub mod Played
+pub mod PerformedCommands
 pub mod Machines
-pub mod Opened
+pub mod NewMachine
 pub mod SmallWorld

@@ -30,12 +30,12 @@ use Rattle.heap_state.specs.Laws.{AllocationIsStep, PerformsIsStep, StepsReprese
 use Rattle.heap_state.specs.Scans.{Scans}
 use Rattle.heap_state.specs.StepsTo.{PaysAhead, PaysFor, StepsTo}
 use Rattle.heap_state.specs.Wanting.{paid_wanting}
-use Rattle.heap_state.proofs.Allocating.{fits_quota, quota_left}
+use Rattle.heap_state.proofs.Allocations.{fits_quota, quota_left}
 use Rattle.heap_collect.specs.Moments.{RepresentsMachineState, StandsForSome}
 use Rattle.heap_collect.proofs.Phases.{stands_for_some}
-use Rattle.heap_collect.proofs.ScannedAhead.{running_phase}
+use Rattle.heap_collect.proofs.ScanSequences.{running_phase}
 use Rattle.test_collect.specs.Machines.{IsMachine, IsMade, IsPlayed}
-use Rattle.test_collect.proofs.Played.{unplayed}
+use Rattle.test_collect.proofs.PerformedCommands.{unplayed}
 
 -- Transitions change neither the sizes nor the areas
 

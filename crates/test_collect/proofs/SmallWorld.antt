@@ -9,18 +9,18 @@ use Rattle.mem_port.specs.Store.{IsFresh, Store}
 use Rattle.area_space.specs.Fresh.{fresh, RoomRuleFor}
 use Rattle.area_space.specs.Sound.{IsTable}
 use Rattle.area_space.specs.Table.{IsOld, Table}
-use Rattle.area_space.proofs.Starting.{room_from}
+use Rattle.area_space.proofs.EmptyTable.{room_from}
 use Rattle.heap_state.specs.lisp_meaning.State.{no_aim}
 use Rattle.heap_state.specs.lisp_meaning.Charges.{account_now}
 use Rattle.heap_state.specs.lisp_meaning.Opening.{opening}
 use Rattle.heap_state.specs.lisp_meaning.Empty.{blank_map}
 use Rattle.heap_state.specs.lisp_meaning.Roles.{value_of}
 use Rattle.heap_state.specs.lisp_ground.GroundInvariant.{GroundInvariant}
-use Rattle.heap_state.proofs.lisp_ground.Starting.{fresh_kept_on}
+use Rattle.heap_state.proofs.lisp_ground.invariant.EmptyMachine.{fresh_kept_on}
 use Rattle.heap_commands.specs.cdr_lists.Words.{plain}
 use Rattle.heap_load.specs.Loading.{RepresentsWorld, FitsQuotas, emptied}
 use Rattle.test_collect.specs.SmallWorld.{IsSmall, small_areas, small_world}
-use Rattle.test_collect.proofs.Opened.{fresh_none_old}
+use Rattle.test_collect.proofs.NewMachine.{fresh_none_old}
 use Rattle.store_word.specs.declared.word.Content.TheVariants.{Nil as NilWord}
 use Rattle.lisp_graph.specs.Totals.{total}
 

@@ -1,5 +1,5 @@
 pub mod Trials
-pub mod Made
-pub mod Relaid
-pub mod Reserving
-pub mod Running
+pub mod NewObjects
+pub mod Relocations
+pub mod PlaceCommits
+pub mod MachineFlip

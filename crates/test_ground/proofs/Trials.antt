@@ -26,8 +26,8 @@ use Rattle.area_space.specs.Frees.{Frees}
 use Rattle.area_space.specs.Fresh.{fresh}
 use Rattle.area_space.specs.Ground.{IsGround, ClearsOld, with_level}
 use Rattle.test_ground.specs.Trial.{IsTrial, NamesNothing}
-use Rattle.area_space.proofs.Deciding.{old_or_not}
-use Rattle.area_space.proofs.Starting.{room_from}
+use Rattle.area_space.proofs.RegionStates.{old_or_not}
+use Rattle.area_space.proofs.EmptyTable.{room_from}
 use Rattle.area_space.proofs.GroundLaws.{ground_fresh}
 use Rattle.area_space.proofs.UsedWords.{opened_words, committed_words, committed_words_other, condemned_live_words, condemned_old_words, freed_live_words, freed_old_words}
 

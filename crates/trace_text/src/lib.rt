@@ -17,6 +17,7 @@ mod store;
 mod summary;
 mod words;
 
+pub use fast::read_fast;
 pub use made::made_lines_are_commands;
 pub use maker::Maker;
 pub use read::{LineKind, lines_are_spelled, read_command, read_request};

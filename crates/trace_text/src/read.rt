@@ -1,11 +1,11 @@
 //! Reading a line of a trace.
-ghost use Rattle.std.specs.Prelude.{◌≡◌, ◌+◌, List, length, IfOk};
+ghost use Rattle.std.specs.Prelude.{◌≡◌, ◌+◌, List, length, true, Ok, IfOk};
 ghost use Rattle.store_word.specs.declared.space.Space.{Space as space_value};
 ghost use Rattle.lisp_graph.specs.declared.world.AreaRule.{AreaRule};
 ghost use Rattle.world_text.specs.Limits.{AreNamed};
 ghost use Rattle.world_text.specs.Words.{words_of};
 ghost use Rattle.world_text.specs.Next.{Gives};
-ghost use Rattle.trace_text.specs.Commands.{InLimits, line_in, said_by, trace_line};
+ghost use Rattle.trace_text.specs.Commands.{InLimits, Run, line_in, said_by, trace_line};
 ghost use Rattle.trace_text.specs.Spelled.{AcceptsLines, NamesLevels, SaysLine};
 
 use crate::command::read_words;
@@ -47,6 +47,18 @@ fn line_in(
     Ok(LineKind::Command)
 }
 
+/// Whether the whole line is one of the most frequent commands. If so, the command is written to `request`.
+#[inline(always)]
+fn is_frequent(line: &[u8], space: &Space, areas: &Areas, request: &mut Request) -> bool
+    requires { InLimits space.now areas.now }
+    ensures { result ≡ true → trace_line space.now areas.now line.now ≡ Ok (Run request.new) }
+{
+    match read_fast(space, areas, line, request) {
+        Some(rest) => rest.is_empty(),
+        None => false,
+    }
+}
+
 /// What the line means in a world with this space and these areas, or why it is refused. A command is written to `request`; the
 /// call allocates no memory.
 #[inline(always)]
@@ -61,7 +73,7 @@ pub fn read_request(
     ensures ok { AreNamed areas.now → IfOk result (λ kind. SaysLine space.now areas.now line.now (said_by kind request.new)) }
     ensures levels { AreNamed areas.now → IfOk result (λ kind. NamesLevels space.now.levels (said_by kind request.new)) }
 {
-    if read_fast(space, areas, line, request) {
+    if is_frequent(line, space, areas, request) {
         return Ok(LineKind::Command);
     }
     let Some((head, count, rest)) = split_line(line) else {

@@ -9,13 +9,13 @@ use Rattle.transporter.specs.lisp_meaning.State.{Condemned, Store}
 use Rattle.transporter.specs.lisp_meaning.Image.{is_used, old_at, is_free, is_old, region}
 use Rattle.transporter.specs.lisp_meaning.Classes.{Class, classes, is_old_at}
 use Rattle.transporter.specs.lisp_meaning.Roles.{Kind, RoleMap, names_as, owner}
-use Rattle.transporter.proofs.lisp_meaning.Chains.{class_end}
-use Rattle.transporter.proofs.lisp_meaning.Reading.{used_where}
+use Rattle.transporter.proofs.lisp_meaning.roles.Chains.{class_end}
+use Rattle.transporter.proofs.lisp_meaning.reading.ReadRoles.{used_where}
 use Rattle.transporter.specs.lisp_ground.Image.{ground_image, no_rest}
 use Rattle.transporter.specs.lisp_ground.GroundInvariant.{GroundInvariant}
-use Rattle.transporter.proofs.lisp_ground.Owners.{region_cases}
-use Rattle.transporter.proofs.lisp_ground.Standings.{old_region, free_standing, not_old_region}
-use Rattle.transporter.proofs.lisp_ground.Storing.{used_below}
+use Rattle.transporter.proofs.lisp_ground.regions.Owners.{region_cases}
+use Rattle.transporter.proofs.lisp_ground.regions.OldAndLive.{old_region, free_standing, not_old_region}
+use Rattle.transporter.proofs.lisp_ground.invariant.WordStores.{used_below}
 use Rattle.transporter.specs.LiveWordsUnchanged.{IsLiveWord}
 
 module _ (m : Memory.Store) (t : Table) (k : RoleMap) (top : ℕ) (areas : List AreaRule) (s : Store) (aim : Condemned) (on : GroundInvariant m t k top areas s aim) where

@@ -15,9 +15,9 @@ use Rattle.area_space.specs.Places.{IsEnd}
 use Rattle.area_space.specs.Charges.{AllowsOrigin, committed}
 use Rattle.area_space.specs.Flips.{survivor, survivor_of}
 use Rattle.area_space.specs.PageList.{Adds}
-use Rattle.area_space.proofs.Extending.{end_in_chain, end_region}
-use Rattle.area_space.proofs.Opening.{contains_opened, slot_below}
-use Rattle.lisp_ground.proofs.Slots.{slot_area, slot_level}
+use Rattle.area_space.proofs.UsedEnds.{end_in_chain, end_region}
+use Rattle.area_space.proofs.NewRegions.{contains_opened, slot_below}
+use Rattle.lisp_ground.proofs.regions.Slots.{slot_area, slot_level}
 use Rattle.lisp_ground.specs.Placing.{Opens}
 use Rattle.transporter.specs.declared.parcel.Parcel.{Parcel}
 use Rattle.transporter.specs.Parcels.{IsFit, word_count_of, word_more, new_word}

@@ -28,6 +28,11 @@ pub record IsOldIn (t : Table) (at area level : ℕ) : Type 0 where
   pub level_in : level < levels_of t
   pub region : Contains (chain t (stale (slot_of t area level))) (at / 4096)
 
+-- a class is the old one of the region of an address
+pub record IsOldClass (t : Table) (at : ℕ) (class : Class) : Type 0 where
+  pub old : IsOldIn t at class.area class.level
+  pub stale_is : class.stale ≡ true
+
 -- a region is opened for this many words only if they don't fit in the last one of the class, and it is the free one with the lowest number
 pub record OpensIfFull (t : Table) (slot words : ℕ) (region : Option ℕ) : Type 0 where
   pub full : IfSome region (λ r. (last : ℕ) → last_of (chain t (live slot)) ≡ Some last → 4096 < used_of t last + words)

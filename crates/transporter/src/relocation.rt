@@ -1,17 +1,17 @@
 //! A parcel gets a place in the live class of its survivors, and is written there.
-ghost use Rattle.std.specs.Prelude.{◌≡◌, ◌+◌, ◌-◌, ◌*◌, ◌/◌, ◌<◌, ◌≤◌, IfOk, OnOk, OnErr, IfSome, true};
+ghost use Rattle.std.specs.Prelude.{◌≡◌, ◌+◌, ◌-◌, ◌*◌, ◌/◌, ◌<◌, ◌≤◌, IfOk, OnOk, OnErr, IfSome, IfNone};
 ghost use Rattle.mem_port.specs.View.{AccountsForFaults};
 ghost use Rattle.area_space.specs.View.{view};
 ghost use Rattle.area_space.specs.Views.{IsGround, NamesNoFree};
 ghost use Rattle.lisp_ground.specs.Views.{Opens};
 ghost use Rattle.transporter.specs.Views.{CanMove, CanPut, OpensOnly, Relocates};
 ghost use Rattle.mem_port.specs.Store.{StoresNothing};
-ghost use Rattle.area_space.specs.Table.{areas_of, levels_of, slot_of, stale, quota_of, IsOld};
+ghost use Rattle.area_space.specs.Table.{areas_of, levels_of, slot_of, quota_of, IsOld};
 ghost use Rattle.area_space.specs.Room.{RoomRule, words_of_area};
 ghost use Rattle.area_space.specs.Places.{IsEnd};
 ghost use Rattle.area_space.specs.Flips.{survivor};
 ghost use Rattle.transporter.specs.Parcels.{ArePairOf, word_count_of};
-ghost use Rattle.transporter.specs.Relocations.{Commits, IsOldIn, Moves, OpensIfFull};
+ghost use Rattle.transporter.specs.Relocations.{Commits, IsOldClass, Moves, OpensIfFull};
 
 use crate::copying::move_words;
 use crate::parcel::{Pair, Parcel};
@@ -20,16 +20,16 @@ use mem_port::{Memory, Span, hold_spans};
 use std::sync::ledger::Ledger;
 use store_word::{Steps, SwapFault};
 
-// The class of an old address.
-fn class_of_old(table: &RegionTable, at: u32) -> Class
-    requires in_range { at / 4096 < table.now.regions }
-    requires can { IsOld table.now (at / 4096) }
-    ensures area { IsOldIn table.now at result.area result.level }
-    ensures value { result.stale ≡ true }
+// The class of an address, if it is in an old region.
+#[inline]
+pub(crate) fn class_if_old(table: &RegionTable, at: u32) -> Option<Class>
+    requires { at / 4096 < table.now.regions }
+    ensures some { IfSome result (IsOldClass table.now at) }
+    ensures none { IfNone result (IsOld table.now (at / 4096) → ⊥) }
 {
     match table.class_of(at) {
-        Some(class) => class,
-        None => unreachable!(),
+        Some(class) => if class.stale { Some(class) } else { None },
+        None => None,
     }
 }
 
@@ -100,14 +100,16 @@ fn put<M: Memory, L: Ledger>(
     Ok(())
 }
 
-// Moves a parcel out of an old region, and returns the new address of its first object.
+// Moves a parcel out of an old region of this class, and returns the new address of its first object.
 pub(crate) fn relocate<M: Memory, L: Ledger>(
     ground: &mut Ground<M>,
     parcel: &Parcel,
     pair: Option<Pair>,
+    class: Class,
     steps: &mut Steps<L>,
 ) -> Result<u32, SwapFault>
     requires can { CanMove (view ground.old) parcel.now }
+    requires agrees { IsOldClass ground.old.table parcel.now.at class }
     requires pair { IfSome pair (ArePairOf (view ground.old).mem.store.words parcel.now) }
     ensures moved { IfOk result (Relocates (view ground.old) (view ground.new) parcel.now) }
     ensures fault { OnErr result (OpensOnly (view ground.old) (view ground.new)) }
@@ -116,7 +118,6 @@ pub(crate) fn relocate<M: Memory, L: Ledger>(
     ensures cost_at_most { OnErr result (steps.new ≤ steps.old + 18) }
 {
     ground.table.assert_invariant();
-    let class = class_of_old(&ground.table, parcel.at);
     let level = ground.table.survivor_level(class.level);
     let placed = place_for(ground, class.area, level, parcel.new_words());
     put(ground, parcel, pair, class, &placed, steps)?;

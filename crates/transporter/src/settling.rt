@@ -1,5 +1,5 @@
 //! Settling (the read barrier): an old address in a word becomes that of the transported object.
-ghost use Rattle.std.specs.Prelude.{◌≡◌, ℕ, List, ◌+◌, ◌-◌, ◌*◌, ◌/◌, ◌<◌, ◌≤◌, ◌^◌, IfOk, OnOk, OnErr, Some, length};
+ghost use Rattle.std.specs.Prelude.{◌≡◌, ℕ, List, ◌+◌, ◌-◌, ◌*◌, ◌/◌, ◌<◌, ◌≤◌, ◌^◌, ◌↔◌, IsTrue, IfOk, OnOk, OnErr, Some, length};
 ghost use Rattle.mem_port.specs.View.{AccountsForFaults, shown};
 ghost use Rattle.area_space.specs.View.{view};
 ghost use Rattle.transporter.specs.Views.{NoOldAddresses, CanSettle, FetchMoves, HasOldAt, IsSettleable, RepresentedByLaterMap, LiveWordsUnchanged, LiveWordsUnchangedExcept, MarksFollow, MovesAtMost, MovesFor, SettlesOn, SettlesWordAt, WordsUnchanged, PreservesScanned};
@@ -15,7 +15,7 @@ ghost use Rattle.transporter.specs.LiveWordsUnchanged.{IsLiveWord};
 ghost use Rattle.transporter.specs.Settling.{reference_of, readdressed, RefersToOld, Replaces, Settles};
 
 use crate::transports::transport;
-use area_space::Ground;
+use area_space::{Ground, RegionTable};
 use mem_port::Memory;
 use std::sync::ledger::Ledger;
 use store_word::{Content, Steps, SwapFault, Word};
@@ -42,6 +42,16 @@ fn with_address(word: Word, to: u32) -> Word
         Content::Struct(_) => Word::struct_at(to).with_cdr(code),
         _ => word,
     }
+}
+
+// Whether an address is in an old region. While no collection runs, no region is old, and the table
+// doesn't look for the region.
+#[inline]
+fn is_in_old(table: &RegionTable, at: u32) -> bool
+    requires { at / 4096 < table.now.regions }
+    ensures { IsTrue result ↔ IsOld table.now (at / 4096) }
+{
+    table.is_collecting() && table.is_old(at)
 }
 
 /// The word itself or, if it is a reference to an old address, the word with the address of the
@@ -87,7 +97,7 @@ pub fn settle<M: Memory, L: Ledger>(
     ensures cost_at_most { OnErr result (steps.new ≤ steps.old + 1069) }
 {
     match reference(word) {
-        Some(at) if ground.table.is_old(at) => settle_old(ground, word, at, steps),
+        Some(at) if is_in_old(&ground.table, at) => settle_old(ground, word, at, steps),
         _ => Ok(word),
     }
 }

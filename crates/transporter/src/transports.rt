@@ -10,10 +10,11 @@ ghost use Rattle.lisp_ground.specs.lisp_meaning.Roles.{Kind, RoleMap};
 ghost use Rattle.transporter.specs.Growth.{Grows};
 ghost use Rattle.obj_layout.specs.Forwards.{word_at};
 ghost use Rattle.transporter.specs.Parcels.{StandsWhole};
+ghost use Rattle.transporter.specs.Relocations.{IsOldClass};
 
 use crate::parcel::parcel_of;
-use crate::relocation::relocate;
-use area_space::Ground;
+use crate::relocation::{class_if_old, relocate};
+use area_space::{Class, Ground};
 use mem_port::Memory;
 use obj_layout::{Resolved, resolve_first};
 use std::sync::ledger::Ledger;
@@ -59,21 +60,23 @@ pub fn transport<M: Memory, L: Ledger>(
     ensures cost_at_most { OnErr result (steps.new ≤ steps.old + 1069) }
 {
     let found = resolve_first(&mut ground.mem, at, steps)?;
-    if !ground.table.is_old(found.at) {
-        return Ok(found.at);
+    match class_if_old(&ground.table, found.at) {
+        Some(class) => move_from(ground, found, class, steps),
+        None => Ok(found.at),
     }
-    move_from(ground, found, steps)
 }
 
-// Moves the parcel at the final address of an object in an old region.
+// Moves the parcel at the final address of an object in an old region of this class.
 fn move_from<M: Memory, L: Ledger>(
     ground: &mut Ground<M>,
     object: Resolved,
+    class: Class,
     steps: &mut Steps<L>,
 ) -> Result<u32, SwapFault>
     requires whole { StandsWhole (view ground.old).mem.store.words object.at }
     requires first { IfSome object.first (λ word. word ≡ word_at (view ground.old).mem.store.words object.at) }
     requires can { IsMovable (view ground.old) object.at }
+    requires agrees { IsOldClass ground.old.table object.at class }
     ensures moved { IfOk result (MovesHere (view ground.old) (view ground.new) object.at) }
     ensures fault { OnErr result (OpensAtMost (view ground.old) (view ground.new)) }
     ensures accounted { AccountsForFaults (view ground.old).mem (view ground.new).mem steps.old steps.new result }
@@ -81,5 +84,5 @@ fn move_from<M: Memory, L: Ledger>(
     ensures cost_at_most { OnErr result (steps.new ≤ steps.old + 1057) }
 {
     let found = parcel_of(&mut ground.mem, object, steps)?;
-    relocate(ground, &found.parcel, found.pair, steps)
+    relocate(ground, &found.parcel, found.pair, class, steps)
 }

@@ -8,7 +8,7 @@ use Rattle.why_held.specs.declared.chain.Hop.{Hop}
 use Rattle.why_held.specs.Chains.{AreDepths, HasDepth, IsChain, IsFree, IsShortest, Leads, depth_at, references}
 use Rattle.why_held.specs.Search.{AreBounds, AreLevels, IsWithin}
 use Rattle.why_held.proofs.References.{part_refers, refers_part, refers_which, register_refers}
-use Rattle.why_held.proofs.Finding.{option_cases}
+use Rattle.why_held.proofs.SearchSteps.{option_cases}
 use Rattle.why_held.proofs.Levels.{depth_below, same_depth, within_from, within_get}
 
 hop_of : Part → ℕ → Hop

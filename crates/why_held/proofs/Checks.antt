@@ -17,7 +17,7 @@ use Rattle.why_held.specs.Chains.{AreDepths, HasDepth, IsChain, IsHeld, IsShorte
 use Rattle.why_held.specs.Checking.{IsAnswered, has_length}
 use Rattle.why_held.specs.Search.{AreBounds, AreWithin, IsNextWithin, IsWithin, parts_of}
 use Rattle.why_held.proofs.References.{is_ref-of, parts_refer, ref_below, ref_of, refers_at, refers_none, refers_one, refers_split, refers_which}
-use Rattle.why_held.proofs.Finding.{option_cases, some_get}
+use Rattle.why_held.proofs.SearchSteps.{option_cases, some_get}
 use Rattle.why_held.proofs.Levels.{same_depth, within_from, within_get}
 use Rattle.why_held.proofs.Chains.{depths_are_bounds, free_at, shortest_at}
 

@@ -10,7 +10,7 @@ use Rattle.why_held.specs.declared.search.Search.{Search}
 use Rattle.why_held.specs.Chains.{depth_at}
 use Rattle.why_held.specs.Search.{AreLevels, Finds, IsWithin, all_parts, found_in, one_where}
 use Rattle.why_held.proofs.References.{all_parts_refer, all_parts_which, contains_none}
-use Rattle.why_held.proofs.Finding.{none_some, option_cases, some_get, some_is}
+use Rattle.why_held.proofs.SearchSteps.{none_some, option_cases, some_get, some_is}
 
 -- Numbers of depths
 

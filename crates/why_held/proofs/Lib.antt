@@ -1,12 +1,12 @@
 pub mod References
-pub mod Finding
+pub mod SearchSteps
 pub mod Levels
 pub mod Chains
-pub mod Offering
-pub mod Choosing
+pub mod NearestObjects
+pub mod ChosenChain
 pub mod Checks
-pub mod Tallied
-pub mod Merging
+pub mod TallyRows
+pub mod MergedRows
 pub mod ReachedKeys
 pub mod Counts
 pub mod SameCensus

@@ -9,7 +9,7 @@ use Rattle.lisp_graph.specs.declared.walk.Seen.{Seen}
 use Rattle.lisp_graph.specs.declared.walk.Seen.TheVariants.{Fix, Nil, Cons, Block}
 use Rattle.world_text.specs.Numbering.{fields_of, is_numbered}
 use Rattle.dump_laws.specs.Renamed.{HasSameCharges, IsRenamed, renamed}
-use Rattle.dump_laws.proofs.Renaming.{fields_renamed}
+use Rattle.dump_laws.proofs.RenamedGraphs.{fields_renamed}
 use Rattle.why_held.specs.declared.rows.CensusRow.{CensusRow}
 use Rattle.why_held.specs.declared.rows.Counted.{Counted}
 use Rattle.why_held.specs.Census.{IsCensus}

@@ -1,8 +1,8 @@
 pub mod Places
-pub mod Held
-pub mod Renaming
-pub mod Told
-pub mod Counting
+pub mod HeldObjects
+pub mod RenamedGraph
+pub mod ShownObjects
+pub mod StateCensus
 pub use Rattle.why_held.proofs.dump_laws
 pub use Rattle.lisp_ground.proofs as lisp_ground
 pub use Rattle.lisp_ground.proofs.lisp_meaning

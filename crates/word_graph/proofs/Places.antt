@@ -21,9 +21,9 @@ use Rattle.obj_layout.specs.Forwards.{word_at, forward_of, here, on}
 use Rattle.obj_layout.specs.Shapes.{charge_at}
 use Rattle.lisp_ground.specs.GroundInvariant.{GroundInvariant}
 use Rattle.lisp_ground.specs.Leading.{IsConsIn, IsBlockIn, car_in, cdr_in}
-use Rattle.lisp_ground.proofs.Finals.{final_place, name_in_use, place_inside}
-use Rattle.lisp_ground.proofs.Leading.{references_lead}
-use Rattle.lisp_ground.proofs.Shapes.{pair_charged, cell_charged, head_charged}
+use Rattle.lisp_ground.proofs.words.FinalAddresses.{final_place, name_in_use, place_inside}
+use Rattle.lisp_ground.proofs.words.References.{references_lead}
+use Rattle.lisp_ground.proofs.words.Shapes.{pair_charged, cell_charged, head_charged}
 use Rattle.word_graph.specs.Shown.{onward, led, place_of, value_in, body_by, object_in, objects_in, part_in}
 use Rattle.word_graph.specs.Laws.{placed, placed_body, placed_object, LeadsThere, ValuesArePlaces, ObjectsArePlaces}
 

@@ -1,4 +1,4 @@
 pub mod reading_laws
 pub mod writing_laws
 pub mod NumberSizes
-pub mod Fronts
+pub mod TextPrefixes

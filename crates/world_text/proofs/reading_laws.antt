@@ -5,7 +5,7 @@ pub mod WordLemmas
 pub mod WordCount
 pub mod Zeros
 pub mod Rows
-pub mod Spells
+pub mod WordReaders
 pub mod NumberLaws
 pub mod ValueLaws
 pub mod ReadLaws
@@ -15,6 +15,7 @@ pub mod MissingLaws
 pub mod ClosingLaws
 pub mod LineLaws
 pub mod AreaLaws
-pub mod Reached
-pub mod Refused
+pub mod PlaceInvariant
+pub mod ChargeRefusals
+pub mod LeadLaws
 pub mod FastLaws

@@ -2,11 +2,11 @@
 ghost use Rattle.std.specs.Prelude.{◌≡◌, ◌≢◌, ℕ, ◌+◌, ◌*◌, ◌/◌, ◌<◌, ◌≤◌, [], slice_index, Contains};
 ghost use Rattle.area_space.specs.Table.{levels_of, slots_of, live, chain, quota_of};
 ghost use Rattle.area_space.specs.Accounts.{account_of};
-ghost use Rattle.area_space.specs.Charges.{charged, discharged, husked, charged_by, AllowsOrigin};
-ghost use Rattle.area_space.specs.Sound.{IsTable};
+ghost use Rattle.area_space.specs.Charges.{charged, husked, charged_by, AllowsOrigin};
+ghost use Rattle.area_space.specs.declared.classes.Origin.TheVariants.{Moved};
 
 use super::RegionTable;
-use crate::classes::Origin;
+use crate::classes::{Class, Origin};
 
 impl RegionTable {
     // Charges the live class of a slot, by the origin of the charge.
@@ -14,16 +14,11 @@ impl RegionTable {
         requires in_range { slot < slots_of self.old }
         requires placed { chain self.old (live slot) ≢ [] }
         requires allowed { AllowsOrigin self.old slot charge origin }
-        requires sound { IsTable self.old }
         ensures { self.new ≡ charged_by self.old slot charge origin }
     {
         match origin {
             Origin::New => self.add_charge(slot, charge),
-            Origin::Moved(from) => {
-                let class = 2 * self.slot(from.area, from.level) + 1;
-                self.take_charge(class, charge);
-                self.add_charge(slot, charge);
-            }
+            Origin::Moved(from) => self.move_charge(from, slot, charge),
             Origin::Reserve => {}
         }
     }
@@ -35,20 +30,22 @@ impl RegionTable {
         requires fits { account_of self.old (slot / levels_of self.old) + amount ≤ quota_of self.old (slot / levels_of self.old) }
         ensures { self.new ≡ charged self.old (live slot) amount }
     {
-        let area = slot / (self.top as u32 + 1);
+        let area = self.area_of(2 * slot);
         self.charges[2 * slot as usize] += amount;
         self.debts[area as usize] += amount;
     }
 
-    // Takes from the charge of a class.
-    fn take_charge(&mut self, class: u32, amount: u32)
-        requires in_range { class < 2 * slots_of self.old }
-        requires at_most { amount ≤ slice_index self.old.charges class }
-        ensures { self.new ≡ discharged self.old class amount }
+    // Moves a charge from an old class to the live class of a slot that has a region. The slot is one of
+    // the same area, whose account stays.
+    fn move_charge(&mut self, from: Class, slot: u32, amount: u32)
+        requires in_range { slot < slots_of self.old }
+        requires placed { chain self.old (live slot) ≢ [] }
+        requires allowed { AllowsOrigin self.old slot amount (Moved from) }
+        ensures { self.new ≡ charged_by self.old slot amount (Moved from) }
     {
-        let area = class / 2 / (self.top as u32 + 1);
+        let class = 2 * self.slot(from.area, from.level) + 1;
         self.charges[class as usize] -= amount;
-        self.debts[area as usize] -= amount;
+        self.charges[2 * slot as usize] += amount;
     }
 
     // Turns charges of the live class of a place into husks.

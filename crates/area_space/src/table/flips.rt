@@ -1,5 +1,5 @@
 //! A flip: classes become old, and the other live regions get their flip marks.
-ghost use Rattle.std.specs.Prelude.{◌≡◌, ◌≢◌, ℕ, ◌+◌, ◌*◌, ◌^◌, ◌<◌, IsSome, [], length, slice_index, slice_set};
+ghost use Rattle.std.specs.Prelude.{◌≡◌, ◌≢◌, ℕ, ◌+◌, ◌*◌, ◌^◌, ◌<◌, IsSome, None, [], length, slice_index, slice_set};
 ghost use Rattle.area_space.specs.Table.{levels_of, slots_of, stale, chain, mark_of, IsOld};
 ghost use Rattle.area_space.specs.Flips.{condemns, condemns_level, begun, made_old, IsFlipMark, FlipsSlot, Condemns, survivor};
 
@@ -58,6 +58,7 @@ impl RegionTable {
         requires in_range { slot < slots_of self.old }
         requires empty { chain self.old (stale slot) ≡ [] }
         requires placed { self.old.placed ≡ 0 }
+        requires collecting { self.old.aim ≢ None }
         ensures { FlipsSlot self.old self.new what slot }
     {
         self.assert_invariant();
@@ -80,6 +81,7 @@ impl RegionTable {
         requires in_range { slot < slots_of self.old }
         requires empty { chain self.old (stale slot) ≡ [] }
         requires placed { self.old.placed ≡ 0 }
+        requires collecting { self.old.aim ≢ None }
         ensures { self.new ≡ made_old self.old slot }
     {
         let from = 2 * slot as usize;

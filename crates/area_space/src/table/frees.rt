@@ -1,5 +1,5 @@
 //! A reclaim: old classes become empty, and their regions free.
-ghost use Rattle.std.specs.Prelude.{◌≡◌, ◌<◌, IfSome, IfNone, Some, None, []};
+ghost use Rattle.std.specs.Prelude.{◌≡◌, ℕ, ◌<◌, IfSome, IfNone, Some, None, []};
 ghost use Rattle.index_lists.specs.Chains.{first_of};
 ghost use Rattle.area_space.specs.Table.{slots_of, stale, chain};
 ghost use Rattle.area_space.specs.Accounts.{debt};
@@ -68,8 +68,9 @@ impl RegionTable {
         }
     }
 
-    // Ends a collection.
+    // Ends a collection: no class is old any more.
     fn finish(&mut self)
+        requires { (slot : ℕ) → slot < slots_of self.old → chain self.old (stale slot) ≡ [] }
         ensures { self.new ≡ record self.old { aim = None } }
     {
         self.aim = None;

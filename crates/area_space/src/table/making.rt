@@ -3,9 +3,11 @@ ghost use Rattle.std.specs.Prelude.{◌≡◌, ◌<◌, ◌≤◌, ℕ, List, If
 ghost use Rattle.lisp_graph.specs.World.{AreAreas};
 ghost use Rattle.lisp_graph.specs.declared.world.AreaRule.{AreaRule};
 ghost use Rattle.area_space.specs.Fresh.{fresh, kinds_in, quotas_in};
+ghost use Rattle.area_space.specs.Inside.{HasClasses, class_by};
 ghost use Rattle.area_space.specs.Sound.{IsTable};
 
 use super::RegionTable;
+use crate::classes::Class;
 use crate::page_set::PageSet;
 use index_lists::Lists;
 use lisp_graph::{AreaKind, AreaRule, Areas};
@@ -15,7 +17,7 @@ use store_word::{NoMemory, Space};
 impl RegionTable {
     /// A table in which every region is free and no class is charged, for 1 to 1,024 regions, a
     /// greatest level of at most 6, and 1 to 16 areas. It takes 20 to 24 bytes for each region and
-    /// each class, and no later call takes memory.
+    /// 23 to 27 for each class, and no later call takes memory.
     pub fn new(alloc: Global, space: &Space, areas: &Areas) -> Result<RegionTable, NoMemory>
         requires regions { (1 ≤ space.now.regions) × (space.now.regions ≤ 1024) }
         requires levels { space.now.levels ≤ 6 }
@@ -26,14 +28,16 @@ impl RegionTable {
         let quotas = quotas_of(alloc, rules)?;
         let kinds = kinds_of(alloc, rules)?;
         let count = rules.len() as u32;
-        let classes = 2 * (count * (space.levels as u32 + 1));
-        let chains = Lists::new(alloc, space.regions, classes)?;
+        let levels = space.levels as u32 + 1;
+        let numbers = 2 * (count * levels);
+        let classes = classes_of(alloc, numbers, levels)?;
+        let chains = Lists::new(alloc, space.regions, numbers)?;
         let mut free = PageSet::new(alloc, space.regions)?;
         free.insert_span(0, space.regions - 1);
         let used = vec![in alloc; 0u32; space.regions as usize]?;
         let marks = vec![in alloc; 0u32; space.regions as usize]?;
-        let charges = vec![in alloc; 0u32; classes as usize]?;
-        let husks = vec![in alloc; 0u32; classes as usize]?;
+        let charges = vec![in alloc; 0u32; numbers as usize]?;
+        let husks = vec![in alloc; 0u32; numbers as usize]?;
         let debts = vec![in alloc; 0u32; count as usize]?;
         let scan = PageSet::new(alloc, 16 * space.regions)?;
         Ok(RegionTable {
@@ -46,6 +50,7 @@ impl RegionTable {
             debts,
             quotas,
             kinds,
+            classes,
             scan,
             regions: space.regions,
             areas: count,
@@ -77,6 +82,35 @@ fn kinds_of(alloc: Global, rules: &[AreaRule]) -> Result<Vec<AreaKind>, AllocErr
         kinds.push(rules[i].kind)?;
     }
     Ok(kinds)
+}
+
+// The class of each number below a bound, in a world of this many levels.
+fn classes_of(alloc: Global, count: u32, levels: u32) -> Result<Vec<Class>, AllocError>
+    requires levels { 0 < levels }
+    requires at_most { levels ≤ 7 }
+    requires count { count ≤ 224 }
+    ensures { IfOk result (λ classes. HasClasses classes.items levels count) }
+{
+    let mut classes = Vec::new(alloc);
+    for number in 0..count {
+        classes.push(class_by(number, levels))?;
+    }
+    Ok(classes)
+}
+
+// The class of a number, in a world of this many levels.
+fn class_by(number: u32, levels: u32) -> Class
+    requires levels { 0 < levels }
+    requires at_most { levels ≤ 7 }
+    requires in_range { number < 224 }
+    ensures { result ≡ class_by levels number }
+{
+    let slot = number / 2;
+    Class {
+        area: (slot / levels) as u8,
+        level: (slot % levels) as u8,
+        stale: number % 2 == 1,
+    }
 }
 
 /// What always holds of a table holds of one in which every region is free.

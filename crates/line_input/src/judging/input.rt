@@ -1,5 +1,5 @@
 //! A place between two lines of an input.
-ghost use Rattle.std.specs.Prelude.{◌≡◌, ◌<◌, ◌≤◌, ◌+◌, ◌^◌, length, None, Ok, IfOk, OnOk};
+ghost use Rattle.std.specs.Prelude.{◌≡◌, ◌<◌, ◌≤◌, ◌+◌, ◌^◌, length, true, None, Ok, IfOk, OnOk};
 ghost use Rattle.line_input.specs.declared.statuses.status.RunError.TheVariants.{Line};
 ghost use Rattle.line_input.specs.Limits.{broken_limit, enough_bytes};
 ghost use Rattle.line_input.specs.Verdict.{IsPlace, Judged, early_reason, ended, enough, further, judged_as, start};
@@ -75,6 +75,14 @@ impl<J> InputReader<J> {
             return Some(Reason::LineTooLong);
         }
         None
+    }
+
+    /// Whether the next line keeps the limit of the input, however long it is, up to the limit of a line.
+    #[inline(always)]
+    pub fn has_room_for_a_line(&self) -> bool
+        ensures { result ≡ true → self.now.bytes + 32769 ≤ 2 ^ 40 }
+    {
+        self.bytes < LONGEST_INPUT - LONGEST_LINE as u64
     }
 
     /// Goes past a line of this many bytes.

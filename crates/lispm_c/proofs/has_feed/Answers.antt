@@ -1,5 +1,5 @@
 use Rattle.std.proofs.Common.{◌∙◌}
-use Rattle.lispm_c.proofs.Feeds.{any_feed}
+use Rattle.lispm_c.proofs.LineFeeds.{any_feed}
 use Rattle.lispm_c.proofs.has_feed.Goals as goal
 
 pub returns : goal.returns

@@ -10,6 +10,9 @@ use std::alloc::Global;
 use std::marker::Model;
 use store_word::NoMemory;
 
+// How many bytes of memory follow the room of a buffer, so that the whole array of a short text can be copied at its end.
+const SPARE: usize = 64;
+
 /// A buffer of fixed size in front of a sink. It gathers texts, and gives them to the sink together when
 /// the next text doesn't fit, and at a flush.
 #[derive(Drop)]
@@ -19,14 +22,14 @@ pub struct SinkBuffer {
 }
 
 impl Model for SinkBuffer {
-    ghost use Rattle.std.specs.Prelude.{◌≤◌, take, vec_len};
+    ghost use Rattle.std.specs.Prelude.{◌+◌, ◌-◌, ◌≤◌, take, vec_len};
     ghost use Rattle.outer_ports.specs.Buffers.{Buffered};
 
     ghost Value = { Buffered };
 
-    ghost view = { λ b. record { pending = take b.len b.room.items; room = vec_len b.room } };
+    ghost view = { λ b. record { pending = take b.len b.room.items; room = vec_len b.room - 64 } };
 
-    ghost invariant = { λ b. b.len ≤ vec_len b.room };
+    ghost invariant = { λ b. b.len + 64 ≤ vec_len b.room };
 }
 
 impl SinkBuffer {
@@ -34,7 +37,8 @@ impl SinkBuffer {
     pub fn new(alloc: Global, room: usize) -> Result<SinkBuffer, NoMemory>
         ensures { IfOk result (λ buffer. buffer ≡ record { pending = []; room = room }) }
     {
-        let room = vec![in alloc; 0; room]?;
+        let size = room.checked_add(SPARE).ok_or(NoMemory)?;
+        let room = vec![in alloc; 0; size]?;
         Ok(SinkBuffer { room, len: 0 })
     }
 
@@ -64,11 +68,36 @@ impl SinkBuffer {
         ensures cause { HasCause (K.faults sink.old) (K.faults sink.new) result }
         ensures last { OnErr result (FailedLast (K.faults sink.old) (K.faults sink.new) (K.failed sink.new)) }
     {
-        if bytes.len() <= self.room.len() - self.len {
+        if bytes.len() <= self.free() {
             self.put(bytes);
             return Ok(());
         }
         self.gather_anew(sink, bytes)
+    }
+
+    /// Gathers the first `len` bytes of an array of at most 64, as `gather` does. The whole array is copied, which is
+    /// faster than a copy whose size isn't known when the program is compiled.
+    #[inline(always)]
+    pub fn gather_short<K: Sink, const N: usize>(
+        &mut self,
+        sink: &mut K,
+        text: &[u8; N],
+        len: usize,
+    ) -> Result<(), SinkFault>
+        requires at_most { N ≤ 64 }
+        requires in_range { len ≤ N }
+        ensures gathers { Gathers (K.stands sink.old) (K.stands sink.new)
+            self.old.pending self.new.pending (take len text.now) result }
+        ensures no_fault { length self.old.pending + len ≤ self.old.room → sink.new ≡ sink.old }
+        ensures room { self.new.room ≡ self.old.room }
+        ensures cause { HasCause (K.faults sink.old) (K.faults sink.new) result }
+        ensures last { OnErr result (FailedLast (K.faults sink.old) (K.faults sink.new) (K.failed sink.new)) }
+    {
+        if len <= self.free() {
+            self.put_short(text, len);
+            return Ok(());
+        }
+        self.gather_anew(sink, &text[..len])
     }
 
     // Gathers bytes that don't fit after what is pending.
@@ -82,7 +111,7 @@ impl SinkBuffer {
         ensures last { OnErr result (FailedLast (K.faults sink.old) (K.faults sink.new) (K.failed sink.new)) }
     {
         self.flush(sink)?;
-        if bytes.len() <= self.room.len() {
+        if bytes.len() <= self.free() {
             self.put(bytes);
             return Ok(());
         }
@@ -105,6 +134,14 @@ impl SinkBuffer {
         outcome
     }
 
+    // How many more bytes there is room for.
+    #[inline(always)]
+    fn free(&self) -> usize
+        ensures { result + length self.now.pending ≡ self.now.room }
+    {
+        self.room.len() - SPARE - self.len
+    }
+
     // Puts these bytes after what is pending.
     #[inline(always)]
     fn put(&mut self, bytes: &[u8])
@@ -113,5 +150,16 @@ impl SinkBuffer {
     {
         copy_at(&mut self.room, self.len, bytes);
         self.len += bytes.len();
+    }
+    // Puts the first `len` bytes of this array after what is pending.
+    #[inline(always)]
+    fn put_short<const N: usize>(&mut self, text: &[u8; N], len: usize)
+        requires fits { length self.old.pending + len ≤ self.old.room }
+        requires at_most { N ≤ 64 }
+        requires in_range { len ≤ N }
+        ensures { self.new ≡ record self.old { pending = self.old.pending ++ take len text.now } }
+    {
+        copy_at(&mut self.room, self.len, text);
+        self.len += len;
     }
 }

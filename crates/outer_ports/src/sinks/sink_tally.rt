@@ -1,10 +1,11 @@
 //! A sink that counts lines, and stores no text.
-ghost use Rattle.std.specs.Prelude.{◌≡◌, [], false};
+ghost use Rattle.std.specs.Prelude.{◌≡◌, ◌≤◌, [], false, length};
 ghost use Rattle.outer_ports.specs.Lines.{counted_of};
-ghost use Rattle.outer_ports.specs.Counting.{with_byte};
+ghost use Rattle.outer_ports.specs.Counting.{with_end, with_rest};
 
+use crate::room::copy_at;
 use crate::sinks::sink::{Sink, SinkFault};
-use crate::sinks::tally::Tally;
+use crate::sinks::tally::{Tally, position_of};
 use std::marker::Model;
 
 /// A sink that keeps the counts of the whole lines that it was given, and the first eleven bytes of
@@ -46,17 +47,28 @@ impl SinkTally {
         self.tally
     }
 
-    // Counts a line at its line feed; keeps any other byte if it is one of the first eleven of its line.
-    fn add(&mut self, byte: u8)
-        ensures { self.new ≡ with_byte self.old byte }
+    // Counts the line that has begun, which ends with these bytes.
+    fn end_line(&mut self, bytes: &[u8])
+        ensures value { self.new ≡ with_end self.old bytes.now }
+        ensures at_most { length self.old.begun ≤ 11 }
     {
-        if byte == b'\n' {
-            self.tally.add(&self.begun[..self.len]);
-            self.len = 0;
-        } else if self.len < 11 {
-            self.begun[self.len] = byte;
-            self.len += 1;
+        if self.len == 0 {
+            self.tally.add(bytes);
+            return;
         }
+        self.go_on(bytes);
+        self.tally.add(&self.begun[..self.len]);
+        self.len = 0;
+    }
+
+    // Keeps those of these bytes that are among the first eleven of their line, which goes on.
+    fn go_on(&mut self, bytes: &[u8])
+        ensures value { self.new ≡ with_rest self.old bytes.now }
+        ensures at_most { length self.old.begun ≤ 11 }
+    {
+        let count = bytes.len().min(11 - self.len);
+        copy_at(&mut self.begun, self.len, &bytes[..count]);
+        self.len += count;
     }
 }
 
@@ -68,9 +80,17 @@ impl Sink for SinkTally {
     ghost failed = { λ _. false };
 
     fn give(&mut self, piece: &[u8]) -> Result<usize, SinkFault> {
-        for byte in piece {
-            self.add(*byte);
+        let mut rest = piece;
+        'lines: loop {
+            let feed = position_of(b'\n', rest);
+            if feed == rest.len() {
+                break;
+            }
+            let (line, ended) = rest.split_at(feed);
+            self.end_line(line);
+            rest = &ended[1..];
         }
+        self.go_on(rest);
         Ok(piece.len())
     }
 }

@@ -1,5 +1,5 @@
 //! Counts of lines by their first word.
-ghost use Rattle.std.specs.Prelude.{◌≡◌, ◌==◌, []};
+ghost use Rattle.std.specs.Prelude.{◌≡◌, ◌≤◌, ◌==◌, [], length};
 ghost use Rattle.std.specs.List.{position_or_len};
 ghost use Rattle.outer_ports.specs.Lines.{first_word};
 ghost use Rattle.outer_ports.specs.Counting.{may_be_counted, next_count_if, with_other, with_word};
@@ -81,15 +81,16 @@ fn may_be_counted(line: &[u8]) -> bool
 fn first_word(line: &[u8]) -> &[u8]
     ensures { result.now ≡ first_word line.now }
 {
-    &line[..word_length(line)]
+    &line[..position_of(b' ', line)]
 }
 
-// The position of the first space, or the length if there is none.
-fn word_length(line: &[u8]) -> usize
-    ensures { result ≡ position_or_len (λ byte. byte == 32) line.now }
+/// The position of the first byte like this one, or the length if there is none.
+pub(crate) fn position_of(mark: u8, bytes: &[u8]) -> usize
+    ensures value { result ≡ position_or_len (λ byte. byte == mark) bytes.now }
+    ensures at_most { result ≤ length bytes.now }
 {
-    let space = line.iter().position(|byte| *byte == b' ');
-    space.unwrap_or(line.len())
+    let found = bytes.iter().position(|byte| *byte == mark);
+    found.unwrap_or(bytes.len())
 }
 
 // The next count if the test holds, otherwise the same count.

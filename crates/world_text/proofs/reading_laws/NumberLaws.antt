@@ -11,7 +11,7 @@ use Rattle.world_text.specs.declared.reading.reason.Reason.TheVariants.{BadNumbe
 use Rattle.world_text.specs.reading.Words.{is_graphic, is_word}
 use Rattle.world_text.specs.reading.Numbers.{are_digits, is_number, number_in, number_value}
 use Rattle.world_text.specs.reading.Next.{a_number, found}
-use Rattle.world_text.proofs.reading_laws.Spells.{Spells}
+use Rattle.world_text.proofs.reading_laws.WordReaders.{Spells}
 use Rattle.world_text.proofs.reading_laws.Rows.{both}
 
 -- the number that digits represent after the digits of another number

@@ -9,7 +9,7 @@ use Rattle.world_text.specs.declared.fault.WorldFault.{WorldFault}
 use Rattle.world_text.specs.reading.Reader.{bad}
 use Rattle.world_text.specs.reading.Words.{is_word}
 use Rattle.world_text.specs.reading.Next.{◌>>=◌, each, next}
-use Rattle.world_text.proofs.reading_laws.Spells.{Spells}
+use Rattle.world_text.proofs.reading_laws.WordReaders.{Spells}
 
 -- what a step returned
 pub step_parts : {A B E : Type 0} (read : Result A E) (f : A → Result B E) (y : B) → (read >>= f) ≡ Ok y → (x : A) × (read ≡ Ok x) × (f x ≡ Ok y)

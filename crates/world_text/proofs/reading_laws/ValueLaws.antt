@@ -23,7 +23,7 @@ use Rattle.world_text.specs.reading.Next.{a_register, a_value, an_area, found}
 use Rattle.world_text.specs.reading.Header.{a_kind, new_name}
 use Rattle.world_text.specs.writing.Spelling.{IsWritten, kind_text, name_of, value_text}
 use Rattle.world_text.specs.reading.Limits.{AreNamed}
-use Rattle.world_text.proofs.reading_laws.Spells.{Spells}
+use Rattle.world_text.proofs.reading_laws.WordReaders.{Spells}
 use Rattle.world_text.proofs.reading_laws.Rows.{both}
 use Rattle.world_text.proofs.reading_laws.NumberLaws.{decimal_digits, decimal_first, decimal_word, found_is, number_only, number_reads}
 

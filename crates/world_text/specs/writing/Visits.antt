@@ -61,6 +61,10 @@ pub record AreDumped (graph : KeyedGraph) (old new : VisitedObjects) (objects : 
   pub shown : All (λ key. All (Shows graph) (fields_of graph key)) new.numbering.keys
   pub is : objects ≡ map (dumped_object graph new.numbering.keys) new.numbering.keys
 
+-- the same, whatever objects they are
+abbrev pub AreAllDumped : KeyedGraph → VisitedObjects → VisitedObjects → Type 0
+AreAllDumped graph old new = (objects : List Object) × AreDumped graph old new objects
+
 -- what a dump writes of the graph: its objects in the order of their numbers, and its registers
 pub record IsWalk (graph : KeyedGraph) (contents : DumpContents) : Type 0 where
   pub numbering : IsNumbering graph contents.numbering.keys

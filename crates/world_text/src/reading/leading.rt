@@ -3,10 +3,10 @@
 ghost use Rattle.std.specs.Prelude.{◌≡◌, ◌≤◌, ◌<◌, ◌++◌, ◌∷◌, true, length, take, decimal, IfSome};
 ghost use Rattle.world_text.specs.reading.Numbers.{are_digits, number_value};
 ghost use Rattle.world_text.specs.reading.Words.{is_graphic, is_word};
-ghost use Rattle.world_text.specs.reading.Leading.{LeadsArea};
+ghost use Rattle.world_text.specs.reading.Leading.{LeadsArea, begins_with, first_begun};
 ghost use Rattle.world_text.specs.writing.Spelling.{IsWritten, value_text};
 
-use crate::reading::numbers::{area_of, negative};
+use crate::reading::numbers::{is_named, negative};
 use lisp_graph::{Areas, Value};
 
 /// The text after these bytes.
@@ -41,18 +41,15 @@ fn leading_digits(text: &[u8]) -> (u64, usize)
     ensures value { result.0 ≡ number_value (take result.1 text.now) }
 {
     let mut value = 0u64;
-    let mut count = 0;
-    for byte in text {
-        if count == 10 {
-            return (value, count);
-        }
+    let most = text.len().min(10);
+    for at in 0..most {
+        let byte = text[at];
         if !byte.is_ascii_digit() {
-            return (value, count);
+            return (value, at);
         }
-        value = value * 10 + u64::from(*byte - b'0');
-        count += 1;
+        value = value * 10 + u64::from(byte - b'0');
     }
-    (value, count)
+    (value, most)
 }
 
 /// A number of 32 bits at the front, and the text after it.
@@ -96,15 +93,36 @@ pub fn leading_word(text: &[u8]) -> Option<(&[u8], &[u8])>
     None
 }
 
-/// The name of one of the areas at the front, and the text after it.
+/// Whether the text is this word, followed by a space.
+#[inline(always)]
+fn begins_with(word: &[u8], text: &[u8]) -> bool
+    ensures { result ≡ begins_with word.now text.now }
+{
+    let size = word.len();
+    text.len() > size && text[size] == b' ' && is_named(word, &text[..size])
+}
+
+/// The first area whose name the text begins with.
+#[inline(always)]
+fn first_begun(areas: &Areas, text: &[u8]) -> Option<usize>
+    ensures value { result ≡ first_begun areas.now text.now }
+    ensures in_range { IfSome result (λ area. area < length areas.now) }
+{
+    areas
+        .as_slice()
+        .iter()
+        .position(|rule| begins_with(rule.name.as_bytes(), text))
+}
+
+/// The name of one of the areas at the front, followed by a space, and the text after it.
 #[inline(always)]
 pub fn leading_area<'a>(areas: &Areas, text: &'a [u8]) -> Option<(usize, &'a [u8])>
     ensures value { IfSome result (λ x. LeadsArea areas.now text.now x.0 x.1.now) }
     ensures in_range { IfSome result (λ x. x.0 < length areas.now) }
 {
-    let (name, rest) = leading_word(text)?;
-    let area = area_of(areas, name)?;
-    Some((area, rest))
+    let area = first_begun(areas, text)?;
+    let name = areas.as_slice()[area].name.as_bytes();
+    Some((area, &text[name.len()..]))
 }
 
 /// The number of an object at the front, which followed `#`, and the text after it.

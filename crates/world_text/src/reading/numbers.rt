@@ -102,7 +102,7 @@ pub fn register_of(registers: u32, word: &[u8]) -> Option<u32>
 
 /// Whether a name is this word. Both are short, so they are compared byte by byte.
 #[inline(always)]
-fn is_named(name: &[u8], word: &[u8]) -> bool
+pub fn is_named(name: &[u8], word: &[u8]) -> bool
     ensures { result ≡ bytes_eq name.now word.now }
 {
     if name.len() != word.len() {

@@ -42,6 +42,7 @@ fn charge_with(place: &WorldReader, area: usize, wanted: u32) -> Result<u32, Wor
 }
 
 /// Adds an object, whose charge the area's quota must allow.
+#[inline(always)]
 #[tactic(auto, unfolding(crate::specs::reading::Objects::added))]
 pub fn add_object(
     place: &mut WorldReader,

@@ -3,7 +3,7 @@ ghost use Rattle.std.specs.Prelude.{◌≡◌, ◌≤◌, IfOk};
 ghost use Rattle.world_text.specs.writing.Dump.{HasSwapCause, IsDump};
 
 use crate::DumpFault;
-use crate::writing::dumped::contents_of;
+use crate::writing::dumped::{DumpContents, contents_of};
 use crate::writing::file::file_text;
 use lisp_graph::{AreaRule, Text, Walk};
 use std::alloc::Global;
@@ -23,13 +23,18 @@ pub fn dump_text<W: Walk>(
     ensures unchanged { W.graph walk.new ≡ W.graph walk.old }
     ensures cause { HasSwapCause (W.faults walk.old) (W.faults walk.new) result }
 {
-    let contents = contents_of(alloc, walk)?;
+    // The numbering isn't kept, so that its memory is free for the text.
+    let DumpContents {
+        numbering: _,
+        objects,
+        registers,
+    } = contents_of(alloc, walk)?;
     let text = file_text(
         alloc,
         space,
         areas,
-        contents.objects.as_slice(),
-        contents.registers.as_slice(),
+        objects.as_slice(),
+        registers.as_slice(),
     )?;
     Ok(text)
 }

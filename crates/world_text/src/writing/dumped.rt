@@ -1,8 +1,8 @@
 //! The objects and the registers of a dump; the objects get their numbers in the walk that shows them.
-ghost use Rattle.std.specs.Prelude.{◌≡◌, ◌<◌, ◌^◌, Some, true, false, length, slice_get, IfOk};
+ghost use Rattle.std.specs.Prelude.{◌≡◌, ◌<◌, ◌^◌, Some, true, false, length, slice_get, IfOk, OnOk};
 ghost use Rattle.world_text.specs.writing.Numbering.{IsKnown, IsNumbering, fields_of};
 ghost use Rattle.world_text.specs.writing.Dump.{HasSwapCause};
-ghost use Rattle.world_text.specs.writing.Visits.{AreDumped, AreVisited, AreVisits, IsBody, IsDumped, IsWalk};
+ghost use Rattle.world_text.specs.writing.Visits.{AreAllDumped, AreDumped, AreVisited, AreVisits, IsBody, IsDumped, IsWalk};
 
 use crate::DumpFault;
 use crate::writing::numbering::Numbering;
@@ -18,7 +18,7 @@ pub struct DumpContents {
     pub registers: Fields,
 }
 
-/// VisitedObjects the fields of an object with this many.
+/// Visits the fields of an object with this many.
 fn dumped_fields<W: Walk>(
     alloc: Global,
     walk: &mut W,
@@ -44,7 +44,7 @@ fn dumped_fields<W: Walk>(
     Ok(fields)
 }
 
-/// VisitedObjects the car and the cdr of the cons with this number. The cdr was shown when the cons got its number.
+/// Visits the car and the cdr of the cons with this number. The cdr was shown when the cons got its number.
 fn dumped_cons<W: Walk>(
     walk: &mut W,
     visits: &mut VisitedObjects,
@@ -65,7 +65,7 @@ fn dumped_cons<W: Walk>(
     Ok(Body::Cons { car, cdr })
 }
 
-/// VisitedObjects the fields of a block of this form.
+/// Visits the fields of a block of this form.
 fn dumped_block<W: Walk>(
     alloc: Global,
     walk: &mut W,
@@ -88,7 +88,7 @@ fn dumped_block<W: Walk>(
     })
 }
 
-/// VisitedObjects the fields of the object with this number and form.
+/// Visits the fields of the object with this number and form.
 fn dumped_body<W: Walk>(
     alloc: Global,
     walk: &mut W,
@@ -111,7 +111,7 @@ fn dumped_body<W: Walk>(
     }
 }
 
-/// VisitedObjects the object with this number.
+/// Visits the object with this number.
 fn dumped_object<W: Walk>(
     alloc: Global,
     walk: &mut W,
@@ -134,7 +134,7 @@ fn dumped_object<W: Walk>(
     })
 }
 
-/// VisitedObjects the objects that have numbers, in the order of these, until none remains; further ones get numbers meanwhile.
+/// Visits the objects that have numbers, in the order of these, until none remains; further ones get numbers meanwhile.
 fn dumped_objects<W: Walk>(
     alloc: Global,
     walk: &mut W,
@@ -156,7 +156,26 @@ fn dumped_objects<W: Walk>(
     Ok(objects)
 }
 
-/// VisitedObjects the registers.
+/// Visits the objects that have numbers, in the order of these, until none remains, and keeps nothing that they contain.
+fn visited_objects<W: Walk>(
+    alloc: Global,
+    walk: &mut W,
+    visits: &mut VisitedObjects,
+) -> Result<(), DumpFault>
+    requires { AreVisits (W.graph walk.old) visits.old }
+    ensures value { OnOk result (AreAllDumped (W.graph walk.old) visits.old visits.new) }
+    ensures unchanged { W.graph walk.new ≡ W.graph walk.old }
+    ensures cause { HasSwapCause (W.faults walk.old) (W.faults walk.new) result }
+{
+    let mut number = 0;
+    while let Some(key) = visits.numbering.keys.key(number) {
+        dumped_object(alloc, walk, visits, number, key)?;
+        number += 1;
+    }
+    Ok(())
+}
+
+/// Visits the registers.
 fn dumped_registers<W: Walk>(
     alloc: Global,
     walk: &mut W,
@@ -207,6 +226,8 @@ pub fn numbering_of<W: Walk>(alloc: Global, walk: &mut W) -> Result<Numbering, D
     ensures unchanged { W.graph walk.new ≡ W.graph walk.old }
     ensures cause { HasSwapCause (W.faults walk.old) (W.faults walk.new) result }
 {
-    let contents = contents_of(alloc, walk)?;
-    Ok(contents.numbering)
+    let mut visits = VisitedObjects::new(alloc);
+    dumped_registers(alloc, walk, &mut visits)?;
+    visited_objects(alloc, walk, &mut visits)?;
+    Ok(visits.numbering)
 }

@@ -76,14 +76,14 @@ pub fn push_object(text: &mut Text, areas: &[AreaRule], object: &Object) -> Resu
 {
     match &object.body {
         Body::Cons { car, cdr } => {
-            text.push_all(b"cons")?;
-            push_word(text, name_of(areas, object.area))?;
+            text.push_all(b"cons ")?;
+            text.push_all(name_of(areas, object.area))?;
             push_spaced_value(text, *car)?;
             push_spaced_value(text, *cdr)?;
         }
         Body::Block { code, fields } => {
-            text.push_all(b"block")?;
-            push_word(text, name_of(areas, object.area))?;
+            text.push_all(b"block ")?;
+            text.push_all(name_of(areas, object.area))?;
             push_spaced(text, u32::from(*code))?;
             push_values(text, fields.as_slice())?;
         }
@@ -121,8 +121,8 @@ pub fn push_run(
 ) -> Result<(), NoMemory>
     ensures { OnOk result (text.new ≡ text.old ++ text_of areas.now (RunLine area (map (λ one. car_of one.body) objects.now) ∷ [])) }
 {
-    text.push_all(b"run")?;
-    push_word(text, name_of(areas, area))?;
+    text.push_all(b"run ")?;
+    text.push_all(name_of(areas, area))?;
     push_cars(text, objects)?;
     text.push_all(b"\n")
 }

@@ -8,7 +8,7 @@ use std::alloc::Global;
 use std::marker::Model;
 use store_word::NoMemory;
 
-/// KeyNumbers of objects, each with its place as its number. There are fewer than 2^32.
+/// Keys of objects, each with its place as its number. There are fewer than 2^32.
 #[derive(Drop)]
 pub struct KeyNumbers {
     alloc: Global,

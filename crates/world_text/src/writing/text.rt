@@ -61,8 +61,17 @@ pub fn push_spaced(text: &mut Text, number: u32) -> Result<(), NoMemory>
 pub fn push_spaced_value(text: &mut Text, value: Value) -> Result<(), NoMemory>
     ensures { OnOk result (text.new ≡ text.old ++ 32 ∷ value_text value) }
 {
-    text.push_all(b" ")?;
-    push_value(text, value)
+    match value {
+        Value::Fix(number) => {
+            text.push_all(b" ")?;
+            push_integer(text, number)
+        }
+        Value::Nil => text.push_all(b" nil"),
+        Value::Ref(number) => {
+            text.push_all(b" #")?;
+            push_number(text, number)
+        }
+    }
 }
 
 /// Values, each after a space.

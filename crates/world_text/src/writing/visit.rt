@@ -66,6 +66,7 @@ fn chain<W: Walk>(walk: &mut W, visits: &mut VisitedObjects, key: u64) -> Result
 }
 
 /// The number of a cons, which gets the next one if it has none.
+#[inline(always)]
 fn cons_number<W: Walk>(
     walk: &mut W,
     visits: &mut VisitedObjects,
@@ -98,7 +99,8 @@ fn block_number(visits: &mut VisitedObjects, key: u64) -> Result<u64, NoMemory>
     Ok(number as u64)
 }
 
-/// VisitedObjects a value; the result has the number of the object to which it refers.
+/// Visits a value; the result has the number of the object to which it refers.
+#[inline(always)]
 pub fn visit<W: Walk>(
     walk: &mut W,
     visits: &mut VisitedObjects,

@@ -1,5 +1,5 @@
 use Rattle.std.proofs.Common.{arith}
-use Rattle.area_space.proofs.Paging.{lowest_at}
+use Rattle.area_space.proofs.PageSets.{lowest_at}
 use Rattle.area_space.proofs.bits.lowest_bit.Goals as goal
 
 pub returns-then-bits-word-ne0-clause-some : goal.returns-then-bits-word-ne0-clause-some

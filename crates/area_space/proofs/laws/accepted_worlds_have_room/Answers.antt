@@ -1,4 +1,4 @@
-use Rattle.area_space.proofs.Starting.{room_from}
+use Rattle.area_space.proofs.EmptyTable.{room_from}
 use Rattle.area_space.proofs.laws.accepted_worlds_have_room.Goals as goal
 
 pub returns : goal.returns

@@ -1,7 +1,7 @@
 use Rattle.std.proofs.Common.{◌≡◌, ◌-◌, ◌++◌, length, replicate, take, drop, sym, ◌∙◌, ap, arith}
 use Rattle.std.proofs.lemmas.List.{take_at}
 use Rattle.band_disk.specs.Disks.{overwritten}
-use Rattle.band_disk.proofs.Overwriting.{spoiled_parts}
+use Rattle.band_disk.proofs.OverwrittenBytes.{spoiled_parts}
 use Rattle.band_disk.proofs.overwrite.spoil.Goals as goal
 
 -- what was filled, followed by the rest

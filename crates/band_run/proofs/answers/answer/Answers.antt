@@ -1,4 +1,4 @@
-use Rattle.band_run.proofs.Loading.{asks_nothing, calm_tells, did_list, stays_on_err}
+use Rattle.band_run.proofs.LoadTransitions.{asks_nothing, calm_tells, did_list, stays_on_err}
 use Rattle.band_run.proofs.answers.answer.Goals as goal
 
 pub returns-in-List-clause-did : goal.returns-in-List-clause-did

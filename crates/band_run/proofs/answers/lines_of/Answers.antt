@@ -1,7 +1,7 @@
 use Rattle.std.proofs.Common.{◌++◌, List, ℕ, sym, ap, ◌∙◌, arith}
 use Rattle.band_store.specs.Directory.{sizes}
 use Rattle.band_run.specs.Replies.{band_line}
-use Rattle.band_run.proofs.Lines.{length-sizes, lines_all, lines_more, some_there}
+use Rattle.band_run.proofs.NameLines.{length-sizes, lines_all, lines_more, some_there}
 use Rattle.band_run.proofs.answers.lines_of.Goals as goal
 use Rattle.band_run.proofs.answers.lines_of.Goals.{in-Some+in_ok-push_band, in_default}
 

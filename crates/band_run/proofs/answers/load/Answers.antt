@@ -1,6 +1,6 @@
 use Rattle.std.proofs.Common.{Err, List, ℕ, ap, subst}
 use Rattle.band_store.specs.Store.{IsLoadAnswer}
-use Rattle.band_run.proofs.Loading.{load_fault}
+use Rattle.band_run.proofs.LoadTransitions.{load_fault}
 use Rattle.band_run.proofs.answers.load.Goals as goal
 
 pub returns-in-Err-Disk-clause-did : goal.returns-in-Err-Disk-clause-did

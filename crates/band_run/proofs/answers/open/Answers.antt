@@ -1,5 +1,5 @@
 use Rattle.std.proofs.Common.{Err, subst}
-use Rattle.band_run.proofs.Opening.{Answers, open_damaged, open_done, open_fault, open_none}
+use Rattle.band_run.proofs.RestartedDisk.{Answers, open_damaged, open_done, open_fault, open_none}
 use Rattle.band_run.proofs.answers.open.Goals as goal
 
 pub returns-in-Ok-clause-did : goal.returns-in-Ok-clause-did

@@ -4,7 +4,7 @@ use Rattle.band_store.specs.Store.{IsSaveAnswer, checked}
 use Rattle.band_run.specs.declared.reading.command.BandCommand.TheVariants as C
 use Rattle.band_run.specs.declared.reply.Reply.TheVariants as R
 use Rattle.band_run.specs.Steps.{Done}
-use Rattle.band_run.proofs.Saving.{save_done, save_fault}
+use Rattle.band_run.proofs.SaveTransitions.{save_done, save_fault}
 use Rattle.band_run.proofs.answers.save.Goals as goal
 
 pub returns-in-Ok-clause-did : goal.returns-in-Ok-clause-did

@@ -4,8 +4,8 @@ use Rattle.band_store.specs.Store as store_specs
 use Rattle.band_run.specs.declared.reading.command.BandCommand.{BandCommand}
 use Rattle.band_run.specs.Answers.{Answers}
 use Rattle.band_run.specs.Steps.{RanTo}
-use Rattle.band_run.proofs.Going.{answers_of, going_start}
-use Rattle.band_run.proofs.Ending.{finished, finished_runs, told, told_runs}
+use Rattle.band_run.proofs.CommandSteps.{answers_of, going_start}
+use Rattle.band_run.proofs.RunEnds.{finished, finished_runs, told, told_runs}
 use Rattle.band_run.proofs.input.answer_commands.Goals as goal
 
 pub returns-in-Err-clause-ran : goal.returns-in-Err-clause-ran

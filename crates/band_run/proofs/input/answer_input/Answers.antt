@@ -1,8 +1,8 @@
 use Rattle.std.proofs.Common.{[], Err, Ok, refl}
 use Rattle.band_store.specs.Store as store_specs
 use Rattle.band_run.specs.Answers.{Answers}
-use Rattle.band_run.proofs.Going.{answers_of, going_start}
-use Rattle.band_run.proofs.Ending.{ran_all, runs_off, runs_unread, told, writes_as}
+use Rattle.band_run.proofs.CommandSteps.{answers_of, going_start}
+use Rattle.band_run.proofs.RunEnds.{ran_all, runs_off, runs_unread, told, writes_as}
 use Rattle.band_run.proofs.input.answer_input.Goals as goal
 
 pub returns-in-Err-clause-ran : goal.returns-in-Err-clause-ran

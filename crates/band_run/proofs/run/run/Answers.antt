@@ -2,11 +2,11 @@ use Rattle.std.proofs.Common.{◌≡◌, ◌<◌, ◌+◌, length, get_or, [], �
 use Rattle.std.proofs.lemmas.List.{drop_more, take_more}
 use Rattle.std.proofs.lemmas.Result.{err_from_is_err_and}
 use Rattle.outer_ports.specs.Buffers.{Gathered}
-use Rattle.outer_ports.proofs.Pending.{gathered_more, gathered_nothing}
+use Rattle.outer_ports.proofs.BufferGains.{gathered_more, gathered_nothing}
 use Rattle.band_run.specs.declared.reading.command.BandCommand.{BandCommand}
 use Rattle.band_run.specs.Replies.{reply_text}
 use Rattle.band_run.specs.Steps.{GoesOnAnyway}
-use Rattle.band_run.proofs.Going.{going_more, going_start, ran_stopped}
+use Rattle.band_run.proofs.CommandSteps.{going_more, going_start, ran_stopped}
 use Rattle.band_run.proofs.run.run.Goals as goal
 
 -- the commands before one, those up to and including it, and those from it on

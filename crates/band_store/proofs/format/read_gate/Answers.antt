@@ -1,5 +1,5 @@
 use Rattle.std.proofs.Common.{arith}
-use Rattle.band_store.proofs.Heads.{long_gate, no_head_gate, record_gate, shut_gate}
+use Rattle.band_store.proofs.RecordBytes.{long_gate, no_head_gate, record_gate, shut_gate}
 use Rattle.band_store.proofs.format.read_gate.Goals as goal
 
 pub returns-then-bytes-ne1 : goal.returns-then-bytes-ne1

@@ -1,5 +1,5 @@
 use Rattle.std.proofs.Common.{arith}
-use Rattle.band_store.proofs.Heads.{head_read}
+use Rattle.band_store.proofs.RecordBytes.{head_read}
 use Rattle.band_store.proofs.format.read_head.Goals as goal
 
 pub returns : goal.returns

@@ -1,7 +1,7 @@
 use Rattle.std.proofs.Common.{◌∙◌, ap, map}
 use Rattle.band_store.specs.Directory.{directory, index, sizes}
 use Rattle.band_store.specs.Format.{Save}
-use Rattle.band_store.proofs.Lasts.{directory_last}
+use Rattle.band_store.proofs.LastSaves.{directory_last}
 use Rattle.band_store.proofs.Records.{ordered_last}
 use Rattle.band_store.proofs.Texts.{same_listing, texts_stand}
 use Rattle.band_store.proofs.laws.directories_have_last_texts.Goals as goal

@@ -1,5 +1,5 @@
 use Rattle.std.proofs.Common.{◌-◌, refl, arith}
-use Rattle.band_store.proofs.Fronts.{gate_read}
+use Rattle.band_store.proofs.BufferBytes.{gate_read}
 use Rattle.band_store.proofs.reading.gate_at.Goals as goal
 
 pub returns-clause-ok : goal.returns-clause-ok

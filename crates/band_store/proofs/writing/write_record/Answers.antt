@@ -1,6 +1,6 @@
 use Rattle.std.proofs.Common.{List, ℕ, subst}
 use Rattle.band_disk.specs.Disks.{Torn}
-use Rattle.band_store.proofs.Torn.{record_moments, torn_gate}
+use Rattle.band_store.proofs.TornRecords.{record_moments, torn_gate}
 use Rattle.band_store.proofs.writing.write_record.Goals as goal
 
 -- the first write, and then the second

@@ -1,16 +1,16 @@
 use Rattle.std.proofs.Common.{◌≡◌, ◌∙◌, true, ap, arith, refl, sym}
 use Rattle.obj_layout.specs.Forwards.{word_at}
-use Rattle.transporter.proofs.Alive.{live-read}
+use Rattle.transporter.proofs.LiveObjects.{live-read}
 use Rattle.store_word.specs.Words.{Parts}
 use Rattle.transporter.proofs.Places.{on-err}
-use Rattle.transporter.proofs.Fetching.{fetched-costs, fetched-keeps, read-costs, read-keeps}
-use Rattle.transporter.proofs.Preserved.{read-stays_fresh}
-use Rattle.block_store.proofs.Calm.{fresh-young}
-use Rattle.block_store.proofs.Stored.{lack_tells, place_tells}
-use Rattle.mem_port.proofs.Telling.{answered, answered-if, answers, quiet-then_fault, quiet-twice}
+use Rattle.transporter.proofs.GroundReads.{fetched-costs, fetched-keeps, read-costs, read-keeps}
+use Rattle.transporter.proofs.ScannedWords.{read-stays_fresh}
+use Rattle.block_store.proofs.ScannedWords.{fresh-young}
+use Rattle.block_store.proofs.FieldStores.{lack_tells, place_tells}
+use Rattle.mem_port.proofs.CallReports.{answered, answered-if, answers, quiet-then_fault, quiet-twice}
 use Rattle.block_store.specs.Faults.{is_fault}
-use Rattle.block_store.proofs.FieldsMoved.{field_moved}
-use Rattle.block_store.proofs.FieldsRead.{read_can_find, reads_block, field_fetched, field_faulted, field_is_live, field_is_settleable, field_settled}
+use Rattle.block_store.proofs.MovedFields.{field_moved}
+use Rattle.block_store.proofs.FieldReads.{read_can_find, reads_block, field_fetched, field_faulted, field_is_live, field_is_settleable, field_settled}
 use Rattle.block_store.proofs.fields.field.Goals as goal
 
 pub find_field-requires : goal.find_field-requires

@@ -1,18 +1,18 @@
 use Rattle.std.proofs.Common.{◌≡◌, true, suc, ◌+◌, length, refl, ◌∙◌, ap, arith, slice_get, List}
 use Rattle.store_word.specs.Words.{Parts}
 use Rattle.store_word.specs.declared.word.CdrCode.{CdrCode}
-use Rattle.obj_layout.proofs.Following.{stores_nothing-twice}
-use Rattle.transporter.proofs.Preserved.{read-stays_fresh, read-preserves}
-use Rattle.block_store.proofs.Calm.{stored-stays_fresh}
-use Rattle.block_store.proofs.Finding.{can_find}
-use Rattle.block_store.proofs.Stored.{field_set, field_preserves, field_written, lack_tells, place_tells, set_meaning}
+use Rattle.obj_layout.proofs.ForwardChains.{stores_nothing-twice}
+use Rattle.transporter.proofs.ScannedWords.{read-stays_fresh, read-preserves}
+use Rattle.block_store.proofs.ScannedWords.{stored-stays_fresh}
+use Rattle.block_store.proofs.BlockReferences.{can_find}
+use Rattle.block_store.proofs.FieldStores.{field_set, field_preserves, field_written, lack_tells, place_tells, set_meaning}
 use Rattle.block_store.specs.Faults.{is_fault}
-use Rattle.mem_port.proofs.Telling.{answered-if, answers, quiet-then_fault, quiet-twice, size-kept}
+use Rattle.mem_port.proofs.CallReports.{answered-if, answers, quiet-then_fault, quiet-twice, size-kept}
 use Rattle.mem_port.specs.View.{WithoutFault, shown}
-use Rattle.transporter.proofs.Marked.{marks-but, marks-read}
-use Rattle.block_store.proofs.Marked.{field_marks}
-use Rattle.transporter.proofs.Moving.{read-writes, writes-moves}
-use Rattle.block_store.proofs.FieldsRead.{field_moves}
+use Rattle.transporter.proofs.PageMarks.{marks-but, marks-read}
+use Rattle.block_store.proofs.FieldMarks.{field_marks}
+use Rattle.transporter.proofs.TransportSequences.{read-writes, writes-moves}
+use Rattle.block_store.proofs.FieldReads.{field_moves}
 use Rattle.block_store.proofs.fields.set_field.Goals as goal
 
 pub find_field-requires : goal.find_field-requires

@@ -3,19 +3,19 @@ use Rattle.area_space.specs.lisp_graph.Effect.{grown_length}
 use Rattle.mem_port.specs.Store.{Store}
 use Rattle.area_space.proofs.GroundLaws.{ground_same, named_same}
 use Rattle.transporter.proofs.Places.{on-err}
-use Rattle.transporter.proofs.Transported.{stays-read}
-use Rattle.block_store.proofs.Finding.{can_find}
-use Rattle.block_store.proofs.Rooms.{fewer_fields, grow_meaning, grows_within, live_head, room_for_wide, wide_more}
-use Rattle.block_store.proofs.Grown.{LeavesGrown, faulted_marks, faulted_preserves, faulted_stays_fresh, grow_stays, new_apart, new_charge_allowed, new_end, new_grown, new_inside, new_low, old_charged, old_inside, old_stands, room_or_same}
-use Rattle.mem_port.proofs.Telling.{answered, answered-if, answers, quiet-then_fault, quiet-twice}
+use Rattle.transporter.proofs.TransportClauses.{stays-read}
+use Rattle.block_store.proofs.BlockReferences.{can_find}
+use Rattle.block_store.proofs.GrowthRoom.{fewer_fields, grow_meaning, grows_within, live_head, room_for_wide, wide_more}
+use Rattle.block_store.proofs.BlockGrowth.{LeavesGrown, faulted_marks, faulted_preserves, faulted_stays_fresh, grow_stays, new_apart, new_charge_allowed, new_end, new_grown, new_inside, new_low, old_charged, old_inside, old_stands, room_or_same}
+use Rattle.mem_port.proofs.CallReports.{answered, answered-if, answers, quiet-then_fault, quiet-twice}
 use Rattle.mem_port.specs.View.{WithoutFault, AccountsForFaultsIf, shown}
 use Rattle.block_store.specs.Faults.{is_fault}
 use Rattle.block_store.specs.Marks.{MarksGrown}
-use Rattle.block_store.proofs.NewMarks.{block_marks_grown}
-use Rattle.block_store.proofs.Opening.{grown-needed, needed-after, place-needed}
+use Rattle.block_store.proofs.GrowthMarks.{block_marks_grown}
+use Rattle.block_store.proofs.NewRegions.{grown-needed, needed-after, place-needed}
 use Rattle.block_store.specs.Opening.{OpensAsNeeded}
 use Rattle.area_space.specs.Table.{Table, slot_of}
-use Rattle.transporter.proofs.Marked.{marks-read}
+use Rattle.transporter.proofs.PageMarks.{marks-read}
 use Rattle.block_store.proofs.growing.grow.Given.{Over}
 use Rattle.block_store.proofs.growing.grow.Goals.{After-assert_invariant-2}
 use Rattle.block_store.proofs.growing.grow.Goals as goal

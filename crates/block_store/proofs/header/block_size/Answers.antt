@@ -1,6 +1,6 @@
-use Rattle.block_store.proofs.Finding.{can_find, tells_length}
-use Rattle.block_store.proofs.Rooms.{live_head, tells_area}
-use Rattle.block_store.proofs.Looks.{told}
+use Rattle.block_store.proofs.BlockReferences.{can_find, tells_length}
+use Rattle.block_store.proofs.GrowthRoom.{live_head, tells_area}
+use Rattle.block_store.proofs.HeaderReads.{told}
 use Rattle.block_store.proofs.header.block_size.Goals as goal
 
 pub find-requires : goal.find-requires

@@ -1,5 +1,5 @@
 use Rattle.area_space.specs.Table.{live}
-use Rattle.block_store.proofs.Rooms.{class_there}
+use Rattle.block_store.proofs.GrowthRoom.{class_there}
 use Rattle.block_store.proofs.header.class_of_live.Goals as goal
 
 pub unreachable-requires : goal.unreachable-requires

@@ -1,5 +1,5 @@
-use Rattle.block_store.proofs.Finding.{can_find, tells_code}
-use Rattle.block_store.proofs.Looks.{told}
+use Rattle.block_store.proofs.BlockReferences.{can_find, tells_code}
+use Rattle.block_store.proofs.HeaderReads.{told}
 use Rattle.block_store.proofs.header.code.Goals as goal
 
 pub find-requires : goal.find-requires

@@ -1,7 +1,7 @@
 use Rattle.std.proofs.Common.{sym, ◌∙◌, ap, List}
 use Rattle.store_word.specs.Words.{Parts}
 use Rattle.obj_layout.specs.Forwards.{word_at}
-use Rattle.block_store.proofs.Finding.{header_content, header_parts}
+use Rattle.block_store.proofs.BlockReferences.{header_content, header_parts}
 use Rattle.block_store.proofs.header.find.Goals as goal
 
 pub unreachable-requires : goal.unreachable-requires

@@ -7,13 +7,13 @@ use Rattle.transporter.specs.WrittenMarks.{MarksByWords}
 use Rattle.transporter.proofs.WrittenMarks.{marks_by_words}
 use Rattle.obj_layout.specs.Forwards.{word_at}
 use Rattle.transporter.proofs.Places.{on-err}
-use Rattle.transporter.proofs.Preserved.{made-preserves, opened-preserves}
-use Rattle.block_store.proofs.Calm.{block-stays_fresh, opened-stays_fresh}
-use Rattle.transporter.proofs.Opened.{end_there, opened_live, opened_or_same, opened_stays, place_low}
-use Rattle.block_store.proofs.Made.{area_inside, level_inside, room_for_block, block_inside, block_allowed, block_live, block_marks, block_placed, block_made}
-use Rattle.block_store.proofs.Opening.{needed-after, place-needed}
+use Rattle.transporter.proofs.ScannedWords.{made-preserves, opened-preserves}
+use Rattle.block_store.proofs.ScannedWords.{block-stays_fresh, opened-stays_fresh}
+use Rattle.transporter.proofs.NewRegions.{end_there, opened_live, opened_or_same, opened_stays, place_low}
+use Rattle.block_store.proofs.NewBlocks.{area_inside, level_inside, room_for_block, block_inside, block_allowed, block_live, block_marks, block_placed, block_made}
+use Rattle.block_store.proofs.NewRegions.{needed-after, place-needed}
 use Rattle.transporter.specs.Marking.{MarksFollow}
-use Rattle.transporter.proofs.Marked.{marks-opened, marks-read, marks-then}
+use Rattle.transporter.proofs.PageMarks.{marks-opened, marks-read, marks-then}
 use Rattle.block_store.proofs.making.make_block.Goals as goal
 
 pub place_for-placed-requires-clause-in_range : goal.place_for-placed-requires-clause-in_range

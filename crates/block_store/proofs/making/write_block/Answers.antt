@@ -3,7 +3,7 @@ use Rattle.store_word.specs.Words.{Parts}
 use Rattle.mem_port.specs.Store.{Stores}
 use Rattle.transporter.specs.Writes.{Writes}
 use Rattle.block_store.specs.Making.{block_word}
-use Rattle.block_store.proofs.Joining.{writes-behind}
+use Rattle.block_store.proofs.WriteSequences.{writes-behind}
 use Rattle.block_store.proofs.making.write_block.Goals as goal
 
 pub returns-clause-written : goal.returns-clause-written

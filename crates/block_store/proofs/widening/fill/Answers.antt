@@ -1,5 +1,5 @@
 use Rattle.std.proofs.Common.{◌+◌, refl, ◌∙◌, arith}
-use Rattle.transporter.proofs.Writing.{writes-span}
+use Rattle.transporter.proofs.WriteSequences.{writes-span}
 use Rattle.block_store.proofs.widening.fill.Goals as goal
 
 pub fill_on-requires-clause-held : goal.fill_on-requires-clause-held

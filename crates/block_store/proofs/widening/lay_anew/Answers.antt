@@ -1,6 +1,6 @@
 use Rattle.std.proofs.Common.{Result, Ok, Err}
 use Rattle.std.specs.Prelude.{OnOk}
-use Rattle.block_store.proofs.Joining.{writes-wide-held}
+use Rattle.block_store.proofs.WriteSequences.{writes-wide-held}
 use Rattle.block_store.proofs.widening.lay_anew.Goals as goal
 
 on-ok : {A E : Type 0} {P : Type 0} (r : Result A E) → P → OnOk r P

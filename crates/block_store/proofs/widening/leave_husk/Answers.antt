@@ -2,7 +2,7 @@ use Rattle.std.proofs.Common.{◌+◌, ◌<◌, length, subst, arith}
 use Rattle.store_word.specs.Words.{Parts}
 use Rattle.mem_port.specs.Store.{Stores}
 use Rattle.transporter.specs.Writes.{Writes}
-use Rattle.block_store.proofs.Joining.{writes-husk}
+use Rattle.block_store.proofs.WriteSequences.{writes-husk}
 use Rattle.block_store.proofs.widening.leave_husk.Goals as goal
 
 pub returns-clause-written : goal.returns-clause-written

@@ -2,7 +2,7 @@ use Rattle.std.proofs.Common.{◌+◌, ◌-◌, subst}
 use Rattle.store_word.specs.Words.{Parts}
 use Rattle.mem_port.specs.Store.{Stores}
 use Rattle.transporter.specs.Writes.{Writes}
-use Rattle.block_store.proofs.Joining.{writes-wide}
+use Rattle.block_store.proofs.WriteSequences.{writes-wide}
 use Rattle.block_store.proofs.widening.write_wide.Goals as goal
 
 pub returns-clause-written : goal.returns-clause-written

@@ -3,7 +3,7 @@ use Rattle.mem_port.specs.Store.{Store}
 use Rattle.area_space.specs.Table.{Table}
 use Rattle.obj_layout.specs.Forwards.{word_at}
 use Rattle.transporter.specs.LiveWordsUnchanged.{LiveWordsUnchanged}
-use Rattle.transporter.proofs.Preserved.{made-stays_fresh, made-preserves, opened-preserves}
+use Rattle.transporter.proofs.ScannedWords.{made-stays_fresh, made-preserves, opened-preserves}
 use Rattle.transporter.specs.Making.{PlacesNew}
 use Rattle.transporter.specs.Preserving.{NoOldAddresses, FreshOn}
 use Rattle.cdr_lists.specs.Lists.{ListedOn, cell_word, item_word}
@@ -11,10 +11,10 @@ use Rattle.transporter.specs.WrittenMarks.{MarksByWords}
 use Rattle.cdr_lists.specs.Opening.{OpensIfNeeded}
 use Rattle.transporter.proofs.WrittenMarks.{marks_by_words}
 use Rattle.cdr_lists.proofs.NewPlaces.{end_there, opened_stays_fresh, opened_live, opened_marks, opened_or_same, opened_stays, opens_if_needed, needed_then, words_inside, words_low}
-use Rattle.cdr_lists.proofs.PartsSet.{on_err}
-use Rattle.cdr_lists.proofs.Listing.{cells_fresh, same_items, list_area, list_level, list_room, list_allowed, list_live, list_marks, list_placed, listed_on}
+use Rattle.cdr_lists.proofs.PartStores.{on_err}
+use Rattle.cdr_lists.proofs.NewLists.{cells_fresh, same_items, list_area, list_level, list_room, list_allowed, list_live, list_marks, list_placed, listed_on}
 use Rattle.transporter.specs.Marking.{MarksFollow}
-use Rattle.transporter.proofs.Marked.{marks-read, marks-then}
+use Rattle.transporter.proofs.PageMarks.{marks-read, marks-then}
 use Rattle.cdr_lists.proofs.list.make_list.Goals as goal
 
 pub place_for-placed-requires-clause-in_range : goal.place_for-placed-requires-clause-in_range

@@ -2,20 +2,20 @@ use Rattle.std.proofs.Common.{◌∙◌, sym, ap, subst, arith, length}
 use Rattle.store_word.specs.declared.word.CdrCode.{CdrCode}
 use Rattle.mem_port.specs.Store.{Store}
 use Rattle.area_space.specs.Table.{Table}
-use Rattle.obj_layout.proofs.Following.{word_at-read}
+use Rattle.obj_layout.proofs.ForwardChains.{word_at-read}
 use Rattle.transporter.specs.LiveWordsUnchanged.{LiveWordsUnchanged}
-use Rattle.transporter.proofs.Preserved.{made-stays_fresh, made-preserves, opened-preserves}
+use Rattle.transporter.proofs.ScannedWords.{made-stays_fresh, made-preserves, opened-preserves}
 use Rattle.transporter.specs.WrittenMarks.{MarksByWords}
 use Rattle.cdr_lists.specs.Pairs.{PairedOn}
 use Rattle.transporter.proofs.WrittenMarks.{marks_by_words}
 use Rattle.cdr_lists.proofs.NewPlaces.{end_there, opened_stays_fresh, opened_live, opened_marks, opened_or_same, opened_stays, opens_if_needed, needed_then, words_inside, words_low}
-use Rattle.cdr_lists.proofs.PartsSet.{on_err}
-use Rattle.cdr_lists.proofs.Pairing.{area_inside, level_inside, pair_allowed, pair_fresh, pair_live, pair_marks, pair_placed, paired_on, room_for_pair}
-use Rattle.mem_port.proofs.Telling.{on-either}
+use Rattle.cdr_lists.proofs.PartStores.{on_err}
+use Rattle.cdr_lists.proofs.NewPairs.{area_inside, level_inside, pair_allowed, pair_fresh, pair_live, pair_marks, pair_placed, paired_on, room_for_pair}
+use Rattle.mem_port.proofs.CallReports.{on-either}
 use Rattle.transporter.specs.Marking.{MarksFollow}
-use Rattle.transporter.proofs.Landing.{within-written}
-use Rattle.transporter.proofs.Placing.{is_place}
-use Rattle.transporter.proofs.Marked.{marks-read, marks-then}
+use Rattle.transporter.proofs.MovedParcels.{within-written}
+use Rattle.transporter.proofs.GroundPlaces.{is_place}
+use Rattle.transporter.proofs.PageMarks.{marks-read, marks-then}
 use Rattle.cdr_lists.proofs.pair.make_pair_of.Goals as goal
 
 pub place-placed-requires-clause-in_range : goal.place-placed-requires-clause-in_range

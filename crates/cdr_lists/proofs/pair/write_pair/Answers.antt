@@ -1,5 +1,5 @@
 use Rattle.std.proofs.lemmas.Result.{on_ok_weaker}
-use Rattle.cdr_lists.proofs.LaidNew.{pair_written}
+use Rattle.cdr_lists.proofs.NewWords.{pair_written}
 use Rattle.cdr_lists.proofs.pair.write_pair.Goals as goal
 
 pub returns-clause-pair : goal.returns-clause-pair

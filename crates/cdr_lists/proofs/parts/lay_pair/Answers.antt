@@ -1,13 +1,13 @@
 use Rattle.std.proofs.Common.{refl, inl, inr, arith}
 use Rattle.std.proofs.lemmas.Result.{on_ok_weaker, on_err_weaker}
 use Rattle.store_word.specs.declared.word.Content.TheVariants.{List as ListAt}
-use Rattle.transporter.proofs.Preserved.{preserves-then}
-use Rattle.cdr_lists.proofs.Addressed.{keeps_cons, set_here, sets_cdr, sets_cdr_at, settable_word}
-use Rattle.cdr_lists.proofs.Calm.{live_fresh}
-use Rattle.cdr_lists.proofs.PartsSet.{on_err}
+use Rattle.transporter.proofs.ScannedWords.{preserves-then}
+use Rattle.cdr_lists.proofs.ConsAddresses.{keeps_cons, set_here, sets_cdr, sets_cdr_at, settable_word}
+use Rattle.cdr_lists.proofs.FreshWords.{live_fresh}
+use Rattle.cdr_lists.proofs.PartStores.{on_err}
 use Rattle.cdr_lists.proofs.SettledCell.{cell_live, cell_relaid, cell_settleable, cell_faulted, cell_settled, fetched_set, fetched_cell, fetched_fresh, laid_set, laid_faulted, on_ok}
-use Rattle.transporter.proofs.Marked.{marks-then}
-use Rattle.transporter.proofs.Moving.{moves-then}
+use Rattle.transporter.proofs.PageMarks.{marks-then}
+use Rattle.transporter.proofs.TransportSequences.{moves-then}
 use Rattle.cdr_lists.proofs.parts.lay_pair.Goals as goal
 
 pub fetch-requires-clause-in_range : goal.fetch-requires-clause-in_range

@@ -4,16 +4,16 @@ use Rattle.mem_port.specs.Store.{Store}
 use Rattle.area_space.specs.Table.{Table}
 use Rattle.transporter.specs.LiveWordsUnchanged.{LiveWordsUnchangedExcept}
 use Rattle.transporter.specs.Preserving.{NoOldAddresses, PreservesScanned}
-use Rattle.transporter.proofs.Preserved.{opened-preserves}
+use Rattle.transporter.proofs.ScannedWords.{opened-preserves}
 use Rattle.cdr_lists.specs.Parts.{LaysPair, SetsCdr}
-use Rattle.cdr_lists.proofs.Addressed.{set_here, sets_cdr}
+use Rattle.cdr_lists.proofs.ConsAddresses.{set_here, sets_cdr}
 use Rattle.cdr_lists.proofs.NewPlaces.{end_there, none_placed, opened_stays_fresh, opened_live, opened_marks, opened_moves, opened_or_same, opened_stays, opens_if_needed, words_inside}
-use Rattle.cdr_lists.proofs.CellsLaid.{cell_stays_fresh, cell_classed, cell_inside, cell_laid, cell_marks, cell_others, cell_set, cell_preserves, room_for_relay}
-use Rattle.cdr_lists.proofs.PartsSet.{on_err}
-use Rattle.mem_port.proofs.Telling.{on-either}
+use Rattle.cdr_lists.proofs.CellRelocations.{cell_stays_fresh, cell_classed, cell_inside, cell_laid, cell_marks, cell_others, cell_set, cell_preserves, room_for_relay}
+use Rattle.cdr_lists.proofs.PartStores.{on_err}
+use Rattle.mem_port.proofs.CallReports.{on-either}
 use Rattle.transporter.specs.Marking.{MarksFollow}
-use Rattle.transporter.proofs.Marked.{marks-read, marks-then}
-use Rattle.transporter.proofs.lisp_ground.Writing.{stores_within}
+use Rattle.transporter.proofs.PageMarks.{marks-read, marks-then}
+use Rattle.transporter.proofs.lisp_ground.words.WrittenWords.{stores_within}
 use Rattle.cdr_lists.proofs.parts.lay_settled.Goals as goal
 
 pub unreachable-requires : goal.unreachable-requires

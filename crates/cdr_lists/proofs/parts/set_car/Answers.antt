@@ -1,22 +1,22 @@
 use Rattle.std.proofs.Common.{◌≡◌, true, length, ◌∙◌, sym, subst, ap, arith}
 use Rattle.store_word.specs.Words.{Parts}
 use Rattle.mem_port.specs.View.{shown}
-use Rattle.mem_port.proofs.Telling.{answered-if, answers, size-kept}
-use Rattle.obj_layout.proofs.Following.{stores_nothing-twice}
+use Rattle.mem_port.proofs.CallReports.{answered-if, answers, size-kept}
+use Rattle.obj_layout.proofs.ForwardChains.{stores_nothing-twice}
 use Rattle.transporter.specs.Preserving.{FreshOn}
-use Rattle.transporter.proofs.Preserved.{fresh-value, read-stays_fresh, read-preserves, stored-preserves, preserves-then}
+use Rattle.transporter.proofs.ScannedWords.{fresh-value, read-stays_fresh, read-preserves, stored-preserves, preserves-then}
 use Rattle.cdr_lists.specs.Faults.{is_fault}
-use Rattle.cdr_lists.proofs.Asked.{asked-then, asked-then_fault}
-use Rattle.cdr_lists.proofs.Addressed.{readable_at, sets_car, settable_at}
-use Rattle.cdr_lists.proofs.Calm.{still_stays_fresh}
-use Rattle.cdr_lists.proofs.Finding.{can_find, code_after}
-use Rattle.cdr_lists.proofs.PartsSet.{car_set, car_written, store_inside}
+use Rattle.cdr_lists.proofs.CallReports.{asked-then, asked-then_fault}
+use Rattle.cdr_lists.proofs.ConsAddresses.{readable_at, sets_car, settable_at}
+use Rattle.cdr_lists.proofs.FreshWords.{still_stays_fresh}
+use Rattle.cdr_lists.proofs.ConsReferences.{can_find, code_after}
+use Rattle.cdr_lists.proofs.PartStores.{car_set, car_written, store_inside}
 use Rattle.transporter.specs.Marking.{MarksFollowBut}
-use Rattle.transporter.proofs.Marked.{marks-but, marks-read, marks-stored, marks-then_but}
-use Rattle.cdr_lists.proofs.Calm.{final_plain, young_stored}
-use Rattle.cdr_lists.proofs.Finding.{same_place}
-use Rattle.transporter.proofs.Moving.{moves-after_read, read-writes, stored-writes, writes-moves}
-use Rattle.cdr_lists.proofs.Settling.{car_live}
+use Rattle.transporter.proofs.PageMarks.{marks-but, marks-read, marks-stored, marks-then_but}
+use Rattle.cdr_lists.proofs.FreshWords.{final_plain, young_stored}
+use Rattle.cdr_lists.proofs.ConsReferences.{same_place}
+use Rattle.transporter.proofs.TransportSequences.{moves-after_read, read-writes, stored-writes, writes-moves}
+use Rattle.cdr_lists.proofs.PartReads.{car_live}
 use Rattle.cdr_lists.proofs.parts.set_car.Goals as goal
 
 pub read_cons-requires : goal.read_cons-requires

@@ -1,25 +1,25 @@
 use Rattle.std.proofs.Common.{◌≡◌, true, length, suc, ◌+◌, refl, sym, ◌∙◌, ap, arith, inl, subst, List}
 use Rattle.store_word.specs.Words.{Parts}
 use Rattle.mem_port.specs.View.{shown}
-use Rattle.mem_port.proofs.Telling.{answered, answered-if, answers, quiet-then_fault, quiet-twice, size-kept}
+use Rattle.mem_port.proofs.CallReports.{answered, answered-if, answers, quiet-then_fault, quiet-twice, size-kept}
 use Rattle.obj_layout.specs.Forwards.{IsFinal}
-use Rattle.obj_layout.proofs.Following.{stores_nothing-twice, word_at-read}
+use Rattle.obj_layout.proofs.ForwardChains.{stores_nothing-twice, word_at-read}
 use Rattle.transporter.specs.Preserving.{FreshOn}
-use Rattle.transporter.proofs.Alive.{live-read}
-use Rattle.transporter.proofs.Preserved.{fresh-value, read-stays_fresh, read-preserves, stored-preserves, preserves-then}
+use Rattle.transporter.proofs.LiveObjects.{live-read}
+use Rattle.transporter.proofs.ScannedWords.{fresh-value, read-stays_fresh, read-preserves, stored-preserves, preserves-then}
 use Rattle.cdr_lists.specs.Faults.{is_fault}
-use Rattle.cdr_lists.proofs.Asked.{asked-then, asked-then_fault}
-use Rattle.cdr_lists.proofs.Addressed.{keeps_at, keeps_cons, readable_at, sets_cdr, sets_cdr_at, settable_at, settable_word}
-use Rattle.cdr_lists.proofs.Calm.{still_stays_fresh}
-use Rattle.cdr_lists.proofs.Finding.{can_find, code_after, reads_keep_cons}
-use Rattle.cdr_lists.proofs.PartsSet.{on_err, cell_at_most, can_set_there, sets_cdr_there, keeps_cons_there, second_inside, cdr_set, cdr_written, no_cell_there, no_pair_there, relaid_there}
+use Rattle.cdr_lists.proofs.CallReports.{asked-then, asked-then_fault}
+use Rattle.cdr_lists.proofs.ConsAddresses.{keeps_at, keeps_cons, readable_at, sets_cdr, sets_cdr_at, settable_at, settable_word}
+use Rattle.cdr_lists.proofs.FreshWords.{still_stays_fresh}
+use Rattle.cdr_lists.proofs.ConsReferences.{can_find, code_after, reads_keep_cons}
+use Rattle.cdr_lists.proofs.PartStores.{on_err, cell_at_most, can_set_there, sets_cdr_there, keeps_cons_there, second_inside, cdr_set, cdr_written, no_cell_there, no_pair_there, relaid_there}
 use Rattle.transporter.specs.Marking.{MarksFollowBut}
-use Rattle.transporter.proofs.Moving.{moves-after_read, read-once, stored-writes, writes-moves}
-use Rattle.transporter.proofs.Marked.{marks-read, marks-stored, marks-then, marks-then_but}
-use Rattle.cdr_lists.proofs.Calm.{young_stored}
-use Rattle.cdr_lists.proofs.Finding.{code_there, same_place}
-use Rattle.cdr_lists.proofs.PartsSet.{marks_cdr, no_pair_else, second_plain}
-use Rattle.cdr_lists.proofs.Settling.{cdr_live}
+use Rattle.transporter.proofs.TransportSequences.{moves-after_read, read-once, stored-writes, writes-moves}
+use Rattle.transporter.proofs.PageMarks.{marks-read, marks-stored, marks-then, marks-then_but}
+use Rattle.cdr_lists.proofs.FreshWords.{young_stored}
+use Rattle.cdr_lists.proofs.ConsReferences.{code_there, same_place}
+use Rattle.cdr_lists.proofs.PartStores.{marks_cdr, no_pair_else, second_plain}
+use Rattle.cdr_lists.proofs.PartReads.{cdr_live}
 use Rattle.cdr_lists.proofs.parts.set_cdr.Goals as goal
 
 -- If the cons isn't found

@@ -1,6 +1,6 @@
 use Rattle.std.proofs.Common.{◌≡◌, List, true, ◌∙◌, ap, sym, subst, arith}
 use Rattle.store_word.specs.Words.{Parts}
-use Rattle.mem_port.proofs.Telling.{answered, answered-if, answers, quiet-then_fault, quiet-twice}
+use Rattle.mem_port.proofs.CallReports.{answered, answered-if, answers, quiet-then_fault, quiet-twice}
 use Rattle.obj_layout.specs.Forwards.{word_at, IsFinal}
 use Rattle.transporter.proofs.Parcels.{first-stays}
 use Rattle.cdr_lists.specs.Faults.{is_fault}

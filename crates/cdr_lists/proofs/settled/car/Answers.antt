@@ -2,16 +2,16 @@ use Rattle.std.proofs.Common.{◌≡◌, ◌∙◌, ℕ, true, arith, ap, refl, 
 use Rattle.store_word.specs.Words.{Parts}
 use Rattle.transporter.specs.Moving.{FetchMoves}
 use Rattle.transporter.specs.Settling.{RefersToOld}
-use Rattle.transporter.proofs.Moving.{fetch_moves-read, same-stores}
-use Rattle.transporter.proofs.Settled.{reference-inside}
-use Rattle.transporter.proofs.Preserved.{read-stays_fresh}
-use Rattle.transporter.proofs.Fetching.{fetched-costs, fetched-keeps, read-costs, read-keeps}
-use Rattle.cdr_lists.proofs.Addressed.{keeps_cons, readable_at, reads_car}
-use Rattle.cdr_lists.proofs.Calm.{live_fresh}
-use Rattle.cdr_lists.proofs.Finding.{can_find, reads_keep_cons, same_place}
-use Rattle.cdr_lists.proofs.Refused.{fault-refuses_none, refuses_none}
-use Rattle.cdr_lists.proofs.Settling.{car_live, car_settleable, car_fetched, car_faulted, first_answered, first_read, first_settleable, first_settled, first_unmoved, settled_at}
-use Rattle.mem_port.proofs.Telling.{answered, answered-if, answers, quiet-then_fault, quiet-twice}
+use Rattle.transporter.proofs.TransportSequences.{fetch_moves-read, same-stores}
+use Rattle.transporter.proofs.SettledWords.{reference-inside}
+use Rattle.transporter.proofs.ScannedWords.{read-stays_fresh}
+use Rattle.transporter.proofs.GroundReads.{fetched-costs, fetched-keeps, read-costs, read-keeps}
+use Rattle.cdr_lists.proofs.ConsAddresses.{keeps_cons, readable_at, reads_car}
+use Rattle.cdr_lists.proofs.FreshWords.{live_fresh}
+use Rattle.cdr_lists.proofs.ConsReferences.{can_find, reads_keep_cons, same_place}
+use Rattle.cdr_lists.proofs.ConsRefusals.{fault-refuses_none, refuses_none}
+use Rattle.cdr_lists.proofs.PartReads.{car_live, car_settleable, car_fetched, car_faulted, first_answered, first_read, first_settleable, first_settled, first_unmoved, settled_at}
+use Rattle.mem_port.proofs.CallReports.{answered, answered-if, answers, quiet-then_fault, quiet-twice}
 use Rattle.cdr_lists.specs.Faults.{is_fault}
 use Rattle.cdr_lists.proofs.settled.car.Goals as goal
 

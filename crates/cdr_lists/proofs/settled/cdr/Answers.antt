@@ -2,21 +2,21 @@ use Rattle.std.proofs.Common.{ℕ, suc, true, ◌≡◌, ◌+◌, refl, sym, ◌
 use Rattle.store_word.specs.Words.{Parts}
 use Rattle.store_word.specs.declared.word.Content.TheVariants.{List as ListAt}
 use Rattle.store_word.specs.declared.word.CdrCode.TheVariants.{Nil as CdrNil, Normal}
-use Rattle.mem_port.proofs.Telling.{answered, answered-if, answers, quiet-then_fault, quiet-twice}
+use Rattle.mem_port.proofs.CallReports.{answered, answered-if, answers, quiet-then_fault, quiet-twice}
 use Rattle.obj_layout.specs.Forwards.{word_at}
-use Rattle.transporter.proofs.Alive.{live-read, live-then}
+use Rattle.transporter.proofs.LiveObjects.{live-read, live-then}
 use Rattle.transporter.specs.Moving.{FetchMoves}
-use Rattle.transporter.proofs.Moving.{fetch_moves-read, same-stores}
-use Rattle.transporter.proofs.Preserved.{read-stays_fresh}
-use Rattle.transporter.proofs.Fetching.{fetched-costs, fetched-keeps, read-costs, read-keeps}
+use Rattle.transporter.proofs.TransportSequences.{fetch_moves-read, same-stores}
+use Rattle.transporter.proofs.ScannedWords.{read-stays_fresh}
+use Rattle.transporter.proofs.GroundReads.{fetched-costs, fetched-keeps, read-costs, read-keeps}
 use Rattle.cdr_lists.specs.Faults.{is_fault}
-use Rattle.cdr_lists.proofs.Addressed.{keeps_cons, readable_at, reads_cdr_of}
-use Rattle.cdr_lists.proofs.Calm.{live_fresh}
-use Rattle.cdr_lists.proofs.Finding.{can_find, code_after, code_there, reads_keep_cons, same_place}
-use Rattle.cdr_lists.proofs.PartsSet.{on_err}
+use Rattle.cdr_lists.proofs.ConsAddresses.{keeps_cons, readable_at, reads_cdr_of}
+use Rattle.cdr_lists.proofs.FreshWords.{live_fresh}
+use Rattle.cdr_lists.proofs.ConsReferences.{can_find, code_after, code_there, reads_keep_cons, same_place}
+use Rattle.cdr_lists.proofs.PartStores.{on_err}
 use Rattle.cdr_lists.proofs.FinalWords.{cdr_is, list_behind}
-use Rattle.cdr_lists.proofs.Refused.{refuses_none}
-use Rattle.cdr_lists.proofs.Settling.{reads_cdr, cdr_live, cdr_settleable, cdr_fetched, cdr_faulted, settled_at, list_fresh}
+use Rattle.cdr_lists.proofs.ConsRefusals.{refuses_none}
+use Rattle.cdr_lists.proofs.PartReads.{reads_cdr, cdr_live, cdr_settleable, cdr_fetched, cdr_faulted, settled_at, list_fresh}
 use Rattle.cdr_lists.proofs.settled.cdr.Goals as goal
 
 -- If the cons isn't found

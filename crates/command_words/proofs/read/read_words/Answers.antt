@@ -3,7 +3,7 @@ use Rattle.clap.specs.Words.{app_of, found_of, is_simple, is_simple_and_free}
 use Rattle.command_words.specs.App.{lispm}
 use Rattle.command_words.specs.Words.{IsInRange, texts}
 use Rattle.command_words.proofs.Ranges.{in_range}
-use Rattle.command_words.proofs.Sought.{failed, found}
+use Rattle.command_words.proofs.WalkResult.{failed, found}
 use Rattle.command_words.proofs.read.read_words.Goals as goal
 
 pub returns-in-Ok-try_get_matches_from-clause-value : goal.returns-in-Ok-try_get_matches_from-clause-value

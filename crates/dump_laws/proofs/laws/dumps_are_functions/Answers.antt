@@ -1,4 +1,4 @@
-use Rattle.dump_laws.proofs.Function.{dump_is_function}
+use Rattle.dump_laws.proofs.UniqueDump.{dump_is_function}
 use Rattle.dump_laws.proofs.laws.dumps_are_functions.Goals as goal
 
 pub returns : goal.returns

@@ -1,4 +1,4 @@
-use Rattle.dump_laws.proofs.Back.{dump_back}
+use Rattle.dump_laws.proofs.DumpLines.{dump_back}
 use Rattle.dump_laws.proofs.laws.dumps_are_read_back.Goals as goal
 
 pub returns : goal.returns

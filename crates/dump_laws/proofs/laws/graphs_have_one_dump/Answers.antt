@@ -1,4 +1,4 @@
-use Rattle.dump_laws.proofs.Renaming.{dump_one, dump_renamed}
+use Rattle.dump_laws.proofs.RenamedGraphs.{dump_one, dump_renamed}
 use Rattle.dump_laws.proofs.laws.graphs_have_one_dump.Goals as goal
 
 pub returns-clause-one : goal.returns-clause-one

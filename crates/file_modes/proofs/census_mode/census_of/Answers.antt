@@ -4,7 +4,7 @@ use Rattle.lisp_graph.specs.KeyedGraph.{keyed}
 use Rattle.lisp_graph.specs.World.{opening}
 use Rattle.why_held.specs.Reached.{counted_key}
 use Rattle.file_modes.specs.Modes.{IsCensusText}
-use Rattle.file_modes.proofs.Charged.{accepted_few}
+use Rattle.file_modes.proofs.ObjectCounts.{accepted_few}
 use Rattle.why_held.proofs.Counts.{reached_part}
 use Rattle.file_modes.proofs.census_mode.census_of.Goals as goal
 

@@ -1,4 +1,4 @@
-use Rattle.file_modes.proofs.Charged.{accepted_few}
+use Rattle.file_modes.proofs.ObjectCounts.{accepted_few}
 use Rattle.file_modes.proofs.mode.why_of.Goals as goal
 
 pub why-requires-clause-at_most : goal.why-requires-clause-at_most

@@ -1,4 +1,4 @@
-use Rattle.file_modes.proofs.Lines.{fits_lines, read_lines, read_trouble}
+use Rattle.file_modes.proofs.WorldFiles.{fits_lines, read_lines, read_trouble}
 use Rattle.file_modes.proofs.read.read_file.Goals as goal
 
 pub returns-in-Ok-clause-judged : goal.returns-in-Ok-clause-judged

@@ -1,5 +1,5 @@
 use Rattle.std.proofs.Common.{rules, refl, ◌≡◌, ◌∙◌, ◌++◌, take}
-use Rattle.file_modes.proofs.Taking.{fault_taken, gave_none, gave_piece, taken_memory, taken_much, whole_taken}
+use Rattle.file_modes.proofs.TextPrefixes.{fault_taken, gave_none, gave_piece, taken_memory, taken_much, whole_taken}
 use Rattle.file_modes.proofs.read_all.gather.Goals as goal
 
 pub loop-source-init : goal.loop-source-init

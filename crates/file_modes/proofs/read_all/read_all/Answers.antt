@@ -1,6 +1,6 @@
 use Rattle.std.proofs.Common.{[]}
 use Rattle.outer_ports.proofs.Gains.{gave_nothing}
-use Rattle.file_modes.proofs.Taking.{taken_memory}
+use Rattle.file_modes.proofs.TextPrefixes.{taken_memory}
 use Rattle.file_modes.proofs.read_all.read_all.Goals as goal
 
 pub returns-in-Err-clause-taken : goal.returns-in-Err-clause-taken

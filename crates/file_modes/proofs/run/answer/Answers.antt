@@ -1,5 +1,5 @@
 use Rattle.std.proofs.Common.{rules}
-use Rattle.file_modes.proofs.Telling.{answered_object, answered_text, answered_trouble, answers_read}
+use Rattle.file_modes.proofs.ModeAnswers.{answered_object, answered_text, answered_trouble, answers_read}
 use Rattle.file_modes.proofs.run.answer.Goals as goal
 
 pub returns-in_err-world-clause-value : goal.returns-in_err-world-clause-value

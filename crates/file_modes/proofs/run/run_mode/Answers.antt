@@ -1,4 +1,4 @@
-use Rattle.file_modes.proofs.Telling.{closed_quiet, closed_read}
+use Rattle.file_modes.proofs.ModeAnswers.{closed_quiet, closed_read}
 use Rattle.file_modes.proofs.run.run_mode.Goals as goal
 
 pub returns-clause-ran : goal.returns-clause-ran

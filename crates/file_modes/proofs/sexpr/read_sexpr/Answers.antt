@@ -1,7 +1,7 @@
 use Rattle.std.proofs.Common.{◌∙◌, ℕ, List, ap, sym, subst}
 use Rattle.sexpr_text.specs.Meaning.{meaning}
 use Rattle.sexpr_text.specs.Reading.{IsFault}
-use Rattle.file_modes.proofs.Meant.{fault_read, read_fault, read_meant, read_untaken}
+use Rattle.file_modes.proofs.SexprTexts.{fault_read, read_fault, read_meant, read_untaken}
 use Rattle.file_modes.proofs.Worlds.{meaning_dumpable}
 use Rattle.file_modes.proofs.sexpr.read_sexpr.Goals as goal
 

@@ -1,5 +1,7 @@
-use Rattle.heap_collect.proofs.Freed.{done_frees}
-use Rattle.heap_collect.proofs.Reclaimed.{done_names, reclaims_here}
+use Rattle.std.proofs.Common.{ap}
+use Rattle.area_space.specs.Table.{Table}
+use Rattle.heap_collect.proofs.FreedRegions.{done_frees}
+use Rattle.heap_collect.proofs.GroundReclaims.{done_names, reclaims_here}
 use Rattle.heap_collect.proofs.collecting.end_collection.Goals as goal
 
 pub free_old-requires : goal.free_old-requires
@@ -10,9 +12,19 @@ free_old-requires g c = record {
 }
 
 pub returns-clause-reclaims : goal.returns-clause-reclaims
-returns-clause-reclaims g c scan registers k s o x running over =
-    reclaims_here (g.M.Memory.seen c.args.ground.now.mem) (g.M.Memory.seen c.free_old.new.self.mem) c.args.ground.now.table c.free_old.new.self.table c.free_old.ensures.table c.free_old.ensures.words
-    (record { ground = c.free_old.ensures.stays_ground; named = c.free_old.ensures.stays_named; table = c.assert_invariant-2.ensures; marks = c.assert_invariant-3.ensures.1.marked }) scan registers k s o x running over
+returns-clause-reclaims g c =
+    let x = c.free_old.ensures in
+    record {
+      settles = reclaims_here (g.M.Memory.seen c.args.ground.now.mem) (g.M.Memory.seen c.free_old.new.self.mem) c.args.ground.now.table c.free_old.new.self.table x.table x.words
+          (record { ground = x.stays_ground; named = x.stays_named; table = c.assert_invariant.ensures; marks = c.assert_invariant-2.ensures.1.marked });
+      free = x.table;
+      end = ap (λ (y : Table). y.aim) x.table.same;
+    }
 
 pub returns-clause-at_most : goal.returns-clause-at_most
 returns-clause-at_most g c = done_frees (g.M.Memory.seen c.args.ground.now.mem) (g.M.Memory.seen c.free_old.new.self.mem) c.args.ground.now.table c.free_old.new.self.table c.requires.done c.free_old.ensures.table c.free_old.ensures.words
+
+pub returns-clause-no_fault : goal.returns-clause-no_fault
+returns-clause-no_fault g c =
+    let x = c.free_old.ensures in
+    record { regions = ap (λ (y : Table). y.regions) x.table.same; placed = ap (λ (y : Table). y.placed) x.table.same; faults = x.no_fault; taken = x.taken }

@@ -1,8 +1,7 @@
-use Rattle.std.proofs.Common.{ap, sym, ◌∙◌}
-use Rattle.area_space.specs.Table.{Table}
-use Rattle.heap_collect.proofs.Freed.{frees_nothing}
+use Rattle.std.proofs.Common.{sym, ◌∙◌}
+use Rattle.heap_collect.proofs.FreedRegions.{frees_nothing}
 use Rattle.heap_collect.proofs.Phases.{done, not_done_steps, not_flipped_steps, reclaim_steps, settled}
-use Rattle.heap_collect.proofs.ScannedAhead.{none_of, some_of}
+use Rattle.heap_collect.proofs.ScanSequences.{none_of, some_of}
 use Rattle.heap_collect.proofs.collecting.reclaim.Goals as goal
 
 pub end_collection-requires : goal.end_collection-requires
@@ -11,24 +10,16 @@ end_collection-requires g c = record {
 }
 
 pub returns-clause-reclaims : goal.returns-clause-reclaims
-returns-clause-reclaims g c = λ _ registers.
-    settled (g.M.Memory.seen c.args.ground.now.mem) c.args.ground.now.table c.args.scan.now (g.M.Memory.seen c.end_collection.new.ground.mem) c.end_collection.new.ground.table registers
-    (some_of c.args.ground.now.table.aim c.condemned.result c.is_none.result c.condemned.ensures c.is_none.ensures c.if-is_none.false) (sym c.is_over.ensures ∙ c.if-not-is_over.false) c.end_collection.ensures.reclaims
-
-pub returns-clause-settles : goal.returns-clause-settles
-returns-clause-settles g c = λ _ other registers k s o x running over.
-    let r = c.end_collection.ensures.reclaims other registers k s o x running over in
-    record { collection = o; running = running; next = r.1; settles = r.3; map = r.0; represents = r.2 }
+returns-clause-reclaims g c = λ _. record {
+  settles = settled c.end_collection.ensures.reclaims (some_of c.args.ground.now.table.aim c.condemned.result c.is_none.result c.condemned.ensures c.is_none.ensures c.if-is_none.false) (sym c.is_over.ensures ∙ c.if-not-is_over.false);
+  ends = c.end_collection.ensures.reclaims;
+}
 
 pub returns-clause-step : goal.returns-clause-step
 returns-clause-step g c registers k s x =
     let over = sym c.is_over.ensures ∙ c.if-not-is_over.false in
     reclaim_steps (g.M.Memory.seen c.args.ground.now.mem) c.args.ground.now.table c.args.scan.now (g.M.Memory.seen c.end_collection.new.ground.mem) c.end_collection.new.ground.table registers over k s x
-    (settled (g.M.Memory.seen c.args.ground.now.mem) c.args.ground.now.table c.args.scan.now (g.M.Memory.seen c.end_collection.new.ground.mem) c.end_collection.new.ground.table registers
-    (some_of c.args.ground.now.table.aim c.condemned.result c.is_none.result c.condemned.ensures c.is_none.ensures c.if-is_none.false) over c.end_collection.ensures.reclaims k s x)
-
-pub returns-clause-regions : goal.returns-clause-regions
-returns-clause-regions g c = ap (λ (y : Table). y.regions) c.end_collection.ensures.free.same
+    (settled c.end_collection.ensures.reclaims (some_of c.args.ground.now.table.aim c.condemned.result c.is_none.result c.condemned.ensures c.is_none.ensures c.if-is_none.false) over registers k s x)
 
 pub returns-then-not-is_over-clause-step : goal.returns-then-not-is_over-clause-step
 returns-then-not-is_over-clause-step g c registers k s x =

@@ -1,4 +1,4 @@
-use Rattle.heap_collect.proofs.Admitted.{admitted_is_step, prepared_goes}
+use Rattle.heap_collect.proofs.Admissions.{admitted_is_step, prepared_goes}
 use Rattle.heap_collect.proofs.laws.allocations_are_steps.Goals as goal
 
 pub returns-clause-admitted : goal.returns-clause-admitted

@@ -1,4 +1,4 @@
-use Rattle.heap_collect.proofs.Looked.{admitted_play_is_step, stands_after_look, unasked_is_step}
+use Rattle.heap_collect.proofs.ObjectLooks.{admitted_play_is_step, stands_after_look, unasked_is_step}
 use Rattle.heap_collect.proofs.laws.looks_are_steps.Goals as goal
 
 pub returns-clause-stands : goal.returns-clause-stands

@@ -2,7 +2,7 @@ use Rattle.std.proofs.Common.{◌≡◌, suc, ◌+◌, ◌^◌, sym, ◌∙◌, 
 use Rattle.lisp_graph.specs.Totals.{if_true}
 use Rattle.lisp_graph.proofs.Totals.{total-zero}
 use Rattle.heap_collect.specs.Silent.{full_bits, is_full_on, some_set}
-use Rattle.heap_collect.proofs.Full.{from_set, one_full, pow_six, shifted}
+use Rattle.heap_collect.proofs.FullLevels.{from_set, one_full, pow_six, shifted}
 use Rattle.heap_collect.proofs.silent.full_levels.Goals as goal
 use Rattle.heap_collect.proofs.silent.full_levels.Goals.{then-is_full, else-is_full}
 

@@ -4,12 +4,12 @@ use Rattle.store_word.specs.Words.{Parts}
 use Rattle.block_store.specs.obj_layout.Forwards.{word_at}
 use Rattle.block_store.specs.Making.{CanMake, MakesBlock, block_word}
 use Rattle.block_store.specs.lisp_meaning.Roles.{value_of}
-use Rattle.cdr_lists.proofs.PartsSet.{on_err}
+use Rattle.cdr_lists.proofs.PartStores.{on_err}
 use Rattle.heap_load.specs.declared.places.Place.{Place}
 use Rattle.heap_load.specs.Drafts.{known_part}
 use Rattle.heap_load.specs.Places.{no_place}
-use Rattle.heap_load.proofs.Drafting.{block_drafted, can_make, can_pair, drafted_left, given_means, object_read, pair_drafted, whole_block, whole_cons}
-use Rattle.heap_load.proofs.Placed.{laid_block, laid_pair}
+use Rattle.heap_load.proofs.NewDrafts.{block_drafted, can_make, can_pair, drafted_left, given_means, object_read, pair_drafted, whole_block, whole_cons}
+use Rattle.heap_load.proofs.ConsPlaces.{laid_block, laid_pair}
 use Rattle.heap_load.proofs.drafts.make_alone.Goals as goal
 
 pub make_pair_of-requires : goal.make_pair_of-requires

@@ -7,11 +7,11 @@ use Rattle.mem_port.specs.Store.{Store}
 use Rattle.area_space.specs.Table.{Table}
 use Rattle.block_store.specs.obj_layout.Forwards.{word_at}
 use Rattle.cdr_lists.specs.Lists.{CanList, ListedOn, cell_word}
-use Rattle.cdr_lists.proofs.PartsSet.{on_err}
-use Rattle.heap_load.proofs.Celled.{can_list, cells_inside, drafted_group, group_within, word_here, zeros}
-use Rattle.heap_load.proofs.Drafting.{drafted_left, object_read}
-use Rattle.heap_load.proofs.Placed.{laid_group}
-use Rattle.heap_load.proofs.Tails.{size_whole}
+use Rattle.cdr_lists.proofs.PartStores.{on_err}
+use Rattle.heap_load.proofs.ListCells.{can_list, cells_inside, drafted_group, group_within, word_here, zeros}
+use Rattle.heap_load.proofs.NewDrafts.{drafted_left, object_read}
+use Rattle.heap_load.proofs.ConsPlaces.{laid_group}
+use Rattle.heap_load.proofs.GroupSequences.{size_whole}
 use Rattle.heap_load.proofs.drafts.make_group.Goals as goal
 
 -- the area that is read is that of the first

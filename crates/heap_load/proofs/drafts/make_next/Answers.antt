@@ -3,8 +3,8 @@ use Rattle.lisp_graph.specs.declared.object.Object.{Object}
 use Rattle.lisp_graph.specs.Graph.{object_at}
 use Rattle.lisp_graph.specs.Groups.{group_size, to_tail}
 use Rattle.heap_load.specs.Loading.{group_from}
-use Rattle.heap_load.proofs.Celled.{group_within}
-use Rattle.heap_load.proofs.Grouped.{group_of}
+use Rattle.heap_load.proofs.ListCells.{group_within}
+use Rattle.heap_load.proofs.GroupSearch.{group_of}
 use Rattle.heap_load.proofs.drafts.make_next.Goals as goal
 
 pub returns-clause-count : goal.returns-clause-count

@@ -2,11 +2,11 @@ use Rattle.std.proofs.Common.{◌≡◌, ◌∙◌, refl, ap, sym, arith, get_or
 use Rattle.std.proofs.lemmas.List.{get_or_default}
 use Rattle.store_word.specs.declared.word.Content.TheVariants.{Struct as StructAt}
 use Rattle.lisp_graph.specs.declared.object.Value.TheVariants as V
-use Rattle.cdr_lists.proofs.PartsSet.{on_err}
+use Rattle.cdr_lists.proofs.PartStores.{on_err}
 use Rattle.heap_load.specs.declared.places.Place.{Place}
 use Rattle.heap_load.specs.Places.{place_at, word_of}
-use Rattle.heap_load.proofs.Direct.{field_done, field_inside, field_laid, field_left}
-use Rattle.heap_load.proofs.Parted.{fields_all, fields_none, place_there}
+use Rattle.heap_load.proofs.ObjectWords.{field_done, field_inside, field_laid, field_left}
+use Rattle.heap_load.proofs.ObjectParts.{fields_all, fields_none, place_there}
 use Rattle.heap_load.proofs.filling.fill_block.Given.{Over}
 use Rattle.heap_load.proofs.filling.fill_block.Goals.{After-block_at-at, After-word_of}
 use Rattle.heap_load.proofs.filling.fill_block.Goals as goal

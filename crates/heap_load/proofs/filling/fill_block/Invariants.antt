@@ -1,7 +1,7 @@
 use Rattle.std.proofs.Common.{◌≡◌, length}
 use Rattle.mem_port.specs.View.{WithoutFault}
 use Rattle.area_space.specs.View.{view}
-use Rattle.heap_load.proofs.Parted.{FieldsFilled}
+use Rattle.heap_load.proofs.ObjectParts.{FieldsFilled}
 use Rattle.heap_load.specs.Loading.{Laid}
 use Rattle.heap_load.proofs.filling.fill_block.Given as goal
 

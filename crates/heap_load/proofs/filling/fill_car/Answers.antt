@@ -4,8 +4,8 @@ use Rattle.store_word.specs.declared.word.CdrCode.TheVariants.{Normal}
 use Rattle.store_word.specs.declared.word.Content.TheVariants.{List as ListAt}
 use Rattle.heap_load.specs.declared.places.Place.{Place}
 use Rattle.heap_load.specs.Places.{place_at}
-use Rattle.heap_load.proofs.Direct.{car_done, car_done_laid, car_given, car_inside, car_left, pair_has}
-use Rattle.heap_load.proofs.Parted.{place_there}
+use Rattle.heap_load.proofs.ObjectWords.{car_done, car_done_laid, car_given, car_inside, car_left, pair_has}
+use Rattle.heap_load.proofs.ObjectParts.{place_there}
 use Rattle.heap_load.proofs.filling.fill_car.Given.{Over}
 use Rattle.heap_load.proofs.filling.fill_car.Goals.{After-cons_at-at}
 use Rattle.heap_load.proofs.filling.fill_car.Goals as goal

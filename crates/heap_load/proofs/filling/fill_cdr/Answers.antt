@@ -8,9 +8,9 @@ use Rattle.lisp_graph.specs.Graph.{object_at}
 use Rattle.cdr_lists.specs.Pairs.{second_code}
 use Rattle.heap_load.specs.declared.places.Place.{Place}
 use Rattle.heap_load.specs.Places.{place_at}
-use Rattle.heap_load.proofs.Direct.{cdr_done, cdr_done_laid, cdr_given, cdr_inside, cdr_left}
-use Rattle.heap_load.proofs.Drafting.{object_read}
-use Rattle.heap_load.proofs.Parted.{place_there}
+use Rattle.heap_load.proofs.ObjectWords.{cdr_done, cdr_done_laid, cdr_given, cdr_inside, cdr_left}
+use Rattle.heap_load.proofs.NewDrafts.{object_read}
+use Rattle.heap_load.proofs.ObjectParts.{place_there}
 use Rattle.heap_load.proofs.filling.fill_cdr.Given.{Over}
 use Rattle.heap_load.proofs.filling.fill_cdr.Goals.{After-cons_at-at, After-with_cdr-second}
 use Rattle.heap_load.proofs.filling.fill_cdr.Goals as goal

@@ -5,8 +5,8 @@ use Rattle.store_word.specs.declared.word.CdrCode.{CdrCode}
 use Rattle.store_word.specs.declared.word.Content.TheVariants.{List as ListAt}
 use Rattle.heap_load.specs.declared.places.Place.{Place}
 use Rattle.heap_load.specs.Places.{cell_code_of, place_at}
-use Rattle.heap_load.proofs.Direct.{car_done_laid, car_inside, car_left, cell_done, cell_has}
-use Rattle.heap_load.proofs.Parted.{place_there}
+use Rattle.heap_load.proofs.ObjectWords.{car_done_laid, car_inside, car_left, cell_done, cell_has}
+use Rattle.heap_load.proofs.ObjectParts.{place_there}
 use Rattle.heap_load.proofs.filling.fill_cell.Given.{Over}
 use Rattle.heap_load.proofs.filling.fill_cell.Goals.{After-cons_at-at, After-with_cdr-first}
 use Rattle.heap_load.proofs.filling.fill_cell.Goals as goal

@@ -1,5 +1,5 @@
 use Rattle.std.proofs.Common.{refl, arith}
-use Rattle.heap_load.proofs.Parted.{filled_none}
+use Rattle.heap_load.proofs.ObjectParts.{filled_none}
 use Rattle.heap_load.proofs.filling.fill_drafts.Goals as goal
 
 pub loop-number-init : goal.loop-number-init

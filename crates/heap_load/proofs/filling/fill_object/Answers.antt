@@ -2,7 +2,7 @@ use Rattle.std.proofs.Common.{◌∙◌, ap, sym, List}
 use Rattle.lisp_graph.specs.declared.object.Object.{Object}
 use Rattle.lisp_graph.specs.declared.object.Body.TheVariants.{Block}
 use Rattle.lisp_graph.specs.declared.object.Value.{Value}
-use Rattle.heap_load.proofs.Drafting.{object_read}
+use Rattle.heap_load.proofs.NewDrafts.{object_read}
 use Rattle.heap_load.proofs.filling.fill_object.Goals as goal
 
 pub fill_cons-requires : goal.fill_cons-requires

@@ -4,7 +4,7 @@ use Rattle.lisp_graph.specs.declared.object.Object.{Object}
 use Rattle.lisp_graph.specs.Graph.{is_ref, no_object, object_at}
 use Rattle.lisp_graph.specs.Groups.{group_size, is_cell, is_nil, to_tail}
 use Rattle.heap_load.specs.Loading.{group_from}
-use Rattle.heap_load.proofs.Grouped.{at_end, further, further_none, further_twice, goes_on, group_ends, none_left, stops, too_many}
+use Rattle.heap_load.proofs.GroupSearch.{at_end, further, further_none, further_twice, goes_on, group_ends, none_left, stops, too_many}
 use Rattle.heap_load.proofs.groups.group_from.Goals as goal
 
 pub loop-i-init : goal.loop-i-init

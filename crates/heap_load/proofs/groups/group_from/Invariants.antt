@@ -1,7 +1,7 @@
 use Rattle.std.proofs.Common.{◌≡◌, ◌-◌, ◌≤◌, drop}
 use Rattle.lisp_graph.specs.Graph.{object_at}
 use Rattle.lisp_graph.specs.Groups.{to_tail}
-use Rattle.heap_load.proofs.Grouped.{further}
+use Rattle.heap_load.proofs.GroupSearch.{further}
 use Rattle.heap_load.proofs.groups.group_from.Given as goal
 
 -- what begins with the first is what begins here, and those before it

@@ -1,4 +1,4 @@
-use Rattle.heap_load.proofs.Charging.{account_more, account_most}
+use Rattle.heap_load.proofs.AreaCharges.{account_more, account_most}
 use Rattle.heap_load.proofs.laws.drafts_are_charged.Goals as goal
 
 pub returns-clause-more : goal.returns-clause-more

@@ -1,4 +1,4 @@
-use Rattle.heap_load.proofs.Making.{opening_more}
+use Rattle.heap_load.proofs.LaterObjects.{opening_more}
 use Rattle.heap_load.proofs.laws.more_objects_are_made.Goals as goal
 
 pub returns : goal.returns

@@ -5,7 +5,7 @@ use Rattle.lisp_graph.specs.declared.object.Value.{Value}
 use Rattle.lisp_graph.specs.declared.object.Value.TheVariants as V
 use Rattle.heap_load.specs.declared.places.Place.{Place}
 use Rattle.heap_load.specs.Places.{word_of}
-use Rattle.heap_load.proofs.Loaded.{represents_left, represents_loaded, represents_some, groups_loaded}
+use Rattle.heap_load.proofs.LoadedWorlds.{represents_left, represents_loaded, represents_some, groups_loaded}
 use Rattle.heap_load.proofs.loading.load.Goals as goal
 
 pub returns-in_err-make_drafts-clause-some : goal.returns-in_err-make_drafts-clause-some

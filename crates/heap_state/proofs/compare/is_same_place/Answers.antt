@@ -1,7 +1,7 @@
 use Rattle.std.proofs.Common.{List, subst}
 use Rattle.store_word.specs.Words.{Parts}
 use Rattle.obj_layout.specs.Forwards.{Final}
-use Rattle.heap_state.proofs.Showing.{same_place}
+use Rattle.heap_state.proofs.WordValues.{same_place}
 use Rattle.heap_state.proofs.compare.is_same_place.Goals as goal
 
 pub returns-clause-value : goal.returns-clause-value

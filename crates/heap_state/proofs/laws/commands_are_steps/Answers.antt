@@ -1,7 +1,7 @@
-use Rattle.heap_state.proofs.Allocated.{allocation_is_step, fault_is_step}
-use Rattle.heap_state.proofs.Over.{at_last}
-use Rattle.heap_state.proofs.Played.{performs_is_step}
-use Rattle.heap_state.proofs.Reached.{reach_stays, steps_bear}
+use Rattle.heap_state.proofs.AllocationTransitions.{allocation_is_step, fault_is_step}
+use Rattle.heap_state.proofs.RemainingUnits.{at_last}
+use Rattle.heap_state.proofs.Transitions.{performs_is_step}
+use Rattle.heap_state.proofs.ReachableObjects.{reach_stays, steps_bear}
 use Rattle.heap_state.proofs.laws.commands_are_steps.Goals as goal
 
 pub returns-clause-performs : goal.returns-clause-performs

@@ -1,4 +1,4 @@
-use Rattle.heap_state.proofs.Changing.{kept_register, represented_twice, read_on, register_set}
+use Rattle.heap_state.proofs.StateChanges.{kept_register, represented_twice, read_on, register_set}
 use Rattle.heap_state.proofs.laws.what_is_represented_changes.Goals as goal
 
 pub returns-clause-kept : goal.returns-clause-kept

@@ -2,11 +2,11 @@ use Rattle.std.proofs.Common.{refl, subst, sym, ◌∙◌, arith, slice_index}
 use Rattle.store_word.specs.Words.{Parts}
 use Rattle.transporter.specs.Moving.{none}
 use Rattle.transporter.specs.Settling.{RefersToOld}
-use Rattle.transporter.proofs.Marked.{marks-read, marks-then}
-use Rattle.transporter.proofs.Moving.{moves-more, moves-then, same-stores}
-use Rattle.transporter.proofs.Preserved.{preserves-same, preserves-then}
+use Rattle.transporter.proofs.PageMarks.{marks-read, marks-then}
+use Rattle.transporter.proofs.TransportSequences.{moves-more, moves-then, same-stores}
+use Rattle.transporter.proofs.ScannedWords.{preserves-same, preserves-then}
 use Rattle.heap_state.specs.Settled.{IsSettled}
-use Rattle.heap_state.proofs.OneSettled.{represented_then, item_within, one_more, registers_fresh, registers_same, registers_then}
+use Rattle.heap_state.proofs.SettledRegister.{represented_then, item_within, one_more, registers_fresh, registers_same, registers_then}
 use Rattle.heap_state.proofs.settling.settle_items.Goals as goal
 
 pub loop-i-init : goal.loop-i-init

@@ -3,7 +3,7 @@ use Rattle.std.proofs.lemmas.List.{get_or_read}
 use Rattle.store_word.specs.Words.{Parts, null_word}
 use Rattle.transporter.specs.Moving.{MovesFor}
 use Rattle.transporter.specs.Settling.{RefersToOld, IsSettleable, Settles}
-use Rattle.heap_state.proofs.OneSettled.{fresh_settled, register_settleable, settles_here, stays_represented, settled_represented, settled_others}
+use Rattle.heap_state.proofs.SettledRegister.{fresh_settled, register_settleable, settles_here, stays_represented, settled_represented, settled_others}
 use Rattle.heap_state.proofs.settling.settle_register.Goals as goal
 
 pub settle-requires : goal.settle-requires

@@ -3,7 +3,7 @@ use Rattle.store_word.specs.Words.{Parts}
 use Rattle.store_word.specs.declared.word.Content.{Content}
 use Rattle.store_word.specs.declared.word.Content.TheVariants.{Struct}
 use Rattle.heap_state.specs.Words.{Shows, header_reply}
-use Rattle.heap_state.proofs.Showing.{read_final}
+use Rattle.heap_state.proofs.WordValues.{read_final}
 use Rattle.heap_state.proofs.values.show.Goals as goal
 
 pub returns-in_ok-header-in-Struct-clause-value : goal.returns-in_ok-header-in-Struct-clause-value

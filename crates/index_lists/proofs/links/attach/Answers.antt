@@ -1,4 +1,4 @@
-use Rattle.index_lists.proofs.Holding.{holds_push}
+use Rattle.index_lists.proofs.LinkUpdates.{holds_push}
 use Rattle.index_lists.proofs.links.attach.Goals as goal
 
 pub returns : goal.returns

@@ -1,4 +1,4 @@
-use Rattle.index_lists.proofs.Holding.{holds_unlink}
+use Rattle.index_lists.proofs.LinkUpdates.{holds_unlink}
 use Rattle.index_lists.proofs.links.detach.Goals as goal
 
 pub returns : goal.returns

@@ -1,4 +1,4 @@
-use Rattle.index_lists.proofs.Holding.{holds_relink}
+use Rattle.index_lists.proofs.LinkUpdates.{holds_relink}
 use Rattle.index_lists.proofs.links.relink.Goals as goal
 
 pub returns : goal.returns

@@ -1,4 +1,4 @@
-use Rattle.input_verdict.proofs.Asked.{dump_whole}
+use Rattle.input_verdict.proofs.DumpVerdicts.{dump_whole}
 use Rattle.input_verdict.proofs.laws.dumps_are_whole_inputs.Goals as goal
 
 pub returns : goal.returns

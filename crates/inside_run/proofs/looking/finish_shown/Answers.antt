@@ -1,5 +1,5 @@
 use Rattle.inside_run.specs.Outcome.{machine_text}
-use Rattle.inside_run.proofs.Behind.{closed_behind}
+use Rattle.inside_run.proofs.FinalText.{closed_behind}
 use Rattle.inside_run.proofs.looking.finish_shown.Goals as goal
 
 pub returns-clause-written : goal.returns-clause-written

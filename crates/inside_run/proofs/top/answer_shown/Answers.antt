@@ -1,6 +1,6 @@
 use Rattle.std.proofs.Common.{◌-◌, Err}
-use Rattle.replay_run.proofs.Finishing.{ran_finish}
-use Rattle.inside_run.proofs.Showing.{shows_nothing, shows_stopped, shows_whole}
+use Rattle.replay_run.proofs.LastLine.{ran_finish}
+use Rattle.inside_run.proofs.ShownMachines.{shows_nothing, shows_stopped, shows_whole}
 use Rattle.inside_run.proofs.top.answer_shown.Goals as goal
 
 pub returns-in-Err-clause-ran : goal.returns-in-Err-clause-ran

@@ -1,7 +1,7 @@
 use Rattle.std.proofs.Common.{[], ◌∷◌, ◌++◌}
 use Rattle.std.specs.List.{flat_map}
 use Rattle.std.proofs.lemmas.Result.{err_from_is_err_and}
-use Rattle.inside_text.proofs.Gathering.{gathers_cut, gathers_then, line_is}
+use Rattle.inside_text.proofs.TextSequences.{gathers_cut, gathers_then, line_is}
 use Rattle.inside_text.proofs.line.tell_line.Goals as goal
 
 pub returns-in_err-gather-clause-gathers : goal.returns-in_err-gather-clause-gathers

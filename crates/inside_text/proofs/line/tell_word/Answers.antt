@@ -1,6 +1,6 @@
 use Rattle.std.proofs.Common.{[], ◌∷◌}
 use Rattle.std.proofs.lemmas.Result.{err_from_is_err_and}
-use Rattle.inside_text.proofs.Gathering.{gathers_cut, gathers_then}
+use Rattle.inside_text.proofs.TextSequences.{gathers_cut, gathers_then}
 use Rattle.inside_text.proofs.line.tell_word.Goals as goal
 
 pub returns-in_err-gather-clause-gathers : goal.returns-in_err-gather-clause-gathers

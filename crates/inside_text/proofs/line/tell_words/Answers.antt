@@ -1,6 +1,6 @@
 use Rattle.std.proofs.Common.{arith, rules, ◌∷◌}
 use Rattle.std.proofs.lemmas.Result.{err_from_is_err_and}
-use Rattle.inside_text.proofs.Gathering.{gathered_next, gathers_next_cut, none_yet}
+use Rattle.inside_text.proofs.TextSequences.{gathered_next, gathers_next_cut, none_yet}
 use Rattle.inside_text.proofs.line.tell_words.Goals as goal
 
 pub returns-in_err-tell_word-clause-gathers : goal.returns-in_err-tell_word-clause-gathers

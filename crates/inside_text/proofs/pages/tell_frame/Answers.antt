@@ -1,6 +1,6 @@
 use Rattle.std.proofs.Common.{arith}
-use Rattle.paged_memory.proofs.Nexts.{resident_inside}
-use Rattle.paged_memory.proofs.Pools.{resident_place}
+use Rattle.paged_memory.proofs.NextPages.{resident_inside}
+use Rattle.paged_memory.proofs.FrameChanges.{resident_place}
 use Rattle.inside_text.proofs.Rows.{tag_is}
 use Rattle.inside_text.proofs.pages.tell_frame.Goals as goal
 

@@ -3,7 +3,7 @@ use Rattle.std.proofs.lemmas.Result.{err_from_is_err_and}
 use Rattle.paged_memory.specs.Paging.{resident_of}
 use Rattle.inside_text.specs.Pages.{frame_of}
 use Rattle.inside_text.proofs.Frames.{told_cut, told_end, told_more, told_none, told_page, told_start}
-use Rattle.inside_text.proofs.Gathering.{none_yet}
+use Rattle.inside_text.proofs.TextSequences.{none_yet}
 use Rattle.inside_text.proofs.pages.tell_frames.Goals as goal
 
 pub tell_frame-requires : goal.tell_frame-requires

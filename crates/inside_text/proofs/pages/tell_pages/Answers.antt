@@ -5,7 +5,7 @@ use Rattle.area_space.specs.mem_port.Swaps.{Swaps}
 use Rattle.paged_memory.specs.Paging.{resident_of, size_of}
 use Rattle.inside_text.specs.InsideText.{calls_line}
 use Rattle.inside_text.specs.Pages.{frame_of, row_of}
-use Rattle.inside_text.proofs.Gathering.{gathers_cut, gathers_then}
+use Rattle.inside_text.proofs.TextSequences.{gathers_cut, gathers_then}
 use Rattle.inside_text.proofs.Rows.{lines_are}
 use Rattle.inside_text.proofs.pages.tell_pages.Goals as goal
 

@@ -1,4 +1,4 @@
-use Rattle.inside_text.proofs.Gathering.{none_yet}
+use Rattle.inside_text.proofs.TextSequences.{none_yet}
 use Rattle.inside_text.proofs.Rows.{row_away, row_there}
 use Rattle.inside_text.proofs.pages.tell_row.Goals as goal
 

@@ -2,7 +2,7 @@ use Rattle.std.proofs.Common.{arith, rules}
 use Rattle.paged_memory.specs.Paging.{size_of}
 use Rattle.inside_text.specs.Pages.{row_of}
 use Rattle.std.proofs.lemmas.Result.{err_from_is_err_and}
-use Rattle.inside_text.proofs.Gathering.{gathered_first, gathered_to, gathers_first_cut, none_yet}
+use Rattle.inside_text.proofs.TextSequences.{gathered_first, gathered_to, gathers_first_cut, none_yet}
 use Rattle.inside_text.proofs.pages.tell_rows.Goals as goal
 
 pub returns-in_err-tell_row-clause-gathers : goal.returns-in_err-tell_row-clause-gathers

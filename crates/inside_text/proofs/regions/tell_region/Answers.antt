@@ -4,7 +4,7 @@ use Rattle.std.proofs.lemmas.Result.{err_from_is_err_and}
 use Rattle.area_space.specs.Table.{used_of}
 use Rattle.inside_text.specs.InsideText.{owned_line, word_line}
 use Rattle.inside_text.proofs.Classes.{lines_free, lines_owned}
-use Rattle.inside_text.proofs.Gathering.{gathers_cut, gathers_then, none_yet}
+use Rattle.inside_text.proofs.TextSequences.{gathers_cut, gathers_then, none_yet}
 use Rattle.inside_text.proofs.regions.tell_region.Goals as goal
 
 pub returns-in-None-clause-gathers : goal.returns-in-None-clause-gathers

@@ -1,7 +1,7 @@
 use Rattle.std.proofs.Common.{arith, rules}
 use Rattle.inside_text.specs.InsideText.{region_lines}
 use Rattle.std.proofs.lemmas.Result.{err_from_is_err_and}
-use Rattle.inside_text.proofs.Gathering.{gathered_first, gathered_to, gathers_first_cut, none_yet}
+use Rattle.inside_text.proofs.TextSequences.{gathered_first, gathered_to, gathers_first_cut, none_yet}
 use Rattle.inside_text.proofs.regions.tell_regions.Goals as goal
 
 pub returns-in_err-tell_region-clause-gathers : goal.returns-in_err-tell_region-clause-gathers

@@ -2,7 +2,7 @@ use Rattle.std.proofs.Common.{arith, rules, ◌*◌}
 use Rattle.area_space.specs.Table.{used_of}
 use Rattle.inside_text.specs.InsideText.{word_line}
 use Rattle.std.proofs.lemmas.Result.{err_from_is_err_and}
-use Rattle.inside_text.proofs.Gathering.{gathered_row, gathered_to, gathers_row_cut, none_yet}
+use Rattle.inside_text.proofs.TextSequences.{gathered_row, gathered_to, gathers_row_cut, none_yet}
 use Rattle.inside_text.proofs.regions.tell_words_in.Goals as goal
 
 pub returns-in_err-tell_word-clause-gathers : goal.returns-in_err-tell_word-clause-gathers

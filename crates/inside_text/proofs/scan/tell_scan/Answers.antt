@@ -1,7 +1,7 @@
 use Rattle.std.proofs.Common.{◌++◌}
 use Rattle.inside_text.specs.InsideText.{left_line, moved_line, next_line, phase_line}
 use Rattle.std.proofs.lemmas.Result.{err_from_is_err_and}
-use Rattle.inside_text.proofs.Gathering.{gathers_cut, gathers_then}
+use Rattle.inside_text.proofs.TextSequences.{gathers_cut, gathers_then}
 use Rattle.inside_text.proofs.scan.tell_scan.Goals as goal
 
 pub returns-in_err-tell_phase-clause-gathers : goal.returns-in_err-tell_phase-clause-gathers

@@ -1,7 +1,7 @@
 use Rattle.std.proofs.Common.{[], ◌∷◌, ◌++◌, codes}
 use Rattle.inside_text.specs.InsideText.{area_lines, capacity_line, space_line}
 use Rattle.std.proofs.lemmas.Result.{err_from_is_err_and}
-use Rattle.inside_text.proofs.Gathering.{gathers_cut, gathers_then}
+use Rattle.inside_text.proofs.TextSequences.{gathers_cut, gathers_then}
 use Rattle.inside_text.proofs.whole.tell_head.Goals as goal
 
 pub returns-in_err-gather-clause-gathers : goal.returns-in_err-gather-clause-gathers

@@ -1,7 +1,7 @@
 use Rattle.std.proofs.Common.{◌++◌}
 use Rattle.inside_text.specs.InsideText.{all_region_lines, phase_lines, register_lines}
 use Rattle.std.proofs.lemmas.Result.{err_from_is_err_and}
-use Rattle.inside_text.proofs.Gathering.{gathers_cut, gathers_then}
+use Rattle.inside_text.proofs.TextSequences.{gathers_cut, gathers_then}
 use Rattle.inside_text.proofs.whole.tell_middle.Goals as goal
 
 pub returns-in_err-tell_scan-clause-gathers : goal.returns-in_err-tell_scan-clause-gathers

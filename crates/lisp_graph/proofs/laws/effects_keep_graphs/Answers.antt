@@ -1,5 +1,5 @@
-use Rattle.lisp_graph.proofs.Keeping.{effect_keeps}
-use Rattle.lisp_graph.proofs.Lasting.{effect_lasts}
+use Rattle.lisp_graph.proofs.GraphInvariant.{effect_keeps}
+use Rattle.lisp_graph.proofs.Persistence.{effect_lasts}
 use Rattle.lisp_graph.proofs.SameValues.{same_value-equal}
 use Rattle.lisp_graph.proofs.laws.effects_keep_graphs.Goals as goal
 

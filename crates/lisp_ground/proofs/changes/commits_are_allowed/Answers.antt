@@ -1,6 +1,6 @@
-use Rattle.lisp_ground.proofs.Accounts.{account_agrees}
-use Rattle.lisp_ground.proofs.Levels.{level_totals_on}
-use Rattle.lisp_ground.proofs.Places.{new_allowed, moved_allowed}
+use Rattle.lisp_ground.proofs.sums.Accounts.{account_agrees}
+use Rattle.lisp_ground.proofs.sums.Levels.{level_totals_on}
+use Rattle.lisp_ground.proofs.words.Places.{new_allowed, moved_allowed}
 use Rattle.lisp_ground.proofs.changes.commits_are_allowed.Goals as goal
 
 pub returns-clause-accounts : goal.returns-clause-accounts

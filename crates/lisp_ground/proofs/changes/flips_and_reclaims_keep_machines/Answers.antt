@@ -1,4 +1,4 @@
-use Rattle.lisp_ground.proofs.Collecting.{flipped_on, reclaimed_on, scanned_names_no_old}
+use Rattle.lisp_ground.proofs.invariant.Collections.{flipped_on, reclaimed_on, scanned_names_no_old}
 use Rattle.lisp_ground.proofs.changes.flips_and_reclaims_keep_machines.Goals as goal
 
 pub returns-clause-flip : goal.returns-clause-flip

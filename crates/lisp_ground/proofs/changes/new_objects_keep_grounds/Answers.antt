@@ -1,4 +1,4 @@
-use Rattle.lisp_ground.proofs.Making.{pair_made_on, block_made_on, list_made_on}
+use Rattle.lisp_ground.proofs.invariant.NewObjects.{pair_made_on, block_made_on, list_made_on}
 use Rattle.lisp_ground.proofs.changes.new_objects_keep_grounds.Goals as goal
 
 pub returns-clause-pair : goal.returns-clause-pair

@@ -1,4 +1,4 @@
-use Rattle.lisp_ground.proofs.RelaidOn.{cell_relaid_on, block_grown_on}
+use Rattle.lisp_ground.proofs.invariant.Relocations.{cell_relaid_on, block_grown_on}
 use Rattle.lisp_ground.proofs.changes.objects_are_laid_anew.Goals as goal
 
 pub returns-clause-cell : goal.returns-clause-cell

@@ -1,4 +1,4 @@
-use Rattle.lisp_ground.proofs.PlaceRoom.{new_room, moved_room, spare_room}
+use Rattle.lisp_ground.proofs.words.PlaceRoom.{new_room, moved_room, spare_room}
 use Rattle.lisp_ground.proofs.changes.places_have_room.Goals as goal
 
 pub returns-clause-new : goal.returns-clause-new

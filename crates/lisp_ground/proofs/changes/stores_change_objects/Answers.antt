@@ -1,4 +1,4 @@
-use Rattle.lisp_ground.proofs.StoredOn.{car_stored_on, cdr_stored_on, field_stored_on, resettled_on}
+use Rattle.lisp_ground.proofs.invariant.Stores.{car_stored_on, cdr_stored_on, field_stored_on, resettled_on}
 use Rattle.lisp_ground.proofs.changes.stores_change_objects.Goals as goal
 
 pub returns-clause-car : goal.returns-clause-car

@@ -1,5 +1,5 @@
-use Rattle.lisp_ground.proofs.Naming.{value_names_used}
-use Rattle.lisp_ground.proofs.Storing.{kept_on_same, stores_at, stored_on}
+use Rattle.lisp_ground.proofs.words.Values.{value_names_used}
+use Rattle.lisp_ground.proofs.invariant.WordStores.{kept_on_same, stores_at, stored_on}
 use Rattle.lisp_ground.proofs.changes.words_keep_grounds.Goals as goal
 
 pub returns-clause-reads : goal.returns-clause-reads

@@ -1,5 +1,5 @@
-use Rattle.lisp_ground.proofs.Latest.{latest_page, survivors_agree}
-use Rattle.lisp_ground.proofs.Agreeing.{levels_agree, condemned_agree}
+use Rattle.lisp_ground.proofs.regions.LatestTransport.{latest_page, survivors_agree}
+use Rattle.lisp_ground.proofs.invariant.Agreements.{levels_agree, condemned_agree}
 use Rattle.lisp_ground.proofs.image.collections_agree.Goals as goal
 
 pub returns-clause-latest : goal.returns-clause-latest

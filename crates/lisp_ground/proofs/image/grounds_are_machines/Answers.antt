@@ -1,5 +1,5 @@
-use Rattle.lisp_ground.proofs.Closing.{kept_image}
-use Rattle.lisp_ground.proofs.Marking.{image_marks}
+use Rattle.lisp_ground.proofs.invariant.OfImage.{kept_image}
+use Rattle.lisp_ground.proofs.invariant.Marks.{image_marks}
 use Rattle.lisp_ground.proofs.image.grounds_are_machines.Goals as goal
 
 pub returns-clause-kept : goal.returns-clause-kept

@@ -1,7 +1,7 @@
 use Rattle.std.proofs.Common.{◌∙◌}
-use Rattle.lisp_ground.proofs.Regions.{region_is, region_free, region_live, region_old}
-use Rattle.lisp_ground.proofs.Standings.{live_region, old_region}
-use Rattle.lisp_ground.proofs.Counting.{live_words_are}
+use Rattle.lisp_ground.proofs.regions.Regions.{region_is, region_free, region_live, region_old}
+use Rattle.lisp_ground.proofs.regions.OldAndLive.{live_region, old_region}
+use Rattle.lisp_ground.proofs.words.UsedByRegion.{live_words_are}
 use Rattle.lisp_ground.proofs.image.regions_are_chains.Goals as goal
 
 pub returns-clause-regions : goal.returns-clause-regions

@@ -1,7 +1,7 @@
 use Rattle.lisp_meaning.specs.Roles.{name_at}
 use Rattle.std.proofs.Common.{suc, ◌+◌, refl}
 use Rattle.obj_layout.specs.declared.run.RunEnd.TheVariants.{Forwarded}
-use Rattle.lisp_ground.proofs.Runs.{has_run, run_to_nil, run_to_pair, run_to_forward, run_follower}
+use Rattle.lisp_ground.proofs.words.Runs.{has_run, run_to_nil, run_to_pair, run_to_forward, run_follower}
 use Rattle.lisp_ground.proofs.objects.cells_have_runs.Goals as goal
 
 pub returns-clause-runs : goal.returns-clause-runs

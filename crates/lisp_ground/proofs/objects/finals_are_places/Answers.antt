@@ -1,4 +1,4 @@
-use Rattle.lisp_ground.proofs.Finals.{has_final, final_is_place, stands_there}
+use Rattle.lisp_ground.proofs.words.FinalAddresses.{has_final, final_is_place, stands_there}
 use Rattle.lisp_ground.proofs.objects.finals_are_places.Goals as goal
 
 pub returns : goal.returns

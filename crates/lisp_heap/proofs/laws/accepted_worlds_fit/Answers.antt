@@ -1,4 +1,4 @@
-use Rattle.lisp_heap.proofs.Fitting.{accepted_fit}
+use Rattle.lisp_heap.proofs.WorldQuotas.{accepted_fit}
 use Rattle.lisp_heap.proofs.laws.accepted_worlds_fit.Goals as goal
 
 pub returns : goal.returns

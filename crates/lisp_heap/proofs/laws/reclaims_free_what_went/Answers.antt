@@ -1,4 +1,4 @@
-use Rattle.lisp_heap.proofs.Freed.{silent_retains}
+use Rattle.lisp_heap.proofs.FinalAccounts.{silent_retains}
 use Rattle.lisp_heap.proofs.laws.reclaims_free_what_went.Goals as goal
 
 pub returns : goal.returns

@@ -1,4 +1,4 @@
-use Rattle.lisp_heap.proofs.Walking.{census_is_of_state, dump_is_of_state}
+use Rattle.lisp_heap.proofs.HeapWalks.{census_is_of_state, dump_is_of_state}
 use Rattle.lisp_heap.proofs.laws.walks_show_states.Goals as goal
 
 pub returns-clause-dump : goal.returns-clause-dump

@@ -1,5 +1,5 @@
 use Rattle.lisp_meaning.proofs.examples.refused_images.Goals as goal
-use Rattle.lisp_meaning.proofs.MisreadImages as misread
+use Rattle.lisp_meaning.proofs.runs.MisreadImages as misread
 
 pub returns : goal.returns
 returns c = record {

@@ -7,7 +7,7 @@ use Rattle.lisp_meaning.specs.machine.Maps.{some_below}
 use Rattle.lisp_meaning.specs.machine.Reach.{closure_after}
 use Rattle.lisp_meaning.specs.examples.Worked as E
 use Rattle.lisp_meaning.specs.examples.Worked.{work, pool, pools, circle}
-use Rattle.lisp_meaning.proofs.WorkedRuns as worked
+use Rattle.lisp_meaning.proofs.runs.WorkedRuns as worked
 
 pub returns : goal.returns
 unfolding total some_below refers_in closure_after list_from

@@ -1,5 +1,5 @@
 use Rattle.lisp_meaning.proofs.laws.invariant_gives_meaning.Goals as goal
-use Rattle.lisp_meaning.proofs.Adequacy.{stands_under}
+use Rattle.lisp_meaning.proofs.reading.Adequacy.{stands_under}
 
 pub returns : goal.returns
 returns c = record { meaning = stands_under }

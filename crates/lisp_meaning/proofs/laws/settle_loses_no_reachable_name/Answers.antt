@@ -1,5 +1,5 @@
 use Rattle.lisp_meaning.proofs.laws.settle_loses_no_reachable_name.Goals as goal
-use Rattle.lisp_meaning.proofs.Collections.{settles_reachable}
+use Rattle.lisp_meaning.proofs.closure.Collections.{settles_reachable}
 
 pub returns : goal.returns
 returns c = record { kept = settles_reachable }

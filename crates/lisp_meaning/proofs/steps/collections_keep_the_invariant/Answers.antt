@@ -1,4 +1,4 @@
-use Rattle.lisp_meaning.proofs.Collecting.{flipped_is, reclaimed_is, strong_sound}
+use Rattle.lisp_meaning.proofs.invariant.Collections.{flipped_is, reclaimed_is, strong_sound}
 use Rattle.lisp_meaning.proofs.steps.collections_keep_the_invariant.Goals as goal
 
 pub returns : goal.returns

@@ -1,4 +1,4 @@
-use Rattle.lisp_meaning.proofs.Rewriting.{car_stored, cdr_stored, field_stored, resettled, cell_relaid, block_grown, live_level_is, grown_store}
+use Rattle.lisp_meaning.proofs.invariant.Rewrites.{car_stored, cdr_stored, field_stored, resettled, cell_relaid, block_grown, live_level_is, grown_store}
 use Rattle.lisp_meaning.proofs.steps.stores_keep_the_invariant.Goals as goal
 
 pub returns : goal.returns

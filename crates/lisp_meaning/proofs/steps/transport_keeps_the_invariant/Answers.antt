@@ -1,4 +1,4 @@
-use Rattle.lisp_meaning.proofs.Transport.{block_moved, run_to_pair_moved, run_to_nil_moved, cut_run_moved, run_is_short}
+use Rattle.lisp_meaning.proofs.invariant.Transports.{block_moved, run_to_pair_moved, run_to_nil_moved, cut_run_moved, run_is_short}
 use Rattle.lisp_meaning.proofs.steps.transport_keeps_the_invariant.Goals as goal
 
 pub returns : goal.returns

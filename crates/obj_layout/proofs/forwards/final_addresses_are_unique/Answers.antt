@@ -1,4 +1,4 @@
-use Rattle.obj_layout.proofs.Following.{leads-same}
+use Rattle.obj_layout.proofs.ForwardChains.{leads-same}
 use Rattle.obj_layout.proofs.forwards.final_addresses_are_unique.Goals as goal
 
 pub returns : goal.returns

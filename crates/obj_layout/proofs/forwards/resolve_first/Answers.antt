@@ -1,6 +1,6 @@
 use Rattle.std.proofs.Common.{◌<◌, List, Some, None, length, sym, ◌∙◌, subst, arith}
 use Rattle.store_word.specs.Words.{Parts}
-use Rattle.obj_layout.proofs.Following.{stores_nothing-twice, forward-read, way-inside, way-goes_on, way-ends}
+use Rattle.obj_layout.proofs.ForwardChains.{stores_nothing-twice, forward-read, way-inside, way-goes_on, way-ends}
 use Rattle.obj_layout.proofs.forwards.resolve_first.Goals as goal
 
 pub read-requires : goal.read-requires

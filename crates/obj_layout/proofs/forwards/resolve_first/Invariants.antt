@@ -1,7 +1,7 @@
 use Rattle.std.proofs.Common.{◌+◌, ◌≤◌}
 use Rattle.mem_port.specs.View.{WithoutFault, shown}
 use Rattle.mem_port.specs.Store.{StoresNothing}
-use Rattle.obj_layout.proofs.Following.{Way}
+use Rattle.obj_layout.proofs.ForwardChains.{Way}
 use Rattle.obj_layout.proofs.forwards.resolve_first.Given as goal
 
 -- the way goes on from here

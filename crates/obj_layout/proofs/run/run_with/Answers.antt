@@ -1,8 +1,8 @@
 use Rattle.std.proofs.Common.{◌≡◌, ◌+◌, ◌-◌, ◌<◌, List, length, refl, sym, ◌∙◌, ap, subst, arith}
 use Rattle.store_word.specs.Words.{Parts}
 use Rattle.obj_layout.specs.Forwards.{word_at, Final, HasFinal, IsFinal}
-use Rattle.obj_layout.proofs.Following.{stores_nothing-twice}
-use Rattle.obj_layout.proofs.Running.{found-one, run-nil, run-inside, behind-read, run-forward, run-forwarded, run-pair, found-more}
+use Rattle.obj_layout.proofs.ForwardChains.{stores_nothing-twice}
+use Rattle.obj_layout.proofs.RunCells.{found-one, run-nil, run-inside, behind-read, run-forward, run-forwarded, run-pair, found-more}
 use Rattle.obj_layout.proofs.run.run_with.Goals as goal
 
 pub loop-behind-init : goal.loop-behind-init

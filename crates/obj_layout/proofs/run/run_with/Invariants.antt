@@ -3,7 +3,7 @@ use Rattle.mem_port.specs.View.{WithoutFault, shown}
 use Rattle.mem_port.specs.Store.{StoresNothing}
 use Rattle.obj_layout.specs.Forwards.{word_at}
 use Rattle.obj_layout.specs.declared.run.TheConstants.{RUN_LIMIT}
-use Rattle.obj_layout.proofs.Running.{Found}
+use Rattle.obj_layout.proofs.RunCells.{Found}
 use Rattle.obj_layout.proofs.run.run_with.Given as goal
 
 -- this number of cells of the run were found, and the word is that of the last

@@ -1,6 +1,6 @@
 use Rattle.std.proofs.Common.{◌≡◌, subst, arith}
 use Rattle.paged_memory.specs.Marking.{IsFirst, HasTag, IsTagged}
-use Rattle.paged_memory.proofs.Firsts.{first_lower, one_more_tagged}
+use Rattle.paged_memory.proofs.LowestPages.{first_lower, one_more_tagged}
 use Rattle.paged_memory.proofs.marking.lowest_tagged.Goals as goal
 
 pub loop-frame-preserved : goal.loop-frame-preserved

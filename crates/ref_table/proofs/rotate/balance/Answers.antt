@@ -1,8 +1,8 @@
 use Rattle.std.proofs.Common.{◌≤◌, ◌<◌, ◌+◌, subst, arith}
 use Rattle.ref_table.specs.Branches.{Builds}
 use Rattle.ref_table.specs.Tree.{height}
-use Rattle.ref_table.proofs.Balancing.{side_heights, balanced_left, balanced_right, balanced_even}
-use Rattle.ref_table.proofs.Standing.{join_builds}
+use Rattle.ref_table.proofs.TreeBalance.{side_heights, balanced_left, balanced_right, balanced_even}
+use Rattle.ref_table.proofs.BranchJoins.{join_builds}
 use Rattle.ref_table.proofs.rotate.balance.Goals as goal
 
 pub returns-then-saturating_sub-gt1 : goal.returns-then-saturating_sub-gt1

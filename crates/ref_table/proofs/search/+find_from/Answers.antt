@@ -1,6 +1,6 @@
 use Rattle.std.proofs.Common.{sym, ap, ◌∙◌, arith}
 use Rattle.ref_table.specs.Sets.{do_meet}
-use Rattle.ref_table.proofs.Walks.{find_here, find_past, find_above}
+use Rattle.ref_table.proofs.SearchPaths.{find_here, find_past, find_above}
 use Rattle.ref_table.proofs.search.+find_from.Goals as goal
 use Rattle.ref_table.proofs.search.+find_from.Goals.{then-from-top+else-is_some+else-intersects, else-from-top}
 

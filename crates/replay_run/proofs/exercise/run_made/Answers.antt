@@ -1,5 +1,5 @@
 use Rattle.std.proofs.Common.{◌-◌, Some, ap}
-use Rattle.replay_run.proofs.Made.{ran_made}
+use Rattle.replay_run.proofs.GeneratedRun.{ran_made}
 use Rattle.replay_run.proofs.exercise.run_made.Goals as goal
 
 pub returns-clause-made : goal.returns-clause-made

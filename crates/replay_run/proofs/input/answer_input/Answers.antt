@@ -1,7 +1,7 @@
 use Rattle.std.proofs.Common.{◌-◌, Err, arith}
 use Rattle.line_input.specs.declared.statuses.status.RunStop.TheVariants.{Tell}
 use Rattle.line_input.specs.declared.statuses.status.RunError.TheVariants.{Memory}
-use Rattle.replay_run.proofs.Finishing.{ran_finish, ran_nothing, read_failed}
+use Rattle.replay_run.proofs.LastLine.{ran_finish, ran_nothing, read_failed}
 use Rattle.replay_run.proofs.input.answer_input.Goals as goal
 
 pub returns-in-Err-clause-ran : goal.returns-in-Err-clause-ran

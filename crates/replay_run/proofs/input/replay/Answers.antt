@@ -1,5 +1,5 @@
 use Rattle.std.proofs.Common.{◌∙◌, sym}
-use Rattle.replay_run.proofs.Finishing.{failed_read}
+use Rattle.replay_run.proofs.LastLine.{failed_read}
 use Rattle.replay_run.proofs.input.replay.Goals as goal
 
 pub returns-clause-unread : goal.returns-clause-unread

@@ -1,6 +1,6 @@
 use Rattle.std.proofs.Common.{◌∙◌, ap, inl, refl}
 use Rattle.input_verdict.specs.Events.{event_of, trouble_at}
-use Rattle.input_verdict.proofs.Accepted.{goes_on, none_open}
+use Rattle.input_verdict.proofs.AcceptedLines.{goes_on, none_open}
 use Rattle.replay_run.proofs.Events.{stands_command, takes_command}
 use Rattle.replay_run.proofs.line.answer_line.Goals as goal
 

@@ -1,5 +1,5 @@
 use Rattle.std.proofs.Common.{refl}
-use Rattle.replay_run.proofs.Acting.{served_accounts, served_dump, served_fault, served_reply}
+use Rattle.replay_run.proofs.CommandEffects.{served_accounts, served_dump, served_fault, served_reply}
 use Rattle.replay_run.proofs.serve.serve.Goals as goal
 
 pub returns-in-Stats-clause-did : goal.returns-in-Stats-clause-did

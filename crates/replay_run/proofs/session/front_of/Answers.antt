@@ -1,6 +1,6 @@
 use Rattle.std.proofs.Common.{length, sym, ap, ◌∙◌, arith}
 use Rattle.std.proofs.lemmas.List.{length-take-le, take_all}
-use Rattle.replay_run.proofs.Feeding.{fed_long}
+use Rattle.replay_run.proofs.SessionLines.{fed_long}
 use Rattle.replay_run.proofs.session.front_of.Goals as goal
 
 pub returns-then-text-gt-LONGEST_LINE-clause-size : goal.returns-then-text-gt-LONGEST_LINE-clause-size

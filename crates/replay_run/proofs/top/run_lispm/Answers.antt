@@ -5,11 +5,11 @@ use Rattle.line_input.specs.declared.statuses.status.RunError.TheVariants.{Memor
 use Rattle.line_input.specs.Statuses.{code}
 use Rattle.outer_ports.specs.Ports.{Rose}
 use Rattle.paged_machine.specs.Holding.{HasReading, StandsFor}
-use Rattle.replay_run.proofs.Complete.{breaks_off, completes, runs_out_early}
-use Rattle.replay_run.proofs.Reading.{exercised_as, means_for, ran_as}
-use Rattle.replay_run.proofs.Finishing.{failed_read, failed_swap, failed_write, ran_finish, ran_nothing}
-use Rattle.replay_run.proofs.Made.{exercised_at, exercised_nothing}
-use Rattle.replay_run.proofs.Words.{unread_file}
+use Rattle.replay_run.proofs.CompleteRuns.{breaks_off, completes, runs_out_early}
+use Rattle.replay_run.proofs.RepresentedStates.{exercised_as, means_for, ran_as}
+use Rattle.replay_run.proofs.LastLine.{failed_read, failed_swap, failed_write, ran_finish, ran_nothing}
+use Rattle.replay_run.proofs.GeneratedRun.{exercised_at, exercised_nothing}
+use Rattle.replay_run.proofs.UnreadArguments.{unread_file}
 use Rattle.replay_run.proofs.top.run_lispm.Goals as goal
 
 pub returns-in-Ok-Some-Replay-clause-ran : goal.returns-in-Ok-Some-Replay-clause-ran

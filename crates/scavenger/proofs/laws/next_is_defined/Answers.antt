@@ -1,4 +1,4 @@
-use Rattle.scavenger.proofs.Defined.{next-defined}
+use Rattle.scavenger.proofs.ScanOrder.{next-defined}
 use Rattle.scavenger.proofs.laws.next_is_defined.Goals as goal
 
 pub returns : goal.returns

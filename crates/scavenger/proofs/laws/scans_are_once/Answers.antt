@@ -1,4 +1,4 @@
-use Rattle.scavenger.proofs.Once.{scans-new, many-past}
+use Rattle.scavenger.proofs.DistinctUnits.{scans-new, many-past}
 use Rattle.scavenger.proofs.laws.scans_are_once.Goals as goal
 
 pub returns : goal.returns

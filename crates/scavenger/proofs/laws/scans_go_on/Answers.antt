@@ -1,4 +1,4 @@
-use Rattle.scavenger.proofs.Preserved.{clean-tended, units-added, units-most}
+use Rattle.scavenger.proofs.CleanScans.{clean-tended, units-added, units-most}
 use Rattle.scavenger.proofs.laws.scans_go_on.Goals as goal
 
 pub returns-clause-clean : goal.returns-clause-clean

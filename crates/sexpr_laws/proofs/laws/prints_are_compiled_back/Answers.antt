@@ -1,6 +1,6 @@
 use Rattle.std.proofs.Common.{true}
-use Rattle.sexpr_laws.proofs.Accepted.{accepted_says}
-use Rattle.sexpr_laws.proofs.Law.{compiled_back}
+use Rattle.sexpr_laws.proofs.AcceptedFiles.{accepted_says}
+use Rattle.sexpr_laws.proofs.RoundTrip.{compiled_back}
 use Rattle.sexpr_laws.proofs.Files.{file_back}
 use Rattle.sexpr_laws.proofs.laws.prints_are_compiled_back.Goals as goal
 

@@ -1,7 +1,7 @@
 use Rattle.std.proofs.Common.{◌∙◌, ap}
 use Rattle.sexpr_print.specs.Marks.{shared_in}
-use Rattle.sexpr_print.proofs.Shared.{same_shared}
-use Rattle.sexpr_print.proofs.Whole.{printed_whole}
+use Rattle.sexpr_print.proofs.SharedObjects.{same_shared}
+use Rattle.sexpr_print.proofs.WholePrint.{printed_whole}
 use Rattle.sexpr_print.proofs.print.print_sexpr.Goals as goal
 
 pub returns : goal.returns

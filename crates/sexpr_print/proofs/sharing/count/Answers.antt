@@ -1,4 +1,4 @@
-use Rattle.sexpr_print.proofs.Counting.{counts_other, counts_ref}
+use Rattle.sexpr_print.proofs.ReferenceCounts.{counts_other, counts_ref}
 use Rattle.sexpr_print.proofs.sharing.count.Goals as goal
 
 pub returns-in-Ref : goal.returns-in-Ref

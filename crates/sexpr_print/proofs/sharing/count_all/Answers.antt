@@ -1,5 +1,5 @@
 use Rattle.std.proofs.Common.{refl, arith}
-use Rattle.sexpr_print.proofs.Counting.{counts_next, counts_none}
+use Rattle.sexpr_print.proofs.ReferenceCounts.{counts_next, counts_none}
 use Rattle.sexpr_print.proofs.sharing.count_all.Goals as goal
 
 pub loop-value-init : goal.loop-value-init

@@ -1,7 +1,7 @@
 use Rattle.std.proofs.Common.{◌∙◌, sym, ℕ}
 use Rattle.lisp_graph.specs.Graph.{object_at}
 use Rattle.sexpr_print.specs.Places.{parts}
-use Rattle.sexpr_print.proofs.Counting.{counts_object}
+use Rattle.sexpr_print.proofs.ReferenceCounts.{counts_object}
 use Rattle.sexpr_print.proofs.sharing.count_objects.Goals as goal
 
 pub loop-name-preserved : goal.loop-name-preserved

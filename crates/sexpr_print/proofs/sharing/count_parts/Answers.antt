@@ -1,5 +1,5 @@
 use Rattle.std.proofs.Common.{[], ◌∷◌}
-use Rattle.sexpr_print.proofs.Counting.{counts_then}
+use Rattle.sexpr_print.proofs.ReferenceCounts.{counts_then}
 use Rattle.sexpr_print.proofs.sharing.count_parts.Goals as goal
 
 pub returns-in-Cons : goal.returns-in-Cons

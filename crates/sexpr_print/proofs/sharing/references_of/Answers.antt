@@ -7,7 +7,7 @@ use Rattle.sexpr_print.specs.Places.{parts}
 use Rattle.sexpr_print.specs.Sharing.{Counts}
 use Rattle.sexpr_print.specs.declared.sharing.References.{References}
 use Rattle.sexpr_print.specs.declared.sharing.References.TheVariants.{No}
-use Rattle.sexpr_print.proofs.Counting.{counted_all, counts_then}
+use Rattle.sexpr_print.proofs.ReferenceCounts.{counted_all, counts_then}
 use Rattle.sexpr_print.proofs.sharing.references_of.Goals as goal
 
 pub returns-clause-value : goal.returns-clause-value

@@ -4,7 +4,7 @@ use Rattle.std.proofs.lemmas.Result.{err_from_is_err_and}
 use Rattle.world_text.specs.Limits.{has_objects}
 use Rattle.sexpr_text.specs.Reading.{IsFault}
 use Rattle.sexpr_text.specs.Meaning.{behind_line, header, header_line, second_place}
-use Rattle.sexpr_text.proofs.HeaderGoes.{LinesGo, lines_end, lines_fail, lines_last, lines_more}
+use Rattle.sexpr_text.proofs.HeaderLines.{LinesGo, lines_end, lines_fail, lines_last, lines_more}
 use Rattle.sexpr_text.proofs.StepLaws.{may_pass}
 use Rattle.sexpr_text.proofs.header.read_header.Goals as goal
 

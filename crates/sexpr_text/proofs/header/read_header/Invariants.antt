@@ -1,6 +1,6 @@
 use Rattle.std.proofs.Common.{◌≤◌, ◌+◌, length}
 use Rattle.sexpr_text.specs.Meaning.{header, second_place}
-use Rattle.sexpr_text.proofs.HeaderGoes.{LinesGo}
+use Rattle.sexpr_text.proofs.HeaderLines.{LinesGo}
 use Rattle.sexpr_text.proofs.header.read_header.Given as goal
 
 abbrev pub invariant-loop-rest : goal.invariant-loop-rest

@@ -1,6 +1,6 @@
 use Rattle.std.proofs.Common.{refl}
 use Rattle.lisp_graph.specs.declared.command.Command.TheVariants as C
-use Rattle.test_collect.proofs.Played.{performed_after}
+use Rattle.test_collect.proofs.PerformedCommands.{performed_after}
 use Rattle.test_collect.proofs.acting.grow.Goals as goal
 
 pub returns-in-Answered : goal.returns-in-Answered

@@ -1,7 +1,7 @@
 use Rattle.std.proofs.Common.{refl}
 use Rattle.lisp_graph.specs.declared.command.Command.TheVariants as C
 use Rattle.heap_state.specs.Reads.{reply_of}
-use Rattle.test_collect.proofs.Played.{same_store, unplayed}
+use Rattle.test_collect.proofs.PerformedCommands.{same_store, unplayed}
 use Rattle.test_collect.proofs.acting.grow_found.Goals as goal
 
 pub returns-then-quota-account : goal.returns-then-quota-account

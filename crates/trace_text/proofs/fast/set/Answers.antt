@@ -1,5 +1,5 @@
 use Rattle.trace_text.proofs.FastLines.{set_line}
 use Rattle.trace_text.proofs.fast.set.Goals as goal
 
-pub returns-in-Some : goal.returns-in-Some
-returns-in-Some c = λ same areas. rw c.set.ensures (set_line c.args.space.now areas c.args.line.now c.in-Some.to c.in-Some.value c.requires c.in-Some.ensures)
+pub returns : goal.returns
+returns c = λ areas. let w = c.in_ok-to in rw c.set.ensures (set_line c.args.space.now areas c.args.text.now w.rest.now w.to w.value c.requires w.ensures)

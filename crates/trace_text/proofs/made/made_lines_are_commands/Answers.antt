@@ -1,4 +1,4 @@
-use Rattle.trace_text.proofs.MadeCommands.{end_said, made_says, stats_said}
+use Rattle.trace_text.proofs.GeneratedCommands.{end_said, made_says, stats_said}
 use Rattle.trace_text.proofs.made.made_lines_are_commands.Goals as goal
 
 pub returns : goal.returns

@@ -1,5 +1,5 @@
-use Rattle.trace_text.proofs.Sayings.{line_only}
-use Rattle.trace_text.proofs.Accepted.{line_all}
+use Rattle.trace_text.proofs.LineMeanings.{line_only}
+use Rattle.trace_text.proofs.AcceptedSpellings.{line_all}
 use Rattle.trace_text.proofs.read.lines_are_spelled.Goals as goal
 
 pub returns : goal.returns

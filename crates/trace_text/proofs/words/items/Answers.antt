@@ -6,7 +6,7 @@ use Rattle.world_text.specs.Next.{a_register}
 use Rattle.world_text.proofs.reading_laws.WordLemmas.{words_none, words_some}
 use Rattle.world_text.proofs.reading_laws.EachLemmas.{each_ends, each_fails, each_goes}
 use Rattle.trace_text.specs.Items.{items_of}
-use Rattle.trace_text.proofs.Listed.{has_room, listed, longer}
+use Rattle.trace_text.proofs.ListRegisters.{has_room, listed, longer}
 use Rattle.trace_text.proofs.words.items.Goals as goal
 
 pub returns-in_err-item-clause-items : goal.returns-in_err-item-clause-items

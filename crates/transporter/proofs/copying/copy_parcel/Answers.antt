@@ -1,5 +1,5 @@
 use Rattle.std.proofs.Common.{arith}
-use Rattle.transporter.proofs.Cutting.{copies-cut}
+use Rattle.transporter.proofs.RunCuts.{copies-cut}
 use Rattle.transporter.proofs.copying.copy_parcel.Goals as goal
 
 pub returns-in_ok-make_last_pair-in-Some-clause-written : goal.returns-in_ok-make_last_pair-in-Some-clause-written

@@ -1,5 +1,5 @@
 use Rattle.std.proofs.Common.{ℕ, ◌⊎◌, ◌+◌, ◌<◌, ◌≤◌, inl, inr, ◌∙◌, arith, ◌≡◌, ap}
-use Rattle.transporter.proofs.Writing.{writes-span}
+use Rattle.transporter.proofs.WriteSequences.{writes-span}
 use Rattle.obj_layout.specs.Forwards.{word_at}
 use Rattle.transporter.proofs.copying.copy_words.Goals as goal
 

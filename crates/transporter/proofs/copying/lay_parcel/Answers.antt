@@ -3,7 +3,7 @@ use Rattle.std.specs.Prelude.{IfSome}
 use Rattle.transporter.specs.declared.parcel.Pair.{Pair}
 use Rattle.transporter.specs.Parcels.{ArePairOf}
 use Rattle.transporter.proofs.Parcels.{pair-count, pair-words}
-use Rattle.transporter.proofs.Writing.{writes-as}
+use Rattle.transporter.proofs.WriteSequences.{writes-as}
 use Rattle.transporter.proofs.copying.lay_parcel.Goals as goal
 
 pub returns-in-Some-clause-written : goal.returns-in-Some-clause-written

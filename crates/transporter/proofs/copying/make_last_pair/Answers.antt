@@ -2,8 +2,8 @@ use Rattle.std.proofs.Common.{ap, refl, sym, ◌∙◌}
 use Rattle.store_word.specs.Words.{Parts}
 use Rattle.store_word.specs.declared.word.CdrCode.TheVariants.{Normal}
 use Rattle.obj_layout.specs.Forwards.{word_at}
-use Rattle.obj_layout.proofs.Following.{word_at-read}
-use Rattle.transporter.proofs.Writing.{writes-pair}
+use Rattle.obj_layout.proofs.ForwardChains.{word_at-read}
+use Rattle.transporter.proofs.WriteSequences.{writes-pair}
 use Rattle.transporter.proofs.copying.make_last_pair.Goals as goal
 
 pub returns-clause-pair : goal.returns-clause-pair

@@ -1,6 +1,6 @@
 use Rattle.std.proofs.Common.{refl}
 use Rattle.transporter.specs.Writes.{two_words}
-use Rattle.transporter.proofs.Writing.{writes-two}
+use Rattle.transporter.proofs.WriteSequences.{writes-two}
 use Rattle.transporter.proofs.copying.write_pair.Goals as goal
 
 pub returns-clause-written : goal.returns-clause-written

@@ -1,4 +1,4 @@
-use Rattle.transporter.proofs.Together.{moved-together}
+use Rattle.transporter.proofs.RunMoves.{moved-together}
 use Rattle.transporter.proofs.laws.runs_move_together.Goals as goal
 
 pub returns : goal.returns

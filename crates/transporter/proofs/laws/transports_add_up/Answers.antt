@@ -1,9 +1,9 @@
 use Rattle.std.proofs.Common.{refl, ◌∙◌, arith}
-use Rattle.lisp_ground.proofs.lisp_meaning.Frames.{refined}
-use Rattle.transporter.proofs.Alive.{live-then, still-live, old-stays, old-before}
-use Rattle.transporter.proofs.Marked.{marks-then, marks-then_but, marks-but_then}
-use Rattle.transporter.proofs.Moving.{moves-then}
-use Rattle.transporter.proofs.Preserved.{preserves-then}
+use Rattle.lisp_ground.proofs.lisp_meaning.maps.Frames.{refined}
+use Rattle.transporter.proofs.LiveObjects.{live-then, still-live, old-stays, old-before}
+use Rattle.transporter.proofs.PageMarks.{marks-then, marks-then_but, marks-but_then}
+use Rattle.transporter.proofs.TransportSequences.{moves-then}
+use Rattle.transporter.proofs.ScannedWords.{preserves-then}
 use Rattle.transporter.proofs.laws.transports_add_up.Goals as goal
 
 pub returns-clause-later : goal.returns-clause-later

@@ -1,4 +1,4 @@
-use Rattle.transporter.proofs.Marked.{unchanged-unmarked}
+use Rattle.transporter.proofs.PageMarks.{unchanged-unmarked}
 use Rattle.transporter.proofs.laws.unchanged_pages_get_no_marks.Goals as goal
 
 pub returns : goal.returns

@@ -1,14 +1,14 @@
 use Rattle.std.proofs.Common.{refl, sym, subst, arith}
 use Rattle.store_word.specs.Words.{Parts}
-use Rattle.obj_layout.proofs.Following.{word_at-read}
+use Rattle.obj_layout.proofs.ForwardChains.{word_at-read}
 use Rattle.transporter.specs.Settling.{RefersToOld, IsSettleable, Settles, CanSettle, SettlesOn}
 use Rattle.transporter.proofs.Places.{on-err}
-use Rattle.transporter.proofs.Alive.{live-read, live-then}
-use Rattle.transporter.proofs.Fetched.{later-read, later-stays, later-then_read, settle-read, settleable-read, settles-read, live-inside, unwritten-there, fetched, fetched-word, fetched-others, same-but}
-use Rattle.transporter.proofs.Marked.{marks-then, marks-read, marks-replaced}
-use Rattle.transporter.proofs.Moving.{read-once, fetched-once, unwritten-once, read-writes, writes-moves, moves-then, fetch_moves-of}
-use Rattle.transporter.proofs.Preserved.{preserves-then, read-preserves, read-stays_fresh, replaced-preserves, unmoved-reads}
-use Rattle.transporter.proofs.Writing.{size-replaced}
+use Rattle.transporter.proofs.LiveObjects.{live-read, live-then}
+use Rattle.transporter.proofs.FetchedWords.{later-read, later-stays, later-then_read, settle-read, settleable-read, settles-read, live-inside, unwritten-there, fetched, fetched-word, fetched-others, same-but}
+use Rattle.transporter.proofs.PageMarks.{marks-then, marks-read, marks-replaced}
+use Rattle.transporter.proofs.TransportSequences.{read-once, fetched-once, unwritten-once, read-writes, writes-moves, moves-then, fetch_moves-of}
+use Rattle.transporter.proofs.ScannedWords.{preserves-then, read-preserves, read-stays_fresh, replaced-preserves, unmoved-reads}
+use Rattle.transporter.proofs.WriteSequences.{size-replaced}
 use Rattle.transporter.proofs.settling.fetch.Goals as goal
 
 pub read-requires : goal.read-requires

@@ -2,7 +2,7 @@ use Rattle.std.proofs.Common.{sym, subst}
 use Rattle.store_word.specs.Words.{Parts}
 use Rattle.transporter.specs.Moving.{moves as moves_for}
 use Rattle.transporter.specs.Settling.{SettlesOn, Settles}
-use Rattle.transporter.proofs.Settled.{names-of, settle-transport, settle-transportable, live-small, settles-moved, settles-word}
+use Rattle.transporter.proofs.SettledWords.{names-of, settle-transport, settle-transportable, live-small, settles-moved, settles-word}
 use Rattle.transporter.proofs.settling.settle_old.Goals as goal
 
 pub transport-requires : goal.transport-requires

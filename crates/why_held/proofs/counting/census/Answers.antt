@@ -5,7 +5,7 @@ use Rattle.lisp_graph.specs.declared.object.Object.{Object}
 use Rattle.why_held.specs.declared.rows.Counted.{Counted}
 use Rattle.why_held.specs.Census.{IsCensus, counted_object}
 use Rattle.why_held.specs.Tallies.{AreTallies}
-use Rattle.why_held.proofs.Tallied.{counted_more, tallies_census, tallies_more, tallies_room}
+use Rattle.why_held.proofs.TallyRows.{counted_more, tallies_census, tallies_more, tallies_room}
 use Rattle.why_held.proofs.counting.census.Goals as goal
 
 pub count-requires : goal.count-requires

@@ -8,7 +8,7 @@ use Rattle.lisp_graph.specs.World.{opening}
 use Rattle.why_held.specs.Chains.{depth_at, register_value}
 use Rattle.why_held.specs.Choice.{IsFirst, IsFirstPart, place_of}
 use Rattle.why_held.proofs.Levels.{depth_below, padded}
-use Rattle.why_held.proofs.Choosing.{Ending, ending_first, ending_last, ending_more, near_along, nearest_is, nearest_some}
+use Rattle.why_held.proofs.ChosenChain.{Ending, ending_first, ending_last, ending_more, near_along, nearest_is, nearest_some}
 use Rattle.why_held.proofs.holding.chain_to.Goals as goal
 
 pub loop-place-init : goal.loop-place-init

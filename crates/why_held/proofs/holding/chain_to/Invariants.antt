@@ -1,7 +1,7 @@
 use Rattle.std.proofs.Common.{◌≡◌, length}
 use Rattle.lisp_graph.specs.World.{opening}
 use Rattle.why_held.specs.Nearest.{AreNearest}
-use Rattle.why_held.proofs.Choosing.{Ending}
+use Rattle.why_held.proofs.ChosenChain.{Ending}
 use Rattle.why_held.proofs.holding.chain_to.Given as goal
 
 abbrev pub invariant-loop-place : goal.invariant-loop-place

@@ -2,7 +2,7 @@ use Rattle.std.proofs.Common.{◌≡◌, ◌∙◌, ◌++◌, [], ◌∷◌, ℕ
 use Rattle.lisp_graph.specs.declared.world.AreaRule.{AreaRule}
 use Rattle.why_held.specs.declared.rows.CensusRow.{CensusRow}
 use Rattle.why_held.specs.CensusText.{AddUp, census_lines, lines_with}
-use Rattle.why_held.proofs.Merging.{part_adds_up, part_lines}
+use Rattle.why_held.proofs.MergedRows.{part_adds_up, part_lines}
 use Rattle.why_held.proofs.listing.census_text.Goals as goal
 
 pub push_rows-requires : goal.push_rows-requires

@@ -1,7 +1,7 @@
 use Rattle.std.proofs.Common.{refl, arith}
 use Rattle.lisp_graph.specs.Graph.{no_object}
 use Rattle.std.proofs.lemmas.List.{get_or_default}
-use Rattle.why_held.proofs.Offering.{nearest_next}
+use Rattle.why_held.proofs.NearestObjects.{nearest_next}
 use Rattle.why_held.proofs.nearest.nearest_of.Goals as goal
 
 pub loop-from-preserved : goal.loop-from-preserved

@@ -2,7 +2,7 @@ use Rattle.std.proofs.Common.{◌≡◌, true, false, Option, Some, List, ℕ, a
 use Rattle.why_held.specs.Chains.{depth_at}
 use Rattle.why_held.specs.Choice.{is_one_less}
 use Rattle.why_held.specs.Nearest.{nearest_at}
-use Rattle.why_held.proofs.Offering.{offered_known, offered_level, offered_new, offered_plain}
+use Rattle.why_held.proofs.NearestObjects.{offered_known, offered_level, offered_new, offered_plain}
 use Rattle.why_held.proofs.nearest.offer.Goals as goal
 
 pub returns-in-None : goal.returns-in-None

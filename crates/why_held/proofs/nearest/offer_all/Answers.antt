@@ -1,5 +1,5 @@
 use Rattle.std.proofs.Common.{refl, arith}
-use Rattle.why_held.proofs.Offering.{offered_more, offered_none}
+use Rattle.why_held.proofs.NearestObjects.{offered_more, offered_none}
 use Rattle.why_held.proofs.nearest.offer_all.Goals as goal
 
 pub loop-value-init : goal.loop-value-init

@@ -1,5 +1,5 @@
 use Rattle.std.proofs.Common.{[], ◌∷◌}
-use Rattle.why_held.proofs.Offering.{offered_append}
+use Rattle.why_held.proofs.NearestObjects.{offered_append}
 use Rattle.why_held.proofs.nearest.offer_parts.Goals as goal
 
 pub returns-in-Cons : goal.returns-in-Cons

@@ -8,7 +8,7 @@ use Rattle.why_held.specs.declared.rows.Counted.{Counted}
 use Rattle.why_held.specs.Reached.{Meets, counted_key}
 use Rattle.why_held.specs.Tallies.{AreTallies, Counts, HasRoom, kind_cmp}
 use Rattle.why_held.proofs.ReachedKeys.{counted_next, reaching_last, reaching_next}
-use Rattle.why_held.proofs.Tallied.{tallies_more, tallies_room}
+use Rattle.why_held.proofs.TallyRows.{tallies_more, tallies_room}
 use Rattle.why_held.proofs.reaching.count_objects.Goals as goal
 
 pub count_object-requires-clause-room : goal.count_object-requires-clause-room

@@ -3,7 +3,7 @@ use Rattle.lisp_graph.specs.KeyedGraph.{KeyedGraph}
 use Rattle.why_held.specs.Reached.{AreReached, IsReaching, counted_key}
 use Rattle.why_held.specs.Tallies.{AreTallies}
 use Rattle.why_held.proofs.ReachedKeys.{reaching_first}
-use Rattle.why_held.proofs.Tallied.{tallies_census}
+use Rattle.why_held.proofs.TallyRows.{tallies_census}
 use Rattle.why_held.proofs.reaching.reached.Goals as goal
 
 pub count_objects-requires-clause-fresh : goal.count_objects-requires-clause-fresh

@@ -1,6 +1,6 @@
 use Rattle.std.proofs.Common.{ap, sym, ◌∙◌, ℕ, List, Option, inl, inr}
 use Rattle.why_held.specs.Chains.{depth_at}
-use Rattle.why_held.proofs.Finding.{finds_known, finds_new, finds_plain, some_is}
+use Rattle.why_held.proofs.SearchSteps.{finds_known, finds_new, finds_plain, some_is}
 use Rattle.why_held.proofs.search.find.Goals as goal
 
 pub returns-in-Some : goal.returns-in-Some

@@ -1,5 +1,5 @@
 use Rattle.std.proofs.Common.{refl, arith}
-use Rattle.why_held.proofs.Finding.{finds_more, finds_none}
+use Rattle.why_held.proofs.SearchSteps.{finds_more, finds_none}
 use Rattle.why_held.proofs.search.find_all.Goals as goal
 
 pub loop-value-init : goal.loop-value-init

@@ -4,7 +4,7 @@ use Rattle.std.proofs.lemmas.List.Elements.{All-get_or}
 use Rattle.lisp_graph.specs.Graph.{IsObject, no_object, object_at}
 use Rattle.lisp_graph.specs.declared.object.Object.{Object}
 use Rattle.why_held.specs.Search.{Finds, all_parts, parts_of}
-use Rattle.why_held.proofs.Finding.{finds_along, finds_next, finds_none, found_at, found_within}
+use Rattle.why_held.proofs.SearchSteps.{finds_along, finds_next, finds_none, found_at, found_within}
 use Rattle.why_held.proofs.search.find_next.Goals as goal
 
 pub loop-place-init : goal.loop-place-init

@@ -1,6 +1,6 @@
 use Rattle.std.proofs.Common.{[], ◌∷◌}
 use Rattle.std.proofs.lemmas.Result.{on_ok_weaker}
-use Rattle.why_held.proofs.Finding.{finds_append}
+use Rattle.why_held.proofs.SearchSteps.{finds_append}
 use Rattle.why_held.proofs.search.find_parts.Goals as goal
 
 pub returns-in_ok-find-in-Cons : goal.returns-in_ok-find-in-Cons

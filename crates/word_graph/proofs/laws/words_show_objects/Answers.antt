@@ -1,6 +1,6 @@
 use Rattle.word_graph.proofs.laws.words_show_objects.Goals as goal
 use Rattle.word_graph.proofs.Places.{leads_there, values_are_places, objects_are_places}
-use Rattle.word_graph.proofs.Held.{reached_are_held}
+use Rattle.word_graph.proofs.HeldObjects.{reached_are_held}
 
 pub returns-clause-leads : goal.returns-clause-leads
 returns-clause-leads c = leads_there

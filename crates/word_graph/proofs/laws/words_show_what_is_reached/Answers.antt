@@ -1,5 +1,5 @@
 use Rattle.word_graph.proofs.laws.words_show_what_is_reached.Goals as goal
-use Rattle.word_graph.proofs.Held.{registers_are_told, keys_are_objects, reached_show, reads_show_the_same, walks_go_on}
+use Rattle.word_graph.proofs.HeldObjects.{registers_are_told, keys_are_objects, reached_show, reads_show_the_same, walks_go_on}
 
 pub returns-clause-registers : goal.returns-clause-registers
 returns-clause-registers c = registers_are_told

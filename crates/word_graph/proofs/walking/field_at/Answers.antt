@@ -2,7 +2,7 @@ use Rattle.std.proofs.Common.{◌≡◌, ◌∙◌}
 use Rattle.std.proofs.lemmas.Result.{IfOk-weaker}
 use Rattle.lisp_graph.specs.declared.walk.Seen.{Seen}
 use Rattle.word_graph.specs.Shown.{told, field_in}
-use Rattle.word_graph.proofs.Told.{object_part, part_can, part_told}
+use Rattle.word_graph.proofs.ShownObjects.{object_part, part_can, part_told}
 use Rattle.word_graph.proofs.walking.field_at.Goals as goal
 
 pub part_at-requires-clause-whole : goal.part_at-requires-clause-whole

@@ -2,8 +2,8 @@ use Rattle.std.proofs.Common.{◌≡◌, refl, sym, ◌∙◌, ap, subst, List}
 use Rattle.store_word.specs.Words.{Parts}
 use Rattle.obj_layout.specs.Forwards.{word_at}
 use Rattle.obj_layout.specs.Shapes.{IsWhole, charge_at}
-use Rattle.obj_layout.proofs.Following.{word_at-read}
-use Rattle.word_graph.proofs.Told.{object_whole, object_classed, form_told}
+use Rattle.obj_layout.proofs.ForwardChains.{word_at-read}
+use Rattle.word_graph.proofs.ShownObjects.{object_whole, object_classed, form_told}
 use Rattle.word_graph.proofs.walking.form_at.Goals as goal
 
 pub charge_behind-requires-clause-first : goal.charge_behind-requires-clause-first

@@ -2,10 +2,10 @@ use Rattle.std.proofs.Common.{◌≡◌, refl, sym, ◌∙◌, ap, List}
 use Rattle.std.proofs.lemmas.Result.{IfOk-weaker}
 use Rattle.store_word.specs.Words.{Parts}
 use Rattle.obj_layout.specs.Forwards.{word_at}
-use Rattle.obj_layout.proofs.Following.{word_at-read}
+use Rattle.obj_layout.proofs.ForwardChains.{word_at-read}
 use Rattle.lisp_ground.specs.Leading.{cdr_in}
 use Rattle.word_graph.specs.Shown.{part_in}
-use Rattle.word_graph.proofs.Told.{cdr_part}
+use Rattle.word_graph.proofs.ShownObjects.{cdr_part}
 use Rattle.word_graph.proofs.walking.part_at.Goals as goal
 
 pub returns-else-index-eq0-clause-value : goal.returns-else-index-eq0-clause-value

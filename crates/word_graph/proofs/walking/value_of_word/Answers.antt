@@ -1,5 +1,5 @@
 use Rattle.std.proofs.Common.{sym, ◌∙◌}
-use Rattle.word_graph.proofs.Told.{list_final, struct_final, told_cons, told_block}
+use Rattle.word_graph.proofs.ShownObjects.{list_final, struct_final, told_cons, told_block}
 use Rattle.word_graph.proofs.walking.value_of_word.Goals as goal
 
 pub resolve-requires : goal.resolve-requires

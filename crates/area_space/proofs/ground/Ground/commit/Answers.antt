@@ -1,6 +1,6 @@
 use Rattle.std.proofs.Common.{◌≢◌, ◌+◌, ◌-◌, ◌/◌, ℕ, [], subst, sym, ap, ◌∙◌}
-use Rattle.area_space.proofs.Extending.{end_in_chain}
-use Rattle.area_space.proofs.Committing.{not_empty, end_charged, pages_charged, commit_equation}
+use Rattle.area_space.proofs.UsedEnds.{end_in_chain}
+use Rattle.area_space.proofs.WordCommits.{not_empty, end_charged, pages_charged, commit_equation}
 use Rattle.area_space.proofs.GroundLaws.{ground_committed, named_committed}
 use Rattle.area_space.proofs.ground.Ground.commit.Goals as goal
 use Rattle.area_space.specs.Charges.{AllowsOrigin}

@@ -1,6 +1,6 @@
 use Rattle.std.proofs.Common.{◌≡◌, ◌<◌, ◌≤◌, ◌+◌, ℕ, Some, arith}
 use Rattle.area_space.proofs.Room.{some_free, fits_share}
-use Rattle.area_space.proofs.Grounding.{unused_from_free, opened_end, ground_opened, named_opened}
+use Rattle.area_space.proofs.NewRegionWords.{unused_from_free, opened_end, ground_opened, named_opened}
 use Rattle.index_lists.specs.Chains.{last_of}
 use Rattle.area_space.specs.Table.{Table, chain, live, slot_of, used_of}
 use Rattle.area_space.proofs.ground.Ground.place.Goals as goal

@@ -1,6 +1,6 @@
 use Rattle.std.proofs.Common.{◌≡◌, ℕ, List, length, ap, arith}
 use Rattle.std.proofs.lemmas.List.{with_items_is}
-use Rattle.area_space.proofs.Paging.{no_pages}
+use Rattle.area_space.proofs.PageSets.{no_pages}
 use Rattle.area_space.proofs.page_set.PageSet.clear.Goals as goal
 use Rattle.area_space.specs.PageList.{PageList}
 

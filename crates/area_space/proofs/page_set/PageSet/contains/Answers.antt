@@ -1,5 +1,5 @@
 use Rattle.std.proofs.Common.{◌<◌, subst, sym}
-use Rattle.area_space.proofs.Paging.{bit_listed, listed_bit}
+use Rattle.area_space.proofs.PageSets.{bit_listed, listed_bit}
 use Rattle.area_space.proofs.page_set.PageSet.contains.Goals as goal
 use Rattle.area_space.specs.PageList.{PageList}
 

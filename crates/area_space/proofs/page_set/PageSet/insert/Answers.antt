@@ -1,6 +1,6 @@
 use Rattle.std.proofs.Common.{◌≡◌, ◌<◌, ◌/◌, List, ℕ, length, subst, sym, arith}
 use Rattle.std.proofs.lemmas.List.{with_items_is}
-use Rattle.area_space.proofs.Paging.{pages_added, added_pages}
+use Rattle.area_space.proofs.PageSets.{pages_added, added_pages}
 use Rattle.area_space.proofs.page_set.PageSet.insert.Goals as goal
 use Rattle.area_space.specs.Bits.{SetsBit}
 use Rattle.area_space.specs.PageList.{PageList}

@@ -1,5 +1,5 @@
 use Rattle.std.proofs.Common.{◌≡◌, ℕ, subst, arith}
-use Rattle.area_space.proofs.Paging.{added_more}
+use Rattle.area_space.proofs.PageSets.{added_more}
 use Rattle.area_space.proofs.page_set.PageSet.insert_span.Goals as goal
 use Rattle.area_space.specs.PageList.{Adds}
 

@@ -3,7 +3,7 @@ use Rattle.std.specs.Int.{trailing_zeros, w64}
 use Rattle.std.proofs.lemmas.List.{get_or_default}
 use Rattle.std.proofs.lemmas.Nat.Bits.{bit_at-trailing_zeros}
 use Rattle.area_space.proofs.BitLaws.{word_in}
-use Rattle.area_space.proofs.Paging.{first_page, no_first}
+use Rattle.area_space.proofs.PageSets.{first_page, no_first}
 use Rattle.area_space.proofs.page_set.PageSet.lowest.Goals as goal
 
 pub returns-in-Some : goal.returns-in-Some

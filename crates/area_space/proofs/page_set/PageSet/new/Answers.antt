@@ -1,5 +1,5 @@
 use Rattle.std.proofs.Common.{◌≡◌, ◌∙◌, ◌+◌, ◌/◌, ℕ, List, ap, slice_index, replicate, rules}
-use Rattle.area_space.proofs.Paging.{no_pages, zeros}
+use Rattle.area_space.proofs.PageSets.{no_pages, zeros}
 use Rattle.area_space.proofs.page_set.PageSet.new.Goals as goal
 use Rattle.area_space.specs.PageList.{PageList}
 

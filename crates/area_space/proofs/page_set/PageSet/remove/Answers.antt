@@ -1,6 +1,6 @@
 use Rattle.std.proofs.Common.{◌≡◌, ◌≢◌, ◌<◌, ◌/◌, ◌∙◌, List, ℕ, length, slice_index, subst, sym, arith}
 use Rattle.std.proofs.lemmas.List.{with_items_is, get_or_default}
-use Rattle.area_space.proofs.Paging.{pages_dropped, pages_dropped_word, dropped_pages}
+use Rattle.area_space.proofs.PageSets.{pages_dropped, pages_dropped_word, dropped_pages}
 use Rattle.area_space.proofs.page_set.PageSet.remove.Goals as goal
 use Rattle.area_space.specs.Bits.{ClearsBit}
 use Rattle.area_space.specs.PageList.{PageList}

@@ -1,7 +1,7 @@
 use Rattle.std.proofs.Common.{◌≡◌, ◌<◌, ◌*◌, ◌≤◌, slice_index, subst, sym, ◌∙◌, arith}
 use Rattle.std.proofs.lemmas.List.{get_or_default}
 use Rattle.area_space.specs.Inside.{table_of}
-use Rattle.area_space.proofs.Charging.{husked_is, debt_small}
+use Rattle.area_space.proofs.ChargeChanges.{husked_is, debt_small}
 use Rattle.area_space.proofs.Accounts.{husked_accounts}
 use Rattle.area_space.proofs.table.RegionTable.add_husk.Goals as goal
 use Rattle.area_space.specs.Table.{Table, slots_of}
@@ -22,6 +22,7 @@ invariant_of-self c =
       pages_is = k.pages_is;
       free_is = k.free_is;
       debts_is = husked_accounts (table_of c.self.inside) c.args.class c.args.words c.self.inside.debts.items k.table inside enough k.debts_is;
+      classes_is = k.classes_is;
     })
 
 pub overflow_add-index_mut : goal.overflow_add-index_mut

@@ -1,5 +1,5 @@
 use Rattle.std.proofs.Common.{◌*◌}
-use Rattle.area_space.proofs.Paging.{adds_counted}
+use Rattle.area_space.proofs.PageSets.{adds_counted}
 use Rattle.area_space.proofs.table.RegionTable.add_scan_page.Goals as goal
 
 pub returns-clause-pages : goal.returns-clause-pages

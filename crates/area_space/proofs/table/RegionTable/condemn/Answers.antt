@@ -1,8 +1,8 @@
 use Rattle.std.proofs.Common.{◌≡◌, ◌*◌, ◌∙◌, ℕ, ap, subst, arith}
-use Rattle.area_space.proofs.Flipping.{nothing_in, flipping_start, flipping_more, flipping_end}
+use Rattle.area_space.proofs.FlipSteps.{nothing_in, flipping_start, flipping_more, flipping_end}
 use Rattle.area_space.proofs.table.RegionTable.condemn.Goals as goal
 use Rattle.area_space.specs.Flips.{Slot, IsFlipping}
-use Rattle.area_space.specs.Table.{chain, stale, slots_of, areas_of}
+use Rattle.area_space.specs.Table.{Table, chain, stale, slots_of, areas_of}
 
 pub flip_slot-requires-clause-empty : goal.flip_slot-requires-clause-empty
 flip_slot-requires-clause-empty c =
@@ -22,3 +22,6 @@ returns c =
     let e : c.loop-slot.slot ≡ c.areas.result * c.levels.result = omega arith in
     let f : c.areas.result * c.levels.result ≡ slots_of c.args.self.now = ap (λ (q : ℕ). q * c.levels.result) a ∙ ap (λ (q : ℕ). areas_of c.args.self.now * q) b in
     flipping_end c.args.self.now c.loop-slot.self c.mark_all.new.self c.args.what c.assert_invariant.ensures c.assert_invariant-2.ensures (subst (IsFlipping c.args.self.now c.loop-slot.self c.args.what) (e ∙ f) c.loop-slot.invariant) c.mark_all.ensures.unchanged c.mark_all.ensures.marks
+
+pub flip_slot-requires-clause-collecting : goal.flip_slot-requires-clause-collecting
+flip_slot-requires-clause-collecting c = λ e. (let a = ap (λ (t : Table). t.aim) c.loop-slot.invariant.same in cc)

@@ -1,7 +1,7 @@
 use Rattle.std.proofs.Common.{◌≡◌, ◌<◌, ◌*◌, slice_index, subst, sym, ◌∙◌, arith}
 use Rattle.std.proofs.lemmas.List.{get_or_default}
 use Rattle.area_space.specs.Inside.{table_of}
-use Rattle.area_space.proofs.Charging.{debt_small}
+use Rattle.area_space.proofs.ChargeChanges.{debt_small}
 use Rattle.area_space.proofs.table.RegionTable.debt.Goals as goal
 use Rattle.area_space.specs.Table.{Table, slots_of}
 

@@ -1,5 +1,5 @@
 use Rattle.std.proofs.Common.{◌*◌}
-use Rattle.area_space.proofs.Paging.{drops_counted}
+use Rattle.area_space.proofs.PageSets.{drops_counted}
 use Rattle.area_space.proofs.table.RegionTable.drop_scan_page.Goals as goal
 
 pub returns-clause-pages : goal.returns-clause-pages

@@ -1,8 +1,8 @@
 use Rattle.std.proofs.Common.{◌≡◌, ◌*◌, subst, sym, arith, ◌∙◌, ◌/◌, slice_index}
 use Rattle.std.proofs.lemmas.List.{get_or_default}
-use Rattle.area_space.proofs.Extending.{end_bounds, extended_is, words_small}
-use Rattle.area_space.proofs.Paging.{adds_counted}
-use Rattle.area_space.proofs.Keeping.{noted_is}
+use Rattle.area_space.proofs.UsedEnds.{end_bounds, extended_is, words_small}
+use Rattle.area_space.proofs.PageSets.{adds_counted}
+use Rattle.area_space.proofs.TableFields.{noted_is}
 use Rattle.area_space.specs.Inside.{table_of}
 use Rattle.area_space.proofs.table.RegionTable.extend.Goals as goal
 use Rattle.area_space.specs.Places.{IsEnd, extended}
@@ -21,6 +21,7 @@ invariant_of-self c =
       pages_is = c.insert_span.ensures.count ∙ k.pages_is;
       free_is = k.free_is;
       debts_is = k.debts_is;
+      classes_is = k.classes_is;
     })
 
 pub returns-clause-sound : goal.returns-clause-sound

@@ -2,8 +2,8 @@ use Rattle.std.proofs.Common.{◌≡◌, ◌<◌, ◌≤◌, ◌/◌, ℕ, slice
 use Rattle.std.proofs.lemmas.List.{get_or_default}
 use Rattle.area_space.specs.Inside.{table_of}
 use Rattle.area_space.proofs.Accounts.{forgiven_accounts, class_in_account}
-use Rattle.area_space.proofs.Charging.{area_below, slots_few}
-use Rattle.area_space.proofs.Releasing.{forgiven_is}
+use Rattle.area_space.proofs.ChargeChanges.{area_below, slots_few}
+use Rattle.area_space.proofs.RegionReleases.{forgiven_is}
 use Rattle.area_space.proofs.table.RegionTable.forgive.Goals as goal
 use Rattle.area_space.specs.Accounts.{debt}
 use Rattle.area_space.specs.Table.{Table, slots_of, levels_of, stale}
@@ -24,6 +24,7 @@ invariant_of-self c =
       pages_is = k.pages_is;
       free_is = k.free_is;
       debts_is = forgiven_accounts t c.args.slot c.self.inside.debts.items k.table inside k.debts_is;
+      classes_is = k.classes_is;
     })
 
 pub overflow_sub-index_mut : goal.overflow_sub-index_mut

@@ -1,5 +1,5 @@
 use Rattle.std.proofs.Common.{◌<◌, ℕ, ap, subst, sym}
-use Rattle.area_space.proofs.Freeing.{freeing_start, freeing_more, freeing_less, forgiven_owes}
+use Rattle.area_space.proofs.FreedClasses.{freeing_start, freeing_more, freeing_less, forgiven_owes}
 use Rattle.area_space.proofs.table.RegionTable.free_slot.Goals as goal
 use Rattle.area_space.specs.Table.{slots_of}
 

@@ -1,5 +1,5 @@
 use Rattle.area_space.specs.Table.{stale}
-use Rattle.area_space.proofs.Deciding.{odd_is_old}
+use Rattle.area_space.proofs.RegionStates.{odd_is_old}
 use Rattle.area_space.proofs.table.RegionTable.is_old.Goals as goal
 
 pub returns-in-Some : goal.returns-in-Some

@@ -1,5 +1,5 @@
 use Rattle.std.proofs.Common.{◌≡◌, ◌<◌, ◌∙◌, ℕ, List, length, ap, sym, arith, length-set, refl, slice_set}
-use Rattle.area_space.proofs.Flipping.{marks_more}
+use Rattle.area_space.proofs.FlipSteps.{marks_more}
 use Rattle.area_space.proofs.table.RegionTable.mark_all.Goals as goal
 use Rattle.area_space.specs.Table.{Table}
 

@@ -1,7 +1,7 @@
 use Rattle.std.proofs.Common.{◌<◌, subst, sym, arith}
 use Rattle.index_lists.specs.Chains.{IsFree}
 use Rattle.area_space.specs.Inside.{table_of}
-use Rattle.area_space.proofs.Keeping.{open_kept}
+use Rattle.area_space.proofs.TableFields.{open_kept}
 use Rattle.area_space.proofs.table.RegionTable.open.Goals as goal
 use Rattle.area_space.specs.Table.{Table, lists_of}
 

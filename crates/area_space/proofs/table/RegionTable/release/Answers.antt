@@ -1,12 +1,12 @@
 use Rattle.std.proofs.Common.{◌≡◌, ◌<◌, ◌*◌, ◌+◌, subst, sym, refl, arith}
 use Rattle.index_lists.specs.Chains.{list_at}
 use Rattle.area_space.specs.Inside.{table_of}
-use Rattle.area_space.proofs.Releasing.{release_kept}
+use Rattle.area_space.proofs.RegionReleases.{release_kept}
 use Rattle.area_space.proofs.table.RegionTable.release.Goals as goal
 use Rattle.area_space.specs.Accounts.{debt}
 use Rattle.area_space.specs.Sound.{IsTable}
 use Rattle.area_space.specs.Table.{Table, slots_of, stale}
-use Rattle.index_lists.proofs.Callers.{Contains-first}
+use Rattle.index_lists.proofs.ListUpdates.{Contains-first}
 
 pub remove-requires : goal.remove-requires
 remove-requires c = (2 * c.args.slot + 1, Contains-first (list_at c.self.inside.chains (2 * c.args.slot + 1)) c.in-Some.region (sym c.in-Some.ensures.first))

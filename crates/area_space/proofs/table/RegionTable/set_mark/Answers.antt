@@ -1,6 +1,6 @@
 use Rattle.std.proofs.Common.{◌<◌, subst, sym}
 use Rattle.area_space.specs.Inside.{table_of}
-use Rattle.area_space.proofs.Flipping.{marked_is}
+use Rattle.area_space.proofs.FlipSteps.{marked_is}
 use Rattle.area_space.proofs.table.RegionTable.set_mark.Goals as goal
 use Rattle.area_space.specs.Flips.{IsFlipMark}
 use Rattle.area_space.specs.Table.{Table}
@@ -16,4 +16,5 @@ invariant_of-self c =
       pages_is = k.pages_is;
       free_is = k.free_is;
       debts_is = k.debts_is;
+      classes_is = k.classes_is;
     }

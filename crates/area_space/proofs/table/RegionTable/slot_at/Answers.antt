@@ -1,6 +1,6 @@
 use Rattle.std.proofs.Common.{◌≡◌, ◌<◌, subst, sym, arith}
 use Rattle.std.specs.Prelude.{Contains, length}
-use Rattle.area_space.proofs.Charging.{slots_few}
+use Rattle.area_space.proofs.ChargeChanges.{slots_few}
 use Rattle.area_space.specs.Inside.{table_of}
 use Rattle.area_space.specs.Table.{Table, live, chain}
 use Rattle.area_space.proofs.table.RegionTable.slot_at.Goals as goal

@@ -1,6 +1,6 @@
 use Rattle.std.proofs.Common.{arith}
 use Rattle.band_disk.proofs.Invariant.{kept_sync}
-use Rattle.band_disk.proofs.Laying.{within_more}
+use Rattle.band_disk.proofs.WriteSequences.{within_more}
 use Rattle.band_disk.proofs.memory.BandMemory.make_durable.Goals as goal
 
 pub lay-requires-clause-in_range : goal.lay-requires-clause-in_range

@@ -2,7 +2,7 @@ use Rattle.std.proofs.Common.{length, sym, ◌∙◌, ap, subst, refl, arith}
 use Rattle.band_disk.specs.Logs.{LiesWithin, Restarted}
 use Rattle.band_disk.specs.Memory.{LogInvariant}
 use Rattle.band_disk.proofs.Invariant.{kept_settled, left_is, lies_within, left_short}
-use Rattle.band_disk.proofs.Laying.{within_more}
+use Rattle.band_disk.proofs.WriteSequences.{within_more}
 use Rattle.band_disk.proofs.memory.BandMemory.start_again.Goals as goal
 
 pub leave-requires-clause-in_range : goal.leave-requires-clause-in_range

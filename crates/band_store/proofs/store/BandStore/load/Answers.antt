@@ -1,6 +1,6 @@
 use Rattle.std.proofs.Common.{◌≡◌, Some, None, length, sym, ◌∙◌, ap, arith}
 use Rattle.band_store.specs.Directory.{named}
-use Rattle.band_store.proofs.Fronts.{list_read}
+use Rattle.band_store.proofs.BufferBytes.{list_read}
 use Rattle.band_store.proofs.Texts.{open_none, open_text}
 use Rattle.band_store.proofs.store.BandStore.load.Goals as goal
 

@@ -1,7 +1,7 @@
 use Rattle.std.proofs.Common.{◌≡◌, rules, inl, ℕ, List, Ok, length, refl, sym, ◌∙◌, ap, subst, arith}
 use Rattle.band_store.specs.Directory.{directory, index, is_ordered}
 use Rattle.band_store.specs.Format.{Holds, Save, gate_behind}
-use Rattle.band_store.proofs.Once.{damaged_answer, held_answer, holds_once, not_both}
+use Rattle.band_store.proofs.UniqueAnswers.{damaged_answer, held_answer, holds_once, not_both}
 use Rattle.band_store.proofs.Records.{ordered_index}
 use Rattle.band_store.proofs.Texts.{same_length, texts_stand}
 use Rattle.band_store.proofs.store.BandStore.open.Goals as goal

@@ -1,6 +1,6 @@
 use Rattle.std.proofs.Common.{subst, sym, Contains}
 use Rattle.frame_pool.specs.Pool.{Pool}
-use Rattle.frame_pool.proofs.Keeping.{pool_sound, inside_if_used}
+use Rattle.frame_pool.proofs.PoolUpdates.{pool_sound, inside_if_used}
 use Rattle.frame_pool.proofs.pool.FramePool.after.Goals as goal
 
 pub returns-clause-sound : goal.returns-clause-sound

@@ -1,6 +1,6 @@
 use Rattle.std.proofs.Common.{length-set, get_or-set_same, refl, sym, arith}
-use Rattle.frame_pool.proofs.Moving.{moved, claimed}
-use Rattle.frame_pool.proofs.Keeping.{pool_sound, taken_kept, written_kept, latest-push}
+use Rattle.frame_pool.proofs.FrameMoves.{moved, claimed}
+use Rattle.frame_pool.proofs.PoolUpdates.{pool_sound, taken_kept, written_kept, latest-push}
 use Rattle.frame_pool.proofs.pool.FramePool.claim.Goals as goal
 
 pub invariant_of-self : goal.invariant_of-self

@@ -1,5 +1,5 @@
 use Rattle.std.proofs.Common.{refl}
-use Rattle.frame_pool.proofs.Keeping.{pool_sound, written_kept}
+use Rattle.frame_pool.proofs.PoolUpdates.{pool_sound, written_kept}
 use Rattle.frame_pool.proofs.pool.FramePool.fill_words.Goals as goal
 
 pub returns-clause-sound : goal.returns-clause-sound

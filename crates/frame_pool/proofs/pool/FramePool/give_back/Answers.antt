@@ -1,7 +1,7 @@
 use Rattle.std.proofs.Common.{ℕ, List, length, ap, subst, arith}
 use Rattle.index_lists.specs.Chains.{list_at}
 use Rattle.frame_pool.specs.Invariant.{IsLatest}
-use Rattle.frame_pool.proofs.Keeping.{pool_sound, given_kept}
+use Rattle.frame_pool.proofs.PoolUpdates.{pool_sound, given_kept}
 use Rattle.frame_pool.proofs.pool.FramePool.give_back.Goals as goal
 
 pub invariant_of-self : goal.invariant_of-self

@@ -1,7 +1,7 @@
 use Rattle.std.proofs.Common.{Some, sym}
 use Rattle.index_lists.specs.Chains.{list_at}
 use Rattle.index_lists.proofs.Ends.{listed_last}
-use Rattle.frame_pool.proofs.Keeping.{pool_sound, with_latest-last, latest_found}
+use Rattle.frame_pool.proofs.PoolUpdates.{pool_sound, with_latest-last, latest_found}
 use Rattle.frame_pool.proofs.pool.FramePool.latest_of.Goals as goal
 
 pub returns-then-self-page-clause-used : goal.returns-then-self-page-clause-used

@@ -2,8 +2,8 @@ use Rattle.std.proofs.lemmas.List.{length-replicate}
 use Rattle.store_word.specs.Words.{null_word}
 use Rattle.std.proofs.Common.{ℕ, ◌*◌, length, List, [], ◌∷◌, ◌++◌, sym, ◌∙◌, ap, subst, arith, rules}
 use Rattle.index_lists.specs.Chains.{Chains, IsFree, with_list, list_at}
-use Rattle.frame_pool.proofs.Starting.{filled_free, range_more, fresh_kept}
-use Rattle.frame_pool.proofs.Keeping.{pool_sound, latest-none}
+use Rattle.frame_pool.proofs.NewPool.{filled_free, range_more, fresh_kept}
+use Rattle.frame_pool.proofs.PoolUpdates.{pool_sound, latest-none}
 use Rattle.frame_pool.proofs.pool.FramePool.new.Goals as goal
 
 pub push_back-requires-clause-free : goal.push_back-requires-clause-free

@@ -1,6 +1,6 @@
 use Rattle.std.proofs.Common.{◌≡◌}
 use Rattle.index_lists.specs.Chains.{IsSound}
-use Rattle.frame_pool.proofs.Starting.{filled}
+use Rattle.frame_pool.proofs.NewPool.{filled}
 use Rattle.frame_pool.proofs.pool.FramePool.new.Given as goal
 
 -- the frames that are passed are free

@@ -1,7 +1,7 @@
 use Rattle.std.proofs.Common.{ℕ, Option, subst, inl, inr}
 use Rattle.std.specs.Prelude.{Contains, MatchOption}
 use Rattle.index_lists.specs.Chains.{list_at, IsFree}
-use Rattle.frame_pool.proofs.Keeping.{pool_sound, same_option, other_option}
+use Rattle.frame_pool.proofs.PoolUpdates.{pool_sound, same_option, other_option}
 use Rattle.frame_pool.proofs.pool.FramePool.page_of.Goals as goal
 
 pub returns-then-eq-clause-free : goal.returns-then-eq-clause-free

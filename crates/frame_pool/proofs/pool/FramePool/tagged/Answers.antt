@@ -1,4 +1,4 @@
-use Rattle.frame_pool.proofs.Keeping.{pool_sound}
+use Rattle.frame_pool.proofs.PoolUpdates.{pool_sound}
 use Rattle.frame_pool.proofs.pool.FramePool.tagged.Goals as goal
 
 pub returns-clause-sound : goal.returns-clause-sound

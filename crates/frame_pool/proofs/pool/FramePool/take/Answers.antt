@@ -1,6 +1,6 @@
 use Rattle.std.proofs.Common.{Some}
 use Rattle.store_word.specs.Words.{null_word}
-use Rattle.frame_pool.proofs.Moving.{takes, still_used}
+use Rattle.frame_pool.proofs.FrameMoves.{takes, still_used}
 use Rattle.frame_pool.proofs.pool.FramePool.take.Goals as goal
 
 pub returns-clause-taken : goal.returns-clause-taken

@@ -1,5 +1,5 @@
 use Rattle.std.proofs.Common.{slice_get}
-use Rattle.frame_pool.proofs.Moving.{takes, still_used}
+use Rattle.frame_pool.proofs.FrameMoves.{takes, still_used}
 use Rattle.frame_pool.proofs.pool.FramePool.take_filled.Goals as goal
 
 pub returns-clause-taken : goal.returns-clause-taken

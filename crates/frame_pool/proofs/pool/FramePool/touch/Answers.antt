@@ -1,8 +1,8 @@
 use Rattle.std.proofs.Common.{ℕ, Some, ap, sym, ◌∙◌, arith}
 use Rattle.std.proofs.lemmas.List.{get_or_default}
 use Rattle.index_lists.specs.Chains.{Chains, list_at}
-use Rattle.index_lists.proofs.Callers.{list_at-with_list_same}
-use Rattle.frame_pool.proofs.Keeping.{pool_sound, touched_kept, with_latest-last, latest_last, latest-push}
+use Rattle.index_lists.proofs.ListUpdates.{list_at-with_list_same}
+use Rattle.frame_pool.proofs.PoolUpdates.{pool_sound, touched_kept, with_latest-last, latest_last, latest-push}
 use Rattle.frame_pool.proofs.pool.FramePool.touch.Goals as goal
 
 pub returns-then-self-frame-clause-after : goal.returns-then-self-frame-clause-after

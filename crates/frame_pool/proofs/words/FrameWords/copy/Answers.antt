@@ -1,7 +1,7 @@
 use Rattle.std.proofs.Common.{◌≡◌, ◌+◌, ◌*◌, ◌≤◌, length, get_or, ap, ◌∙◌, arith}
 use Rattle.std.proofs.lemmas.List.{with_items_is}
 use Rattle.store_word.specs.Words.{null_word}
-use Rattle.frame_pool.proofs.Padding.{length-padded, stored_span, stored_word}
+use Rattle.frame_pool.proofs.PaddedWords.{length-padded, stored_span, stored_word}
 use Rattle.frame_pool.specs.Stored.{padded}
 use Rattle.frame_pool.proofs.words.FrameWords.copy.Goals as goal
 

@@ -1,6 +1,6 @@
 use Rattle.std.proofs.Common.{◌≡◌, ◌+◌, ◌*◌, ◌≤◌, length, refl, ap, ◌∙◌, arith}
 use Rattle.std.proofs.lemmas.List.{with_items_is}
-use Rattle.frame_pool.proofs.Padding.{length-padded, stored_span}
+use Rattle.frame_pool.proofs.PaddedWords.{length-padded, stored_span}
 use Rattle.frame_pool.proofs.words.FrameWords.fill_span.Goals as goal
 
 pub returns : goal.returns

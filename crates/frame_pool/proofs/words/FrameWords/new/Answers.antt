@@ -1,6 +1,6 @@
 use Rattle.std.proofs.Common.{◌≡◌, length, replicate, ap, ◌∙◌, arith, rules}
 use Rattle.store_word.specs.Words.{Parts}
-use Rattle.frame_pool.proofs.Padding.{padded_fresh}
+use Rattle.frame_pool.proofs.PaddedWords.{padded_fresh}
 use Rattle.frame_pool.proofs.words.FrameWords.new.Goals as goal
 
 pub invariant_of-result : goal.invariant_of-result

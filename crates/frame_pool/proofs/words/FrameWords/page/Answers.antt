@@ -1,6 +1,6 @@
 use Rattle.std.proofs.Common.{◌*◌, ◌≤◌, List, length, slice_get, ap, ◌∙◌, arith}
 use Rattle.store_word.specs.Words.{Parts}
-use Rattle.frame_pool.proofs.Padding.{length-padded, padded_blank}
+use Rattle.frame_pool.proofs.PaddedWords.{length-padded, padded_blank}
 use Rattle.frame_pool.proofs.words.FrameWords.page.Goals as goal
 
 pub returns-else-start-len-clause-words : goal.returns-else-start-len-clause-words

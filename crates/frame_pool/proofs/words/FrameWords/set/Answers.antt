@@ -1,5 +1,5 @@
 use Rattle.std.proofs.Common.{◌+◌, ◌*◌, ◌≤◌, arith}
-use Rattle.frame_pool.proofs.Padding.{length-padded, stored_set}
+use Rattle.frame_pool.proofs.PaddedWords.{length-padded, stored_set}
 use Rattle.frame_pool.proofs.words.FrameWords.set.Goals as goal
 
 pub returns : goal.returns

@@ -1,12 +1,12 @@
 use Rattle.std.proofs.Common.{ap, ◌∙◌, Err, suc, ◌+◌, ◌≡◌, arith}
 use Rattle.lisp_graph.specs.declared.reply.Reply.TheVariants as R
 use Rattle.lisp_graph.specs.Effect.{grown_length}
-use Rattle.heap_state.proofs.Playing.{Leaves}
+use Rattle.heap_state.proofs.CommandEffects.{Leaves}
 use Rattle.heap_commands.specs.declared.blocks.growing.Growing.TheVariants.{Answered, Wants}
-use Rattle.heap_commands.proofs.Answering.{leaves_still}
-use Rattle.heap_commands.proofs.Grows.{fault_answered, finds_after, found_other, found_wants, found_wide}
-use Rattle.heap_commands.proofs.Referring.{register_meaning}
-use Rattle.heap_commands.proofs.Settling.{SettlesOne, settles_one}
+use Rattle.heap_commands.proofs.NoAllocation.{leaves_still}
+use Rattle.heap_commands.proofs.BlockGrowth.{fault_answered, finds_after, found_other, found_wants, found_wide}
+use Rattle.heap_commands.proofs.RegisterReferences.{register_meaning}
+use Rattle.heap_commands.proofs.SettledRegisters.{SettlesOne, settles_one}
 use Rattle.heap_commands.proofs.blocks.growing.find_growing.Given.{Over}
 use Rattle.heap_commands.proofs.blocks.growing.find_growing.Goals.{After-block_size}
 use Rattle.heap_commands.proofs.blocks.growing.find_growing.Goals as goal

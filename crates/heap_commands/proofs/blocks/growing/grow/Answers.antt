@@ -1,5 +1,5 @@
 use Rattle.std.proofs.Common.{ap, ◌∙◌, Err}
-use Rattle.heap_commands.proofs.Grows.{can_grow, grow_faulted, grow_marked, grow_places, grow_performs, is_struct}
+use Rattle.heap_commands.proofs.BlockGrowth.{can_grow, grow_faulted, grow_marked, grow_places, grow_performs, is_struct}
 use Rattle.heap_commands.proofs.blocks.growing.grow.Goals as goal
 
 pub grow-requires-clause-can : goal.grow-requires-clause-can

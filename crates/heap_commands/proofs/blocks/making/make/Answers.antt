@@ -2,9 +2,9 @@ use Rattle.std.proofs.Common.{ap, ◌+◌, arith}
 use Rattle.std.proofs.lemmas.List.{get_or-set_same}
 use Rattle.std.proofs.lemmas.Result.{err_from_is_err_and}
 use Rattle.store_word.specs.Words.{Parts, null_word}
-use Rattle.heap_state.proofs.Allocating.{placed_more}
+use Rattle.heap_state.proofs.Allocations.{placed_more}
 use Rattle.heap_commands.proofs.NewMarks.{block_marked}
-use Rattle.heap_commands.proofs.Makes.{can_make, make_faulted, make_performs}
+use Rattle.heap_commands.proofs.NewBlocks.{can_make, make_faulted, make_performs}
 use Rattle.heap_commands.proofs.blocks.making.make.Goals as goal
 
 pub make_block-requires-clause-can : goal.make_block-requires-clause-can

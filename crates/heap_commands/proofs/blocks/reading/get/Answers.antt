@@ -1,11 +1,11 @@
 use Rattle.std.proofs.Common.{ap, ◌∙◌, Err, refl, arith, rules}
 use Rattle.std.proofs.lemmas.Result.{on_ok_weaker}
 use Rattle.lisp_graph.specs.declared.reply.Reply.TheVariants as R
-use Rattle.heap_state.proofs.Fetching.{fetched_shows, answer_performs}
-use Rattle.heap_state.proofs.Playing.{performs_after}
-use Rattle.heap_commands.proofs.Gets.{field_fetches, field_readable, get_faulted, get_lacks, get_refused, only_from}
-use Rattle.heap_commands.proofs.Settling.{settles_one}
-use Rattle.block_store.proofs.transporter.Moving.{moves-more, moves-then}
+use Rattle.heap_state.proofs.FetchedValues.{fetched_shows, answer_performs}
+use Rattle.heap_state.proofs.CommandEffects.{performs_after}
+use Rattle.heap_commands.proofs.FieldReads.{field_fetches, field_readable, get_faulted, get_lacks, get_refused, only_from}
+use Rattle.heap_commands.proofs.SettledRegisters.{settles_one}
+use Rattle.block_store.proofs.transporter.TransportSequences.{moves-more, moves-then}
 use Rattle.heap_commands.proofs.Moves.{moves_read}
 use Rattle.heap_commands.proofs.blocks.reading.get.Goals as goal
 

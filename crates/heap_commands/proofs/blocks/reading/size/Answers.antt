@@ -1,7 +1,7 @@
 use Rattle.std.proofs.Common.{ap, ◌∙◌, Err}
-use Rattle.heap_state.proofs.Playing.{performs_after}
-use Rattle.heap_commands.proofs.Referring.{register_meaning}
-use Rattle.heap_commands.proofs.Settling.{settles_one}
+use Rattle.heap_state.proofs.CommandEffects.{performs_after}
+use Rattle.heap_commands.proofs.RegisterReferences.{register_meaning}
+use Rattle.heap_commands.proofs.SettledRegisters.{settles_one}
 use Rattle.heap_commands.proofs.Sizes.{size_faulted, size_refused, size_told}
 use Rattle.heap_commands.proofs.Moves.{moves_read}
 use Rattle.heap_commands.proofs.blocks.reading.size.Goals as goal

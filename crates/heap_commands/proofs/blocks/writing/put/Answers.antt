@@ -1,9 +1,9 @@
 use Rattle.std.proofs.Common.{ap, ◌∙◌, Err, refl}
 use Rattle.std.proofs.lemmas.Result.{err_from_is_err_and}
-use Rattle.heap_state.proofs.Playing.{performs_after, performs_fault}
-use Rattle.heap_commands.proofs.Marked.{marks_field}
-use Rattle.heap_commands.proofs.Settling.{settles_two}
-use Rattle.heap_commands.proofs.Stores.{can_set, put_faulted, put_lacks, put_performs, put_refused}
+use Rattle.heap_state.proofs.CommandEffects.{performs_after, performs_fault}
+use Rattle.heap_commands.proofs.StoreMarks.{marks_field}
+use Rattle.heap_commands.proofs.SettledRegisters.{settles_two}
+use Rattle.heap_commands.proofs.FieldStores.{can_set, put_faulted, put_lacks, put_performs, put_refused}
 use Rattle.heap_commands.proofs.Moves.{moves_still, settled_word}
 use Rattle.heap_commands.proofs.blocks.writing.put.Goals as goal
 

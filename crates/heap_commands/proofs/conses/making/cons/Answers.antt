@@ -2,12 +2,12 @@ use Rattle.std.proofs.Common.{refl, ap, arith, rules}
 use Rattle.std.proofs.lemmas.List.{get_or-set_same}
 use Rattle.std.proofs.lemmas.Result.{err_from_is_err_and}
 use Rattle.store_word.specs.Words.{Parts, null_word}
-use Rattle.mem_port.proofs.Telling.{answered, answers, quiet-twice}
-use Rattle.heap_state.proofs.Allocating.{performs_at, performs_at_after, placed_more}
-use Rattle.heap_state.proofs.Playing.{performs_fault}
+use Rattle.mem_port.proofs.CallReports.{answered, answers, quiet-twice}
+use Rattle.heap_state.proofs.Allocations.{performs_at, performs_at_after, placed_more}
+use Rattle.heap_state.proofs.CommandEffects.{performs_fault}
 use Rattle.heap_commands.proofs.NewConses.{can_pair, pair_stays_fresh, pair_performs, stays_leaves_at}
 use Rattle.heap_commands.proofs.NewMarks.{made_after, pair_marked}
-use Rattle.heap_commands.proofs.Settling.{settles_two, still_allocates}
+use Rattle.heap_commands.proofs.SettledRegisters.{settles_two, still_allocates}
 use Rattle.heap_commands.proofs.conses.making.cons.Goals as goal
 
 pub make_pair_of-requires : goal.make_pair_of-requires

@@ -1,7 +1,7 @@
 use Rattle.std.proofs.Common.{arith}
-use Rattle.heap_state.proofs.OneSettled.{consistent_on}
-use Rattle.heap_commands.proofs.Comparing.{moved_performs}
-use Rattle.heap_state.proofs.Playing.{performs_after}
+use Rattle.heap_state.proofs.SettledRegister.{consistent_on}
+use Rattle.heap_commands.proofs.Comparisons.{moved_performs}
+use Rattle.heap_state.proofs.CommandEffects.{performs_after}
 use Rattle.heap_commands.proofs.conses.moving.copy_register.Goals as goal
 
 pub returns-clause-performs : goal.returns-clause-performs

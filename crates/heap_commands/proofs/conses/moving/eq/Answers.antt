@@ -1,9 +1,9 @@
 use Rattle.std.proofs.Common.{refl}
 use Rattle.std.proofs.lemmas.Result.{err_from_is_err_and}
-use Rattle.heap_state.proofs.Playing.{performs_after, performs_fault}
-use Rattle.heap_commands.proofs.Cells.{stays_leaves}
-use Rattle.heap_commands.proofs.Comparing.{comparable, compared_performs}
-use Rattle.heap_commands.proofs.Settling.{settles_two}
+use Rattle.heap_state.proofs.CommandEffects.{performs_after, performs_fault}
+use Rattle.heap_commands.proofs.ConsReads.{stays_leaves}
+use Rattle.heap_commands.proofs.Comparisons.{comparable, compared_performs}
+use Rattle.heap_commands.proofs.SettledRegisters.{settles_two}
 use Rattle.heap_commands.proofs.Moves.{moves_read}
 use Rattle.heap_commands.proofs.conses.moving.eq.Goals as goal
 

@@ -3,12 +3,12 @@ use Rattle.std.proofs.lemmas.Result.{on_ok_weaker}
 use Rattle.lisp_graph.specs.declared.reply.Reply.TheVariants as R
 use Rattle.lisp_graph.specs.Effect.{fetched}
 use Rattle.block_store.specs.lisp_meaning.Flip.{graph_of}
-use Rattle.heap_state.proofs.Fetching.{fetched_shows, answer_performs}
-use Rattle.heap_state.proofs.Playing.{performs_after, performs_fault, performs_refused}
-use Rattle.heap_commands.proofs.Cells.{cdr_fetches, kept_leaves, no_cons}
-use Rattle.heap_commands.proofs.Readable.{only_one, readable}
-use Rattle.heap_commands.proofs.Settling.{settles_one}
-use Rattle.block_store.proofs.transporter.Moving.{moves-more, moves-then}
+use Rattle.heap_state.proofs.FetchedValues.{fetched_shows, answer_performs}
+use Rattle.heap_state.proofs.CommandEffects.{performs_after, performs_fault, performs_refused}
+use Rattle.heap_commands.proofs.ConsReads.{cdr_fetches, kept_leaves, no_cons}
+use Rattle.heap_commands.proofs.ConsRegisters.{only_one, readable}
+use Rattle.heap_commands.proofs.SettledRegisters.{settles_one}
+use Rattle.block_store.proofs.transporter.TransportSequences.{moves-more, moves-then}
 use Rattle.heap_commands.proofs.Moves.{moves_read}
 use Rattle.heap_commands.proofs.conses.parts.cdr.Goals as goal
 

@@ -6,12 +6,12 @@ use Rattle.lisp_graph.specs.declared.object.Body.TheVariants as B
 use Rattle.lisp_graph.specs.Effect.{stored}
 use Rattle.lisp_graph.specs.Graph.{value_at}
 use Rattle.block_store.specs.lisp_meaning.Flip.{graph_of}
-use Rattle.heap_state.proofs.Playing.{performs_after, performs_fault, performs_refused}
-use Rattle.heap_commands.proofs.Cells.{no_cons, stays_leaves}
-use Rattle.heap_commands.proofs.Marked.{marks_car}
-use Rattle.heap_commands.proofs.Readable.{settable}
-use Rattle.heap_commands.proofs.Settling.{settles_two}
-use Rattle.heap_commands.proofs.Storing.{car_stores, both_settled, stored_performs}
+use Rattle.heap_state.proofs.CommandEffects.{performs_after, performs_fault, performs_refused}
+use Rattle.heap_commands.proofs.ConsReads.{no_cons, stays_leaves}
+use Rattle.heap_commands.proofs.StoreMarks.{marks_car}
+use Rattle.heap_commands.proofs.ConsRegisters.{settable}
+use Rattle.heap_commands.proofs.SettledRegisters.{settles_two}
+use Rattle.heap_commands.proofs.ConsStores.{car_stores, both_settled, stored_performs}
 use Rattle.heap_commands.proofs.Moves.{moves_still}
 use Rattle.heap_commands.proofs.conses.parts.rplaca.Goals as goal
 

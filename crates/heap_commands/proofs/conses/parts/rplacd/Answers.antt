@@ -6,13 +6,13 @@ use Rattle.lisp_graph.specs.declared.object.Body.TheVariants as B
 use Rattle.lisp_graph.specs.Effect.{stored}
 use Rattle.lisp_graph.specs.Graph.{value_at}
 use Rattle.block_store.specs.lisp_meaning.Flip.{graph_of}
-use Rattle.heap_state.proofs.Playing.{performs_after, performs_fault, performs_refused}
-use Rattle.heap_commands.proofs.Cells.{kept_represented, no_cons, stays_leaves}
-use Rattle.heap_commands.proofs.Marked.{marks_cdr, marks_faulted}
-use Rattle.heap_commands.proofs.Readable.{settable}
-use Rattle.heap_commands.proofs.Settling.{settles_two}
-use Rattle.heap_commands.proofs.Storing.{cdr_stores, both_settled, stored_faulted, stored_performs}
-use Rattle.block_store.proofs.transporter.Moving.{moves-more, moves-then}
+use Rattle.heap_state.proofs.CommandEffects.{performs_after, performs_fault, performs_refused}
+use Rattle.heap_commands.proofs.ConsReads.{kept_represented, no_cons, stays_leaves}
+use Rattle.heap_commands.proofs.StoreMarks.{marks_cdr, marks_faulted}
+use Rattle.heap_commands.proofs.ConsRegisters.{settable}
+use Rattle.heap_commands.proofs.SettledRegisters.{settles_two}
+use Rattle.heap_commands.proofs.ConsStores.{cdr_stores, both_settled, stored_faulted, stored_performs}
+use Rattle.block_store.proofs.transporter.TransportSequences.{moves-more, moves-then}
 use Rattle.heap_commands.proofs.Moves.{cdr_moves}
 use Rattle.heap_commands.proofs.conses.parts.rplacd.Goals as goal
 

@@ -1,5 +1,5 @@
 use Rattle.std.proofs.Common.{sym, arith}
-use Rattle.index_lists.proofs.Moving.{moving_more, moving_falls, moving_all}
+use Rattle.index_lists.proofs.ListMoves.{moving_more, moving_falls, moving_all}
 use Rattle.index_lists.proofs.lists.Lists.append_all.Goals as goal
 
 pub loop-node-smaller : goal.loop-node-smaller

@@ -1,6 +1,6 @@
 use Rattle.std.proofs.Common.{length}
 use Rattle.index_lists.specs.Chains.{list_at}
-use Rattle.index_lists.proofs.Moving.{IsMoving}
+use Rattle.index_lists.proofs.ListMoves.{IsMoving}
 use Rattle.index_lists.proofs.lists.Lists.append_all.Given as goal
 
 abbrev pub invariant-loop-node : goal.invariant-loop-node

@@ -1,6 +1,6 @@
 use Rattle.std.proofs.Common.{◌∙◌}
 use Rattle.index_lists.proofs.Ends.{none_last, listed_last}
-use Rattle.index_lists.proofs.Answering.{seen, last_seen}
+use Rattle.index_lists.proofs.LinkReads.{seen, last_seen}
 use Rattle.index_lists.proofs.lists.Lists.back.Goals as goal
 
 pub returns : goal.returns

@@ -1,6 +1,6 @@
 use Rattle.std.proofs.Common.{◌∙◌}
 use Rattle.index_lists.proofs.Ends.{none_first, listed_first}
-use Rattle.index_lists.proofs.Answering.{seen, first_seen}
+use Rattle.index_lists.proofs.LinkReads.{seen, first_seen}
 use Rattle.index_lists.proofs.lists.Lists.front.Goals as goal
 
 pub returns : goal.returns

@@ -2,8 +2,8 @@ use Rattle.std.proofs.Common.{ℕ, ◌∙◌, arith}
 use Rattle.std.proofs.lemmas.List.{with_items_is}
 use Rattle.std.specs.Prelude.{Contains}
 use Rattle.index_lists.specs.Chains.{list_at}
-use Rattle.index_lists.proofs.Answering.{seen, at_from_contains, last_in}
-use Rattle.index_lists.proofs.Changing.{after_relink, same_nodes, same_lists, listed_after}
+use Rattle.index_lists.proofs.LinkReads.{seen, at_from_contains, last_in}
+use Rattle.index_lists.proofs.ChainUpdates.{after_relink, same_nodes, same_lists, listed_after}
 use Rattle.index_lists.proofs.lists.Lists.move_back.Goals as goal
 
 pub owner-list-requires : goal.owner-list-requires

@@ -1,6 +1,6 @@
 use Rattle.std.proofs.Common.{refl, arith}
 use Rattle.std.proofs.lemmas.List.{with_items_is}
-use Rattle.index_lists.proofs.Changing.{shows}
+use Rattle.index_lists.proofs.ChainUpdates.{shows}
 use Rattle.index_lists.proofs.lists.Lists.new.Goals as goal
 
 pub invariant_of-result : goal.invariant_of-result

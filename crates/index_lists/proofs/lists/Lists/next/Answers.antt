@@ -1,5 +1,5 @@
 use Rattle.std.proofs.Common.{arith}
-use Rattle.index_lists.proofs.Answering.{seen, at_from_contains, next_seen}
+use Rattle.index_lists.proofs.LinkReads.{seen, at_from_contains, next_seen}
 use Rattle.index_lists.proofs.lists.Lists.next.Goals as goal
 
 pub owner-requires : goal.owner-requires

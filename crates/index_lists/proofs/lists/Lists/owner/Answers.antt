@@ -2,7 +2,7 @@ use Rattle.std.proofs.Common.{sym, ◌∙◌, ap, subst, arith, ℕ, Some}
 use Rattle.std.specs.Prelude.{Contains}
 use Rattle.index_lists.specs.Chains.{list_at}
 use Rattle.index_lists.proofs.Members.{contains_from_has}
-use Rattle.index_lists.proofs.Answering.{seen, none_from_free, at_from_contains}
+use Rattle.index_lists.proofs.LinkReads.{seen, none_from_free, at_from_contains}
 use Rattle.index_lists.proofs.lists.Lists.owner.Goals as goal
 
 pub returns-then-list : goal.returns-then-list

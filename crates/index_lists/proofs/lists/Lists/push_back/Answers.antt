@@ -1,7 +1,7 @@
 use Rattle.std.proofs.Common.{arith}
 use Rattle.std.proofs.lemmas.List.{with_items_is}
-use Rattle.index_lists.proofs.Answering.{seen, last_in}
-use Rattle.index_lists.proofs.Changing.{after_push, same_nodes, same_lists, listed_after}
+use Rattle.index_lists.proofs.LinkReads.{seen, last_in}
+use Rattle.index_lists.proofs.ChainUpdates.{after_push, same_nodes, same_lists, listed_after}
 use Rattle.index_lists.proofs.lists.Lists.push_back.Goals as goal
 
 pub attach-requires-clause-last : goal.attach-requires-clause-last

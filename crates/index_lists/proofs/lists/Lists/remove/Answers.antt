@@ -1,7 +1,7 @@
 use Rattle.std.proofs.Common.{arith}
 use Rattle.std.proofs.lemmas.List.{with_items_is}
-use Rattle.index_lists.proofs.Answering.{seen, at_from_contains}
-use Rattle.index_lists.proofs.Changing.{after_removal, same_nodes, same_lists, free_after}
+use Rattle.index_lists.proofs.LinkReads.{seen, at_from_contains}
+use Rattle.index_lists.proofs.ChainUpdates.{after_removal, same_nodes, same_lists, free_after}
 use Rattle.index_lists.proofs.lists.Lists.remove.Goals as goal
 
 pub detach-requires : goal.detach-requires

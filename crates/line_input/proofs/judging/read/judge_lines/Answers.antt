@@ -1,5 +1,5 @@
 use Rattle.std.proofs.Common.{◌∙◌, refl, sym}
-use Rattle.line_input.proofs.Going.{going_filled, going_passed, going_start, less_left, passes_accepted, start_place, was_read_end, was_read_fault, was_read_refused}
+use Rattle.line_input.proofs.ReaderInvariant.{going_filled, going_passed, going_start, less_left, passes_accepted, start_place, was_read_end, was_read_fault, was_read_refused}
 use Rattle.line_input.proofs.judging.read.judge_lines.Goals as goal
 
 pub loop-found-init : goal.loop-found-init

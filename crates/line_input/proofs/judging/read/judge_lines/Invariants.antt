@@ -1,7 +1,7 @@
 use Rattle.std.proofs.Common.{◌≡◌, ◌-◌, ◌^◌, true}
 use Rattle.outer_ports.specs.Ports.{IsAtEnd}
 use Rattle.line_input.specs.Verdict.{IsPlace}
-use Rattle.line_input.proofs.Going.{Going}
+use Rattle.line_input.proofs.ReaderInvariant.{Going}
 use Rattle.line_input.proofs.judging.read.judge_lines.Given as goal
 
 abbrev pub invariant-loop-found : goal.invariant-loop-found

@@ -1,4 +1,4 @@
-use Rattle.line_input.proofs.Going.{was_read_nothing}
+use Rattle.line_input.proofs.ReaderInvariant.{was_read_nothing}
 use Rattle.line_input.proofs.judging.read.read_lines.Goals as goal
 
 pub returns-in-Err-clause-judged : goal.returns-in-Err-clause-judged

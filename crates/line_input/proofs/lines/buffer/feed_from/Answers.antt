@@ -1,5 +1,5 @@
 use Rattle.std.proofs.lemmas.List.{take_rest}
-use Rattle.line_input.proofs.Feeds.{feed_behind, no_feed_behind}
+use Rattle.line_input.proofs.LineFeeds.{feed_behind, no_feed_behind}
 use Rattle.line_input.proofs.lines.buffer.feed_from.Goals as goal
 
 pub returns-in-None : goal.returns-in-None

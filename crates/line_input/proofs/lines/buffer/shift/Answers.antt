@@ -1,5 +1,5 @@
 use Rattle.std.proofs.Common.{rules}
-use Rattle.line_input.proofs.Feeds.{shifted, shifted_rest}
+use Rattle.line_input.proofs.LineFeeds.{shifted, shifted_rest}
 use Rattle.line_input.proofs.lines.buffer.shift.Goals as goal
 
 pub loop-at-preserved : goal.loop-at-preserved

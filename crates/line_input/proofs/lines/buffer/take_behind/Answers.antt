@@ -1,7 +1,7 @@
 use Rattle.std.proofs.Common.{rules, take}
 use Rattle.std.proofs.lemmas.Result.{err_from_is_err_and}
 use Rattle.std.proofs.lemmas.List.{length-take-le}
-use Rattle.line_input.proofs.Feeds.{behind, unchanged}
+use Rattle.line_input.proofs.LineFeeds.{behind, unchanged}
 use Rattle.line_input.proofs.lines.buffer.take_behind.Goals as goal
 
 pub returns-clause-given : goal.returns-clause-given

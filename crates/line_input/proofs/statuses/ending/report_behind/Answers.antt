@@ -1,4 +1,4 @@
-use Rattle.line_input.proofs.Closing.{closed_behind}
+use Rattle.line_input.proofs.LastLine.{closed_behind}
 use Rattle.line_input.proofs.statuses.ending.report_behind.Goals as goal
 
 pub returns-in-Ok-clause-written : goal.returns-in-Ok-clause-written

@@ -1,5 +1,5 @@
-use Rattle.lisp_graph.proofs.Keeping.{answer_keeps}
-use Rattle.lisp_graph.proofs.Lasting.{answer_lasts}
+use Rattle.lisp_graph.proofs.GraphInvariant.{answer_keeps}
+use Rattle.lisp_graph.proofs.Persistence.{answer_lasts}
 use Rattle.lisp_graph.proofs.graph_store.GraphStore.answer.Goals as goal
 
 pub invariant_of-self : goal.invariant_of-self

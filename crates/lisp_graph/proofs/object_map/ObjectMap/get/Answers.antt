@@ -1,6 +1,6 @@
 use Rattle.std.proofs.Common.{◌∙◌, ap}
 use Rattle.std.specs.List.{slice_get}
-use Rattle.lisp_graph.proofs.Numbered.{lookup-numbered}
+use Rattle.lisp_graph.proofs.NumberedMaps.{lookup-numbered}
 use Rattle.lisp_graph.proofs.object_map.ObjectMap.get.Goals as goal
 
 pub returns : goal.returns

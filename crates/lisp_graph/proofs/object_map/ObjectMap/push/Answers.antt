@@ -1,6 +1,6 @@
 use Rattle.std.proofs.Common.{List, ◌∙◌, ap, ◌++◌, ◌∷◌, []}
 use Rattle.lisp_graph.specs.declared.object.Object.{Object}
-use Rattle.lisp_graph.proofs.Numbered.{insert-numbered}
+use Rattle.lisp_graph.proofs.NumberedMaps.{insert-numbered}
 use Rattle.lisp_graph.proofs.object_map.ObjectMap.push.Goals as goal
 
 pub invariant_of-self-2 : goal.invariant_of-self-2

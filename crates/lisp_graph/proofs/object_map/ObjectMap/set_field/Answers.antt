@@ -2,7 +2,7 @@ use Rattle.std.proofs.Common.{List, set, ◌∙◌, ap}
 use Rattle.lisp_graph.specs.declared.object.Object.{Object}
 use Rattle.lisp_graph.specs.Graph.{no_object}
 use Rattle.lisp_graph.specs.Fields.{with_field}
-use Rattle.lisp_graph.proofs.Numbered.{found-numbered, set_value-numbered}
+use Rattle.lisp_graph.proofs.NumberedMaps.{found-numbered, set_value-numbered}
 use Rattle.lisp_graph.proofs.object_map.ObjectMap.set_field.Goals as goal
 
 pub unwrap-requires : goal.unwrap-requires

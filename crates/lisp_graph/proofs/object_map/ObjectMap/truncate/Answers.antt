@@ -1,5 +1,5 @@
 use Rattle.std.proofs.Common.{◌∙◌, arith}
-use Rattle.lisp_graph.proofs.Numbered.{take-pop}
+use Rattle.lisp_graph.proofs.NumberedMaps.{take-pop}
 use Rattle.lisp_graph.proofs.object_map.ObjectMap.truncate.Goals as goal
 
 pub loop-self-preserved-in-loop-self : goal.loop-self-preserved-in-loop-self

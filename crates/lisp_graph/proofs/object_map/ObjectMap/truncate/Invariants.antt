@@ -1,6 +1,6 @@
 use Rattle.std.proofs.Common.{◌≡◌, take}
 use Rattle.std.specs.BTreeMap.{values, btree_map_len}
-use Rattle.lisp_graph.proofs.Numbered.{IsNumbered}
+use Rattle.lisp_graph.proofs.NumberedMaps.{IsNumbered}
 use Rattle.lisp_graph.proofs.object_map.ObjectMap.truncate.Given as goal
 
 abbrev pub invariant-loop-self : goal.invariant-loop-self

@@ -1,4 +1,4 @@
-use Rattle.lisp_heap.proofs.Dumping.{dumped_of_state}
+use Rattle.lisp_heap.proofs.HeapDumps.{dumped_of_state}
 use Rattle.lisp_heap.proofs.heap.Heap.dump.Goals as goal
 
 pub returns-clause-text : goal.returns-clause-text

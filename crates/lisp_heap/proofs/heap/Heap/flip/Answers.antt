@@ -6,10 +6,10 @@ use Rattle.heap_collect.proofs.Phases.{stands_for_some}
 use Rattle.lisp_heap.specs.HeapView.{HeapView, contents_at}
 use Rattle.lisp_heap.specs.Stands.{IsSound, Runs}
 use Rattle.lisp_heap.proofs.Collections.{base_listed, begins_listed, busy_still, flip_sure, same_count, was_idle}
-use Rattle.lisp_heap.proofs.Listed.{standing}
-use Rattle.lisp_heap.proofs.Marked.{pages_same}
-use Rattle.lisp_heap.proofs.Running.{step_runs}
-use Rattle.lisp_heap.proofs.Telling.{not_fault, told_still}
+use Rattle.lisp_heap.proofs.ListedMemory.{standing}
+use Rattle.lisp_heap.proofs.PageMarks.{pages_same}
+use Rattle.lisp_heap.proofs.CommandRuns.{step_runs}
+use Rattle.lisp_heap.proofs.MemoryReports.{not_fault, told_still}
 use Rattle.lisp_heap.proofs.heap.Heap.flip.Given.{Over}
 use Rattle.lisp_heap.proofs.heap.Heap.flip.Goals.{After-assert_invariant}
 use Rattle.lisp_heap.proofs.heap.Heap.flip.Goals as goal
@@ -46,7 +46,7 @@ pub returns-clause-runs : goal.returns-clause-runs
 returns-clause-runs g c = rw (← c.self.view_is) (ran g (goal.at.returns-clause-runs g c).After-assert_invariant).1
 
 pub returns-clause-table : goal.returns-clause-table
-returns-clause-table g c count is = rw (← c.self.view_is) (c.flip-reply.ensures.table (was_idle c.self.inside.ground.table.aim c.flip-reply.result count (λ some. (c.flip-reply.ensures.refused some).0) is))
+returns-clause-table g c count is = rw (← c.self.view_is) (c.flip-reply.ensures.begins (was_idle c.self.inside.ground.table.aim c.flip-reply.result count (λ some. (c.flip-reply.ensures.refused some).0) is)).table
 
 pub returns-clause-pages : goal.returns-clause-pages
 returns-clause-pages g c count is =
@@ -67,4 +67,4 @@ returns-clause-begins g c count is =
     let x = c.flip-reply.ensures in
     let none = was_idle c.self.inside.ground.table.aim c.flip-reply.result count (λ some. (x.refused some).0) is in
     let ground = (standing (g.M.Memory.seen c.self.inside.ground.mem) _ _ _ _ _ _ _ c.self.invariant).represents.represents.kept.ground in
-    rw (← c.self.view_is, ← x.memory) (begins_listed (g.M.Memory.seen c.flip-reply.new.ground.mem) c.flip-reply.new.ground.table c.args.what (rw (x.memory) (x.regions ∙ sym ground.levels_size)) c.self.inside.scan c.flip-reply.new.scan (x.begins none))
+    rw (← c.self.view_is, ← x.memory) (begins_listed (g.M.Memory.seen c.flip-reply.new.ground.mem) c.flip-reply.new.ground.table c.args.what (rw (x.memory) (x.regions ∙ sym ground.levels_size)) c.self.inside.scan c.flip-reply.new.scan (x.begins none).begins)

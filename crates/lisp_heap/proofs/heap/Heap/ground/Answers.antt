@@ -1,4 +1,4 @@
-use Rattle.lisp_heap.proofs.Looking.{ground_looked}
+use Rattle.lisp_heap.proofs.HeapReads.{ground_looked}
 use Rattle.lisp_heap.proofs.heap.Heap.ground.Goals as goal
 
 pub returns-clause-sound : goal.returns-clause-sound

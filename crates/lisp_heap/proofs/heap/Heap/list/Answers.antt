@@ -5,8 +5,8 @@ use Rattle.lisp_graph.specs.declared.command.Command.TheVariants as C
 use Rattle.heap_state.specs.Reads.{reply_of}
 use Rattle.lisp_heap.specs.HeapView.{HeapView, contents_at}
 use Rattle.lisp_heap.specs.Stands.{IsSound}
-use Rattle.lisp_heap.proofs.Admitting.{Allocated, allocated_lent, allocated_none, allocated_parts}
-use Rattle.lisp_heap.proofs.Telling.{cost_of, made_sure}
+use Rattle.lisp_heap.proofs.Admissions.{Allocated, allocated_lent, allocated_none, allocated_parts}
+use Rattle.lisp_heap.proofs.MemoryReports.{cost_of, made_sure}
 use Rattle.lisp_heap.proofs.heap.Heap.list.Given.{Over}
 use Rattle.lisp_heap.proofs.heap.Heap.list.Goals.{After-as_mut_slice-registers, After-finish_reply, In-Err}
 use Rattle.lisp_heap.proofs.heap.Heap.list.Goals as goal

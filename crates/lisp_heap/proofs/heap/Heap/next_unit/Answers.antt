@@ -1,4 +1,4 @@
-use Rattle.lisp_heap.proofs.Looking.{clean_looked, pages_looked}
+use Rattle.lisp_heap.proofs.HeapReads.{clean_looked, pages_looked}
 use Rattle.lisp_heap.proofs.heap.Heap.next_unit.Goals as goal
 
 pub next_unit-requires-clause-pages : goal.next_unit-requires-clause-pages

@@ -2,9 +2,9 @@ use Rattle.std.proofs.Common.{refl, sym, ◌∙◌}
 use Rattle.lisp_graph.specs.declared.command.Command.TheVariants as C
 use Rattle.lisp_heap.specs.Words.{paged}
 use Rattle.lisp_heap.proofs.Collections.{page_steps}
-use Rattle.lisp_heap.proofs.Marked.{pages_unmarked}
-use Rattle.lisp_heap.proofs.Running.{not_less, step_runs}
-use Rattle.lisp_heap.proofs.Telling.{paged_fault, told_paged}
+use Rattle.lisp_heap.proofs.PageMarks.{pages_unmarked}
+use Rattle.lisp_heap.proofs.CommandRuns.{not_less, step_runs}
+use Rattle.lisp_heap.proofs.MemoryReports.{paged_fault, told_paged}
 use Rattle.lisp_heap.proofs.heap.Heap.page_out.Goals as goal
 
 pub invariant_of-self : goal.invariant_of-self

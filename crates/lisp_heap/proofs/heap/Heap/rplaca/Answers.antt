@@ -1,8 +1,8 @@
 use Rattle.std.proofs.Common.{refl}
 use Rattle.lisp_graph.specs.declared.command.Command.TheVariants as C
-use Rattle.lisp_heap.proofs.Running.{lent_consistent, lent_runs}
-use Rattle.lisp_heap.proofs.Telling.{takes_by}
-use Rattle.lisp_heap.proofs.Transporting.{most_listed}
+use Rattle.lisp_heap.proofs.CommandRuns.{lent_consistent, lent_runs}
+use Rattle.lisp_heap.proofs.MemoryReports.{takes_by}
+use Rattle.lisp_heap.proofs.ScanTransports.{most_listed}
 use Rattle.lisp_heap.proofs.heap.Heap.rplaca.Goals as goal
 
 pub rplaca-answer-requires-clause-consistent : goal.rplaca-answer-requires-clause-consistent

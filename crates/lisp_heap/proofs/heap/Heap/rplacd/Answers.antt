@@ -1,9 +1,9 @@
 use Rattle.std.proofs.Common.{refl, ◌∙◌}
 use Rattle.std.proofs.lemmas.List.{with_items_is}
 use Rattle.lisp_graph.specs.declared.command.Command.TheVariants as C
-use Rattle.lisp_heap.proofs.Running.{lent_consistent, lent_runs}
-use Rattle.lisp_heap.proofs.Telling.{takes_by}
-use Rattle.lisp_heap.proofs.Transporting.{laid_listed}
+use Rattle.lisp_heap.proofs.CommandRuns.{lent_consistent, lent_runs}
+use Rattle.lisp_heap.proofs.MemoryReports.{takes_by}
+use Rattle.lisp_heap.proofs.ScanTransports.{laid_listed}
 use Rattle.lisp_heap.proofs.heap.Heap.rplacd.Goals as goal
 
 pub rplacd-answer-requires-clause-consistent : goal.rplacd-answer-requires-clause-consistent

@@ -1,4 +1,4 @@
-use Rattle.lisp_heap.proofs.Looking.{pages_looked}
+use Rattle.lisp_heap.proofs.HeapReads.{pages_looked}
 use Rattle.lisp_heap.proofs.heap.Heap.scan.Goals as goal
 
 pub returns-clause-pages : goal.returns-clause-pages

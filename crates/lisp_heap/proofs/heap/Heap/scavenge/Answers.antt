@@ -4,12 +4,12 @@ use Rattle.std.proofs.lemmas.List.{with_items_is}
 use Rattle.lisp_graph.specs.declared.command.Command.TheVariants as C
 use Rattle.lisp_heap.specs.HeapView.{HeapView, contents_at}
 use Rattle.lisp_heap.specs.Stands.{IsSound, Runs}
-use Rattle.lisp_heap.proofs.Listed.{standing}
-use Rattle.lisp_heap.proofs.Marked.{pages_marked}
-use Rattle.lisp_heap.proofs.Ordered.{up_to_listed}
-use Rattle.lisp_heap.proofs.Running.{step_runs}
-use Rattle.lisp_heap.proofs.Telling.{told_by}
-use Rattle.lisp_heap.proofs.Transporting.{most_listed}
+use Rattle.lisp_heap.proofs.ListedMemory.{standing}
+use Rattle.lisp_heap.proofs.PageMarks.{pages_marked}
+use Rattle.lisp_heap.proofs.ScanOrder.{up_to_listed}
+use Rattle.lisp_heap.proofs.CommandRuns.{step_runs}
+use Rattle.lisp_heap.proofs.MemoryReports.{told_by}
+use Rattle.lisp_heap.proofs.ScanTransports.{most_listed}
 use Rattle.lisp_heap.proofs.Units.{nothing_left, scanned_some, unfinished}
 use Rattle.lisp_heap.proofs.heap.Heap.scavenge.Given.{Over}
 use Rattle.lisp_heap.proofs.heap.Heap.scavenge.Goals.{After-assert_invariant}
@@ -24,16 +24,16 @@ new g c = contents_at c.scavenge-reply.new.ground c.scavenge-reply.new.scan c.sc
 
 -- the vector has the registers
 same : (g : Over) (c : After-assert_invariant g) → (with_items c.self.inside.registers c.scavenge-reply.new.registers).items ≡ c.scavenge-reply.new.registers
-same g c = with_items_is c.self.inside.registers c.scavenge-reply.new.registers (c.scavenge-reply.ensures.registers.count ∙ c.deref_mut.ensures.len)
+same g c = with_items_is c.self.inside.registers c.scavenge-reply.new.registers (c.scavenge-reply.ensures.goes_on.registers.count ∙ c.deref_mut.ensures.len)
 
 ran : (g : Over) (c : After-assert_invariant g) → IsSound (new g c) × Runs (old g c) (new g c) c.args.steps.now c.scavenge-reply.new.steps (C.Scavenge c.args.count) c.scavenge-reply.result
 ran g c =
     let x = c.scavenge-reply.ensures in
     step_runs (g.M.Memory.seen c.self.inside.ground.mem) (g.M.Memory.seen c.scavenge-reply.new.ground.mem) c.self.inside.ground.table c.scavenge-reply.new.ground.table c.self.inside.scan c.scavenge-reply.new.scan c.self.inside.registers.items c.scavenge-reply.new.registers
     c.self.inside.space _ _ _ _ _ _ c.args.steps.now c.scavenge-reply.new.steps (C.Scavenge c.args.count) c.scavenge-reply.result
-    c.self.invariant c.assert_invariant.ensures.1.marked tt refl (λ k s b is. x.step k s (rw (c.deref_mut.ensures.value) b)) (x.registers.count ∙ ap length c.deref_mut.ensures.value) x.table.form.regions
-    (told_by (old g c) (new g c) c.args.steps.now c.scavenge-reply.new.steps (C.Scavenge c.args.count) c.scavenge-reply.result x.accounted) (λ e. (x.goes_on.some, x.grows)) (λ done i is. absurd (cc (is)))
-    (pages_marked (g.M.Memory.seen c.self.inside.ground.mem) (g.M.Memory.seen c.scavenge-reply.new.ground.mem) c.self.inside.ground.table c.scavenge-reply.new.ground.table (C.Scavenge c.args.count) c.scavenge-reply.result x.table x.goes_on.marks) (λ none. absurd (cc (none)))
+    c.self.invariant c.assert_invariant.ensures.1.marked tt refl (λ k s b is. x.step k s (rw (c.deref_mut.ensures.value) b)) (x.goes_on.registers.count ∙ ap length c.deref_mut.ensures.value) x.goes_on.table.form.regions
+    (told_by (old g c) (new g c) c.args.steps.now c.scavenge-reply.new.steps (C.Scavenge c.args.count) c.scavenge-reply.result x.accounted) (λ e. (x.goes_on.some, x.goes_on.table.placed)) (λ done i is. absurd (cc (is)))
+    (pages_marked (g.M.Memory.seen c.self.inside.ground.mem) (g.M.Memory.seen c.scavenge-reply.new.ground.mem) c.self.inside.ground.table c.scavenge-reply.new.ground.table (C.Scavenge c.args.count) c.scavenge-reply.result x.goes_on.table x.goes_on.marks) (λ none. absurd (cc (none)))
 
 pub scavenge-reply-requires : goal.scavenge-reply-requires
 scavenge-reply-requires g c = record { represented = rw (c.deref_mut.ensures.value) (standing (g.M.Memory.seen c.self.inside.ground.mem) _ _ _ _ _ _ _ c.self.invariant) }
@@ -48,13 +48,13 @@ pub returns-clause-scans : goal.returns-clause-scans
 returns-clause-scans g c sure =
     let at = (goal.at.returns-clause-scans g c).After-assert_invariant in
     let x = c.scavenge-reply.ensures in
-    rw (same g at, ← c.self.view_is) (scanned_some (old g at) (new g at) c.self.invariant (ran g at).0 (x.unchanged sure) x.goes_on.over c.args.count x.goes_on.some (x.count sure))
+    rw (same g at, ← c.self.view_is) (scanned_some (old g at) (new g at) c.self.invariant (ran g at).0 (x.scans sure).begun x.goes_on.over c.args.count x.goes_on.some (x.scans sure).count)
 
 pub returns-clause-order : goal.returns-clause-order
 returns-clause-order g c sure running =
     let at = (goal.at.returns-clause-order g c).After-assert_invariant in
     let x = c.scavenge-reply.ensures in
-    rw (same g at, ← c.self.view_is, ← c.deref_mut.ensures.value) (up_to_listed (x.scans sure (subst (λ (h : HeapView). h.table.aim ≢ None) (sym c.self.view_is) running)))
+    rw (same g at, ← c.self.view_is, ← c.deref_mut.ensures.value) (up_to_listed ((x.scans sure).order (subst (λ (h : HeapView). h.table.aim ≢ None) (sym c.self.view_is) running)))
 
 pub returns-clause-going : goal.returns-clause-going
 returns-clause-going g c more =
@@ -70,7 +70,13 @@ pub returns-clause-units : goal.returns-clause-units
 returns-clause-units g c = rw (same g (goal.at.returns-clause-units g c).After-assert_invariant, ← c.self.view_is, ← c.deref_mut.ensures.value) c.scavenge-reply.ensures.goes_on.units
 
 pub returns-clause-placed : goal.returns-clause-placed
-returns-clause-placed g c = rw (← c.self.view_is) c.scavenge-reply.ensures.placed
+returns-clause-placed g c = rw (← c.self.view_is) c.scavenge-reply.ensures.goes_on.placed
 
 pub returns-clause-moves : goal.returns-clause-moves
 returns-clause-moves g c = rw (← c.self.view_is) (most_listed c.scavenge-reply.ensures.goes_on.moves)
+
+pub returns-clause-at_most : goal.returns-clause-at_most
+returns-clause-at_most g c sure = rw (← c.self.view_is) (c.scavenge-reply.ensures.scans sure).at_most
+
+pub returns-clause-cost : goal.returns-clause-cost
+returns-clause-cost g c sure = rw (← c.self.view_is) (c.scavenge-reply.ensures.scans sure).cost

@@ -2,9 +2,9 @@ use Rattle.std.proofs.Common.{◌<◌, false, length, refl, subst, sym}
 use Rattle.lisp_graph.specs.declared.command.Command.TheVariants as C
 use Rattle.lisp_graph.specs.declared.reply.Reply.TheVariants as R
 use Rattle.lisp_heap.specs.HeapView.{HeapView}
-use Rattle.lisp_heap.proofs.Running.{performs_runs}
-use Rattle.lisp_heap.proofs.Telling.{nothing_asked}
-use Rattle.lisp_heap.proofs.Setting.{plain_allowed, set_performs}
+use Rattle.lisp_heap.proofs.CommandRuns.{performs_runs}
+use Rattle.lisp_heap.proofs.MemoryReports.{nothing_asked}
+use Rattle.lisp_heap.proofs.PlainValues.{plain_allowed, set_performs}
 use Rattle.lisp_heap.proofs.heap.Heap.set.Goals as goal
 
 pub invariant_of-self : goal.invariant_of-self

@@ -1,5 +1,5 @@
 use Rattle.std.proofs.Common.{sym, ◌∙◌}
-use Rattle.lisp_heap.proofs.Looking.{clean_looked}
+use Rattle.lisp_heap.proofs.HeapReads.{clean_looked}
 use Rattle.lisp_heap.proofs.Units.{nothing_left}
 use Rattle.lisp_heap.proofs.heap.Heap.units_left.Goals as goal
 

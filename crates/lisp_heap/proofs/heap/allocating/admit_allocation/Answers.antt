@@ -1,13 +1,14 @@
-use Rattle.std.proofs.Common.{◌∙◌, length, ap, subst}
+use Rattle.std.proofs.Common.{◌∙◌, ap, subst}
 use Rattle.area_space.specs.View.{view}
-use Rattle.heap_collect.proofs.Admitted.{prepared_goes}
+use Rattle.heap_collect.proofs.Admissions.{prepared_goes}
 use Rattle.word_graph.specs.lisp_meaning.State.{new_level}
 use Rattle.lisp_heap.specs.Admits.{Admits, Prepares}
 use Rattle.lisp_heap.specs.HeapView.{contents_at, counted}
 use Rattle.lisp_heap.specs.Costs.{IsRefused}
-use Rattle.lisp_heap.proofs.Admitting.{admitted_parts, prepared_parts}
-use Rattle.lisp_heap.proofs.Allocating.{area_ahead, area_prepared, consistent_ahead, costs_nothing, kind_is, level_ahead, refused_runs, refused_undone, refused_unmade, standing_prepared, stands_in}
-use Rattle.lisp_heap.proofs.Telling.{told_behind}
+use Rattle.lisp_heap.proofs.Admissions.{admitted_parts, prepared_parts}
+use Rattle.lisp_heap.proofs.Allocations.{area_ahead, area_prepared, consistent_ahead, costs_nothing, kind_is, level_ahead, refused_runs, refused_undone, refused_unmade, standing_prepared, stands_in}
+use Rattle.lisp_heap.proofs.AllocationMoments.{prepared}
+use Rattle.lisp_heap.proofs.MemoryReports.{told_behind}
 use Rattle.lisp_heap.proofs.heap.allocating.admit_allocation.Given.{Over}
 use Rattle.lisp_heap.proofs.heap.allocating.admit_allocation.Goals.{After-take_silent_steps, In-Ok}
 use Rattle.lisp_heap.proofs.heap.allocating.admit_allocation.Goals as goal
@@ -16,22 +17,7 @@ use Rattle.lisp_heap.proofs.heap.allocating.admit_allocation.Goals as goal
 abbrev silent : (g : Over) (c : After-take_silent_steps g) → Prepares (view c.args.ground.now) c.args.scan.now c.args.space.now (g.M.Memory.resident c.args.ground.now.mem)
 silent g c =
     let x = c.take_silent_steps.ensures in
-    record {
-      ground = view c.take_silent_steps.new.ground;
-      begun = c.take_silent_steps.new.scan;
-      silent = x.step;
-      frees = x.at_most;
-      done = x.done;
-      placed = x.placed;
-      still = x.unchanged;
-      regions = x.regions;
-      faults = x.no_fault;
-      taken = x.taken;
-      memory = λ never. ap g.M.Memory.seen (x.memory never);
-      rests = λ never still. ap (λ ground. ground.table) (x.end never still);
-      begins = x.begins;
-      resident = ap length x.resident;
-    }
+    prepared c.args.ground.now c.take_silent_steps.new.ground x.step x.memory x.end x.resident
 
 -- the room for the new object
 there : (g : Over) (c : In-Ok g) → Admits (view c.args.ground.now) (view c.admit.new.ground) c.args.scan.now c.admit.new.scan c.args.registers.now c.admit.new.registers c.args.space.now (g.M.Memory.resident c.args.ground.now.mem) c.args.area c.args.charge c.args.steps.now c.admit.new.steps c.new_level-level.result
@@ -39,18 +25,11 @@ there g c =
     let x = c.in-Ok.ensures in
     record {
       first = silent g (goal.at.In-Ok g c).After-take_silent_steps;
-      ahead = x.step;
+      units = x.ok;
+      on = x.goes_on;
       left = x.left;
       level_is = λ s are. c.new_level-level.ensures ∙ ap new_level (kind_is c.kinds.result.now s.areas c.args.area (c.kinds.ensures.value ∙ are));
-      scans = x.scans;
       idle = λ none. (let y = x.idle none in (ap view y.0, y.1, y.2));
-      amount = x.count;
-      same = x.unchanged;
-      on = x.goes_on;
-      preserved = x.registers;
-      table = x.table;
-      few = x.at_most;
-      cost = x.cost;
       tells = x.accounted;
     }
 
@@ -81,13 +60,13 @@ returns-in-Err-clause-err g c command all allowed may wants =
     let x = c.in-Err.ensures in
     let p = silent g (goal.at.returns-in-Err-clause-err g c).After-take_silent_steps in
     let ran = refused_runs (prepared_parts c.args.ground.now p c.requires.sound c.requires.area) (g.M.Memory.seen c.admit.new.ground.mem) c.admit.new.ground.table c.admit.new.scan c.admit.new.registers c.args.steps.now c.admit.new.steps command c.in-Err.reply c.args.charge (g.M.Memory.faults c.admit.new.ground.mem) (g.M.Memory.resident c.admit.new.ground.mem) (counted g.M.Memory c.admit.new.ground.mem)
-    all allowed may wants x.refused prepared_goes c.assert_invariant.ensures.1.marked x.registers x.regions
-    (told_behind (contents_at c.args.ground.now c.args.scan.now c.args.registers.now c.args.space.now) (contents_at c.admit.new.ground c.admit.new.scan c.admit.new.registers c.args.space.now) p.ground.mem c.args.steps.now c.admit.new.steps command c.in-Err.reply all p.faults p.taken p.resident x.accounted)
-    x.goes_on.some x.grows x.table x.goes_on.marks (refused_undone c.in-Err.reply _ _ _ _ (λ e. (x.err e).0)) in
+    all allowed may wants x.refused prepared_goes c.assert_invariant.ensures.1.marked x.goes_on.registers x.goes_on.table.form.regions
+    (told_behind (contents_at c.args.ground.now c.args.scan.now c.args.registers.now c.args.space.now) (contents_at c.admit.new.ground c.admit.new.scan c.admit.new.registers c.args.space.now) p.ground.mem c.args.steps.now c.admit.new.steps command c.in-Err.reply all p.silent.faults p.silent.taken p.resident x.accounted)
+    x.goes_on.some x.goes_on.table.placed x.goes_on.table x.goes_on.marks (refused_undone c.in-Err.reply _ _ _ _ (λ e. (x.err e).0)) in
     record {
       sound = ran.0;
       runs = ran.1;
       refused = λ refused. (let same = x.err (λ e. subst IsRefused e refused) in
-          costs_nothing _ _ p.begun p.ground.table.placed c.args.steps.now c.admit.new.steps p.done p.placed same.2 (ap (λ w. w.table.placed) same.1) same.4);
+          costs_nothing _ _ p.begun p.ground.table.placed c.args.steps.now c.admit.new.steps p.silent.done p.silent.placed same.2 (ap (λ w. w.table.placed) same.1) same.4);
       unmade = refused_unmade c.in-Err.reply _ _ _ _ (λ e. (x.err e).0);
     }

@@ -5,7 +5,7 @@ use Rattle.lisp_graph.specs.declared.world.AreaRule.{AreaRule}
 use Rattle.world_text.specs.Dump.{IsDump}
 use Rattle.lisp_heap.specs.HeapView.{HeapView}
 use Rattle.lisp_heap.specs.Walking.{graph_in}
-use Rattle.lisp_heap.proofs.Dumping.{begins, ends}
+use Rattle.lisp_heap.proofs.HeapDumps.{begins, ends}
 use Rattle.lisp_heap.proofs.heap.dumping.dump_from.Goals as goal
 
 pub invariant_of-walked : goal.invariant_of-walked

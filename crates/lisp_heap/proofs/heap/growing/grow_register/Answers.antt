@@ -2,14 +2,14 @@ use Rattle.std.proofs.Common.{◌*◌, refl, sym, ◌∙◌, subst, get_or, arit
 use Rattle.store_word.specs.Words.{null_word}
 use Rattle.lisp_graph.specs.declared.command.Command.TheVariants as C
 use Rattle.area_space.specs.View.{view}
-use Rattle.heap_state.proofs.transporter.Alive.{grows-then}
-use Rattle.heap_state.proofs.transporter.Marked.{marks-then}
+use Rattle.heap_state.proofs.transporter.LiveObjects.{grows-then}
+use Rattle.heap_state.proofs.transporter.PageMarks.{marks-then}
 use Rattle.heap_commands.specs.Views.{MarksMade}
 use Rattle.heap_commands.proofs.NewMarks.{made_after}
 use Rattle.lisp_heap.specs.Costs.{IsRefused, LookCosts, Spends}
 use Rattle.lisp_heap.specs.Growth.{LooksAndWidens}
-use Rattle.lisp_heap.proofs.Growing.{answered_sure, consistent_now, looked, looks_refused, none_wanted, same_charge, some_wanted, spends_looked, standing_looked}
-use Rattle.lisp_heap.proofs.Telling.{tells_then}
+use Rattle.lisp_heap.proofs.BlockGrowth.{answered_sure, consistent_now, looked, looks_refused, none_wanted, same_charge, some_wanted, spends_looked, standing_looked}
+use Rattle.lisp_heap.proofs.MemoryReports.{tells_then}
 use Rattle.lisp_heap.proofs.heap.growing.grow_register.Goals as goal
 
 pub find_growing-found-requires-clause-consistent : goal.find_growing-found-requires-clause-consistent

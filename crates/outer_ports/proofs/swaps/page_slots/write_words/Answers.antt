@@ -1,5 +1,5 @@
 use Rattle.std.proofs.Common.{arith}
-use Rattle.outer_ports.proofs.Stored.{fills_part}
+use Rattle.outer_ports.proofs.PageWords.{fills_part}
 use Rattle.outer_ports.proofs.swaps.page_slots.write_words.Goals as goal
 
 pub returns : goal.returns

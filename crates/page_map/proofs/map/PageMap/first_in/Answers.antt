@@ -1,4 +1,4 @@
-use Rattle.page_map.proofs.Keeping.{map_sound, there_if_listed}
+use Rattle.page_map.proofs.MapInvariant.{map_sound, there_if_listed}
 use Rattle.page_map.proofs.map.PageMap.first_in.Goals as goal
 
 pub returns-clause-some : goal.returns-clause-some

@@ -1,4 +1,4 @@
-use Rattle.page_map.proofs.Keeping.{map_sound}
+use Rattle.page_map.proofs.MapInvariant.{map_sound}
 use Rattle.page_map.proofs.map.PageMap.place_of.Goals as goal
 
 pub returns-clause-sound : goal.returns-clause-sound

@@ -1,6 +1,6 @@
 use Rattle.std.proofs.Common.{sym, ◌∙◌}
 use Rattle.page_map.proofs.Buckets.{empty_true}
-use Rattle.page_map.proofs.Keeping.{map_sound, set_kept}
+use Rattle.page_map.proofs.MapInvariant.{map_sound, set_kept}
 use Rattle.page_map.proofs.map.PageMap.set.Goals as goal
 
 pub relist-requires-clause-free : goal.relist-requires-clause-free

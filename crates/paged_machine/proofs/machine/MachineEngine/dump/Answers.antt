@@ -2,7 +2,7 @@ use Rattle.std.proofs.Common.{◌≡◌, Some, sym, ◌∙◌, ap, Option}
 use Rattle.paged_machine.specs.Holding.{Holding, holding}
 use Rattle.paged_machine.specs.declared.machine.MachineStage.{MachineStage}
 use Rattle.paged_machine.specs.declared.machine.MachineStage.TheVariants.{Heap}
-use Rattle.paged_machine.proofs.Openable.{stands_on}
+use Rattle.paged_machine.proofs.OpenableWorlds.{stands_on}
 use Rattle.paged_machine.proofs.machine.MachineEngine.dump.Goals as goal
 
 pub returns-clause-stands : goal.returns-clause-stands

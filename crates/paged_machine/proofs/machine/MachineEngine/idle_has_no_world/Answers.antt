@@ -1,4 +1,4 @@
-use Rattle.paged_machine.proofs.Openable.{idle_bare}
+use Rattle.paged_machine.proofs.OpenableWorlds.{idle_bare}
 use Rattle.paged_machine.proofs.machine.MachineEngine.idle_has_no_world.Goals as goal
 
 pub returns : goal.returns

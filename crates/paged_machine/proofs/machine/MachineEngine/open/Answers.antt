@@ -1,5 +1,5 @@
 use Rattle.std.proofs.Common.{Ok}
-use Rattle.paged_machine.proofs.Openable.{takes_on}
+use Rattle.paged_machine.proofs.OpenableWorlds.{takes_on}
 use Rattle.paged_machine.proofs.machine.MachineEngine.open.Goals as goal
 
 pub returns-in-Ok-load_world-clause-takes : goal.returns-in-Ok-load_world-clause-takes

@@ -5,7 +5,7 @@ use Rattle.paged_memory.specs.Paging.{resident_of}
 use Rattle.paged_memory.specs.Order.{UsesEach}
 use Rattle.paged_memory.specs.Moves.{paging_of}
 use Rattle.paged_memory.proofs.Chains.{stops_among, uses_each_push}
-use Rattle.paged_memory.proofs.Recents.{held_more, recent_in}
+use Rattle.paged_memory.proofs.RecentPages.{held_more, recent_in}
 use Rattle.paged_memory.proofs.Residents.{uses_room}
 use Rattle.paged_memory.proofs.Words.{page_in}
 use Rattle.paged_memory.proofs.memory.PagedMemoryMemory.hold.Goals as goal

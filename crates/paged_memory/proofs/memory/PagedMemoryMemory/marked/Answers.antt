@@ -1,6 +1,6 @@
 use Rattle.std.proofs.Common.{sym}
 use Rattle.paged_memory.specs.Moves.{paging_of}
-use Rattle.paged_memory.proofs.Storing.{frame_in}
+use Rattle.paged_memory.proofs.FrameAccess.{frame_in}
 use Rattle.paged_memory.proofs.Words.{page_in}
 use Rattle.paged_memory.proofs.memory.PagedMemoryMemory.marked.Goals as goal
 

@@ -5,7 +5,7 @@ use Rattle.ref_table.specs.Sets.{set_at}
 use Rattle.frame_pool.specs.Pool.{frames_of}
 use Rattle.paged_memory.specs.Marking.{HasTag, IsFirst}
 use Rattle.paged_memory.specs.Moves.{paging_of}
-use Rattle.paged_memory.proofs.Firsts.{first_row, first_lower, first_marked, first_marked_row, first_found, first_lowest, first_none}
+use Rattle.paged_memory.proofs.LowestPages.{first_row, first_lower, first_marked, first_marked_row, first_found, first_lowest, first_none}
 use Rattle.paged_memory.proofs.memory.PagedMemoryMemory.next_marked.Goals as goal
 
 pub returns-then-not-tag_meets-clause-found : goal.returns-then-not-tag_meets-clause-found

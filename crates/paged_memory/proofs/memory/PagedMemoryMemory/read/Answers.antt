@@ -1,10 +1,9 @@
-use Rattle.std.proofs.Common.{true, false, ◌≡◌, ◌∙◌, ◌<◌, ◌/◌, ◌%◌, List, slice_get, length, refl, sym, ap, arith}
-use Rattle.std.proofs.lemmas.Option.{slice_get_read}
+use Rattle.std.proofs.Common.{true, false, ◌≡◌, ◌∙◌, ◌/◌, List, slice_get, sym, ap, arith}
 use Rattle.store_word.specs.Words.{Parts}
 use Rattle.paged_memory.specs.Moves.{paging_of}
-use Rattle.paged_memory.proofs.Recents.{used_kept}
+use Rattle.paged_memory.proofs.RecentPages.{used_kept}
 use Rattle.paged_memory.proofs.Residents.{uses_room}
-use Rattle.paged_memory.proofs.Storing.{frame_in, read_framed}
+use Rattle.paged_memory.proofs.FrameAccess.{frame_in, read_framed}
 use Rattle.paged_memory.proofs.Words.{inside_of, page_inside}
 use Rattle.paged_memory.proofs.memory.PagedMemoryMemory.read.Goals as goal
 
@@ -14,18 +13,16 @@ use_page-requires-clause-in_range g c = page_inside (paging_of c.self.inside.pag
 pub returns-in_err-frame-clause-succeeds : goal.returns-in_err-frame-clause-succeeds
 returns-in_err-frame-clause-succeeds g c = rw (← c.self.view_is) (λ m. let bad : false ≡ true = c.in_err-frame.ensures.succeeds m in absurd (cc))
 
-pub words-words-requires : goal.words-words-requires
-words-words-requires g c = frame_in _ _ (c.args.at / 256) c.in_ok-frame.frame c.in_ok-frame.ensures.stays_held.paged c.in_ok-frame.ensures.placed
+pub word-requires-clause-frame : goal.word-requires-clause-frame
+word-requires-clause-frame g c = frame_in _ _ (c.args.at / 256) c.in_ok-frame.frame c.in_ok-frame.ensures.stays_held.paged c.in_ok-frame.ensures.placed
 
 pub returns-clause-value : goal.returns-clause-value
 returns-clause-value g c =
     let low = inside_of (paging_of c.self.inside.pager) (g.D.Swap.stored c.self.inside.swap) c.args.at (rw (← c.self.view_is) at c.requires) in
     let k = c.in_ok-frame.ensures.stays_held in
     let size = k.size in
-    let off : c.args.at % 256 < length c.words-words.result.now = omega (arith, c.words-words.ensures.size) in
     rw (← c.self.view_is) (ap (λ (ws : List Parts). slice_get ws c.args.at) (sym k.stays.words)
-    ∙ read_framed _ _ c.words-words.result.now c.args.at c.in_ok-frame.frame (omega (arith, low, size)) c.in_ok-frame.ensures.placed k.paged c.words-words.ensures.words
-    ∙ slice_get_read c.words-words.result.now (length c.words-words.result.now) (c.args.at % 256) _ refl off c.index-words-at.is)
+    ∙ read_framed (paging_of c.use_page.new.self) (g.D.Swap.stored c.use_page.new.swap) c.args.at c.in_ok-frame.frame c.word.result (omega (arith, low, size)) c.in_ok-frame.ensures.placed c.word.ensures.value)
 
 pub returns-clause-stays_held : goal.returns-clause-stays_held
 returns-clause-stays_held g c = rw (← c.self.view_is) (used_kept _ _ _ _ c.in_ok-frame.ensures.uses.order)

@@ -1,18 +1,17 @@
-use Rattle.std.proofs.Common.{◌∙◌, ◌<◌, ◌%◌, ◌/◌, Some, length, refl, sym, ap, arith}
-use Rattle.std.proofs.lemmas.Option.{slice_get_read}
+use Rattle.std.proofs.Common.{◌∙◌, ◌/◌, Some, sym, ap}
 use Rattle.store_word.specs.Words.{Parts}
 use Rattle.page_map.specs.declared.place.PagePlace.{PagePlace}
 use Rattle.paged_memory.specs.Paging.{word_in}
 use Rattle.paged_memory.specs.Moves.{paging_of}
-use Rattle.paged_memory.proofs.Storing.{frame_in, read_framed}
+use Rattle.paged_memory.proofs.FrameAccess.{frame_in, read_framed}
 use Rattle.paged_memory.proofs.Words.{inside_of, page_inside, swapped_read, words_get}
 use Rattle.paged_memory.proofs.paged.PagedMemory+SwapMemory.peek.Goals as goal
 
 pub place_of-requires : goal.place_of-requires
 place_of-requires c = page_inside (paging_of c.self.inside.pager) c.self.inside.swap.stored c.args.at (rw (← c.self.view_is) at c.requires)
 
-pub words-requires : goal.words-requires
-words-requires c = frame_in _ _ (c.args.at / 256) c.in-InFrame.frame c.self.invariant.0 (sym c.in-InFrame.ensures.place)
+pub word-requires-clause-frame : goal.word-requires-clause-frame
+word-requires-clause-frame c = frame_in _ _ (c.args.at / 256) c.in-InFrame.frame c.self.invariant.0 (sym c.in-InFrame.ensures.place)
 
 pub returns-in-Empty : goal.returns-in-Empty
 returns-in-Empty c =
@@ -26,9 +25,7 @@ pub returns-in-InFrame : goal.returns-in-InFrame
 returns-in-InFrame c =
     let p = paging_of c.self.inside.pager in
     let low = inside_of p c.self.inside.swap.stored c.args.at (rw (← c.self.view_is) at c.requires) in
-    let off : c.args.at % 256 < length c.words.result.now = omega (arith, c.words.ensures.size) in
-    rw (← c.self.view_is) (read_framed p _ c.words.result.now c.args.at c.in-InFrame.frame low (sym c.in-InFrame.ensures.place) c.self.invariant.0 c.words.ensures.words
-    ∙ slice_get_read c.words.result.now (length c.words.result.now) (c.args.at % 256) _ refl off c.index-words-at.is)
+    rw (← c.self.view_is) (read_framed p _ c.args.at c.in-InFrame.frame c.word.result low (sym c.in-InFrame.ensures.place) c.word.ensures.value)
 
 pub returns-in-Swapped : goal.returns-in-Swapped
 returns-in-Swapped c =

@@ -1,5 +1,5 @@
 use Rattle.paged_memory.specs.Moves.{paging_of}
-use Rattle.paged_memory.proofs.Nexts.{resident_once}
+use Rattle.paged_memory.proofs.NextPages.{resident_once}
 use Rattle.paged_memory.proofs.paged.PagedMemory.frames.Goals as goal
 
 pub returns-clause-sound : goal.returns-clause-sound

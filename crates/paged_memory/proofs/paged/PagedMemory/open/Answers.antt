@@ -2,7 +2,7 @@ use Rattle.std.proofs.Common.{◌≡◌, ◌*◌, ap, sym, ◌∙◌, arith}
 use Rattle.std.specs.Prelude.{replicate}
 use Rattle.store_word.specs.Words.{null_word}
 use Rattle.paged_memory.specs.Moves.{paging_of}
-use Rattle.paged_memory.proofs.Opening.{IsNew, new_paged, new_frames, new_fresh}
+use Rattle.paged_memory.proofs.NewMemory.{IsNew, new_paged, new_frames, new_fresh}
 use Rattle.paged_memory.proofs.paged.PagedMemory.open.Given.{Over}
 use Rattle.paged_memory.proofs.paged.PagedMemory.open.Goals.{In-Ok-prepare}
 use Rattle.paged_memory.proofs.paged.PagedMemory.open.Goals as goal

@@ -1,6 +1,6 @@
 use Rattle.std.proofs.Common.{refl, sym, ◌∙◌}
 use Rattle.paged_memory.specs.Moves.{paging_of}
-use Rattle.paged_memory.proofs.Pools.{resident_place, resident_framed}
+use Rattle.paged_memory.proofs.FrameChanges.{resident_place, resident_framed}
 use Rattle.paged_memory.proofs.paged.PagedMemory.resident.Goals as goal
 
 pub returns-in-InFrame : goal.returns-in-InFrame

@@ -1,7 +1,7 @@
 use Rattle.std.proofs.Common.{eqb, not, ap, ◌∙◌}
 use Rattle.paged_memory.specs.Moves.{paging_of}
 use Rattle.paged_memory.proofs.Places.{swapped_inside}
-use Rattle.paged_memory.proofs.In.{brings_back, in_keeps, in_comes}
+use Rattle.paged_memory.proofs.PageArrivals.{brings_back, in_keeps, in_comes}
 use Rattle.paged_memory.proofs.pager.Pager.bring_back.Goals as goal
 
 pub returns-clause-preserves : goal.returns-clause-preserves

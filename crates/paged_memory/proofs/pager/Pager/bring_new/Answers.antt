@@ -1,6 +1,6 @@
 use Rattle.std.proofs.Common.{false}
 use Rattle.paged_memory.specs.Moves.{paging_of}
-use Rattle.paged_memory.proofs.In.{brings_new, in_keeps, in_comes}
+use Rattle.paged_memory.proofs.PageArrivals.{brings_new, in_keeps, in_comes}
 use Rattle.paged_memory.proofs.pager.Pager.bring_new.Goals as goal
 
 pub returns-clause-stays_held : goal.returns-clause-stays_held

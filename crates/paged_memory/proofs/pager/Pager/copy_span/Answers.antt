@@ -2,8 +2,8 @@ use Rattle.std.proofs.Common.{◌/◌, length, refl, ap, arith}
 use Rattle.frame_pool.specs.Pool.{Pool}
 use Rattle.paged_memory.specs.Moves.{paging_of}
 use Rattle.paged_memory.specs.Paging.{Paging}
-use Rattle.paged_memory.proofs.Storing.{frame_in}
-use Rattle.paged_memory.proofs.Spanning.{used_by, copied_on}
+use Rattle.paged_memory.proofs.FrameAccess.{frame_in}
+use Rattle.paged_memory.proofs.SpanStores.{used_by, copied_on}
 use Rattle.paged_memory.proofs.pager.Pager.copy_span.Goals as goal
 
 pub use_resident-to_frame-requires-clause-paged : goal.use_resident-to_frame-requires-clause-paged
@@ -45,6 +45,6 @@ pub returns : goal.returns
 returns c = λ stored h.
     let used = c.use_resident-from_frame.ensures in
     let next = c.use_resident-to_frame.ensures in
-    copied_on (paging_of c.args.self.now) (paging_of c.use_resident-from_frame.new.self) (paging_of c.use_resident-to_frame.new.self) (paging_of c.tag_span.new.self) stored c.copy_words.new.self c.use_resident-to_frame.new.self.levels.items
+    copied_on (paging_of c.args.self.now) (paging_of c.use_resident-from_frame.new.self) (paging_of c.use_resident-to_frame.new.self) (paging_of c.tag_span.new.self) stored c.copy_words.new.self c.use_resident-to_frame.new.self.levels
     c.use_resident-from_frame.result c.use_resident-to_frame.result c.args.from c.args.to c.args.count c.tag_span.ensures.marks.0 h c.requires.from_page c.requires.to_page
     used.frame used.after used.sound next.frame next.after next.sound c.copy_words.ensures.words c.copy_words.ensures.unchanged refl c.tag_span.ensures.marks.1 c.tag_span.ensures.sound c.tag_span.ensures.unchanged

@@ -1,6 +1,6 @@
 use Rattle.std.proofs.Common.{sym}
 use Rattle.paged_memory.specs.Moves.{paging_of}
-use Rattle.paged_memory.proofs.Emptying.{frame_empties, swapped_empties, stays_empty}
+use Rattle.paged_memory.proofs.EmptyPages.{frame_empties, swapped_empties, stays_empty}
 use Rattle.paged_memory.proofs.pager.Pager.empty_page.Goals as goal
 
 pub returns-in-InFrame : goal.returns-in-InFrame

@@ -1,7 +1,7 @@
 use Rattle.std.proofs.Common.{◌∙◌}
-use Rattle.frame_pool.proofs.index_lists.Callers.{Contains-first}
+use Rattle.frame_pool.proofs.index_lists.ListUpdates.{Contains-first}
 use Rattle.paged_memory.specs.Moves.{paging_of}
-use Rattle.paged_memory.proofs.Out.{puts_out, out_keeps, out_goes, tagged_on}
+use Rattle.paged_memory.proofs.Evictions.{puts_out, out_keeps, out_goes, tagged_on}
 use Rattle.paged_memory.proofs.pager.Pager.evict.Goals as goal
 
 pub page_of-requires : goal.page_of-requires
@@ -13,7 +13,7 @@ words-words-requires g c = c.requires.paged.pool.used_in c.args.frame (Contains-
 pub returns-clause-preserves : goal.returns-clause-preserves
 returns-clause-preserves g c =
     let used = Contains-first _ _ c.requires.agrees in
-    let levels = rw c.deref.ensures.value at c.levels_of-set.ensures in
+    let levels = rw c.all.ensures at c.levels_of-set.ensures in
     out_keeps _ _ _ _ c.args.frame c.in-Some.page c.requires.paged
     (puts_out (paging_of c.args.self.now) _ _ c.words-words.result.now c.give_back.new.self c.set.new.self c.note.new.self c.args.frame c.in-Some.page c.levels_of-set.result c.requires.paged used c.in-Some.ensures.page.1
     c.words-words.ensures.size c.words-words.ensures.words c.in_ok-write_page.ensures.ok levels c.note.ensures.sets c.give_back.ensures.given c.give_back.ensures.sound c.set.ensures.placed)
@@ -21,7 +21,7 @@ returns-clause-preserves g c =
 pub returns-clause-resident : goal.returns-clause-resident
 returns-clause-resident g c =
     let used = Contains-first _ _ c.requires.agrees in
-    let levels = rw c.deref.ensures.value at c.levels_of-set.ensures in
+    let levels = rw c.all.ensures at c.levels_of-set.ensures in
     rw (← c.in-Some.ensures.page.1) (out_goes _ _ _ _ c.args.frame c.in-Some.page c.requires.paged
     (puts_out (paging_of c.args.self.now) _ _ c.words-words.result.now c.give_back.new.self c.set.new.self c.note.new.self c.args.frame c.in-Some.page c.levels_of-set.result c.requires.paged used c.in-Some.ensures.page.1
     c.words-words.ensures.size c.words-words.ensures.words c.in_ok-write_page.ensures.ok levels c.note.ensures.sets c.give_back.ensures.given c.give_back.ensures.sound c.set.ensures.placed) c.requires.agrees)
@@ -32,4 +32,4 @@ tagged-requires g c = c.requires.paged.pool.used_in c.args.frame (Contains-first
 pub levels_of-set-requires-clause-marks : goal.levels_of-set-requires-clause-marks
 levels_of-set-requires-clause-marks g c = λ l pos has.
     let there = (c.requires.paged.taken c.args.frame (Contains-first _ _ c.requires.agrees)).1 in
-    c.tagged.ensures.value ∙ tagged_on (paging_of c.args.self.now) _ c.words-words.result.now c.args.frame _ l c.requires.paged there c.words-words.ensures.size c.words-words.ensures.words pos (rw c.deref.ensures.value at has)
+    c.tagged.ensures.value ∙ tagged_on (paging_of c.args.self.now) _ c.words-words.result.now c.args.frame _ l c.requires.paged there c.words-words.ensures.size c.words-words.ensures.words pos (rw c.all.ensures at has)

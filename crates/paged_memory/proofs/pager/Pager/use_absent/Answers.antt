@@ -2,7 +2,7 @@ use Rattle.std.proofs.Common.{sym, subst, ◌∙◌, rules}
 use Rattle.paged_memory.specs.Order.{Stops}
 use Rattle.paged_memory.specs.Moves.{paging_of}
 use Rattle.paged_memory.proofs.Places.{swapped_framed, empty_framed}
-use Rattle.paged_memory.proofs.Pools.{resident_place}
+use Rattle.paged_memory.proofs.FrameChanges.{resident_place}
 use Rattle.paged_memory.proofs.Uses.{room_stops, room_uses, room_place}
 use Rattle.paged_memory.proofs.pager.Pager.use_absent.Goals as goal
 

@@ -1,7 +1,7 @@
 use Rattle.std.proofs.Common.{sym, ◌∙◌}
 use Rattle.paged_memory.specs.Moves.{paging_of}
 use Rattle.paged_memory.proofs.Places.{framed_inside}
-use Rattle.paged_memory.proofs.Pools.{resident_place}
+use Rattle.paged_memory.proofs.FrameChanges.{resident_place}
 use Rattle.paged_memory.proofs.pager.Pager.use_resident.Goals as goal
 
 pub place_of-requires : goal.place_of-requires

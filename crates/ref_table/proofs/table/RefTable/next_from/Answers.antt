@@ -1,5 +1,5 @@
 use Rattle.std.proofs.Common.{length}
-use Rattle.ref_table.proofs.Finds.{found_matches, found_lowest, found_none}
+use Rattle.ref_table.proofs.SearchResults.{found_matches, found_lowest, found_none}
 use Rattle.ref_table.proofs.Rows.{low_of}
 use Rattle.ref_table.proofs.Searches.{found_next}
 use Rattle.ref_table.proofs.table.RefTable.next_from.Goals as goal

@@ -1,6 +1,6 @@
 use Rattle.std.proofs.Common.{sym, ◌∙◌, arith}
 use Rattle.std.proofs.lemmas.Bool.{cond-true, cond-false, not-true, not-false}
-use Rattle.ref_table.proofs.Indexing.{node_is}
+use Rattle.ref_table.proofs.TreeIndex.{node_is}
 use Rattle.ref_table.proofs.Invariant.{kept_indexed, node_read}
 use Rattle.ref_table.proofs.table.RefTable.node.Goals as goal
 

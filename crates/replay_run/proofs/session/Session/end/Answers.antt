@@ -3,7 +3,7 @@ use Rattle.std.proofs.lemmas.List.{append-nil}
 use Rattle.line_input.specs.Statuses.{trouble_line}
 use Rattle.replay_run.specs.declared.session.SessionState.TheVariants.{Open}
 use Rattle.replay_run.specs.Session.{Does, DoesIn, GoesOn, Seen, trouble_of}
-use Rattle.replay_run.proofs.Feeding.{end_early, end_whole}
+use Rattle.replay_run.proofs.SessionLines.{end_early, end_whole}
 use Rattle.replay_run.proofs.session.Session.end.Goals.{in-Ok, in-Err}
 use Rattle.replay_run.proofs.session.Session.end.Goals as goal
 

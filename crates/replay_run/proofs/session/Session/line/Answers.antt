@@ -6,7 +6,7 @@ use Rattle.line_input.specs.Statuses.{trouble_line}
 use Rattle.replay_run.specs.declared.session.SessionState.TheVariants.{Open}
 use Rattle.replay_run.specs.Session.{Does, DoesIn, GoesOn, Seen, fed_of, trouble_of}
 use Rattle.replay_run.proofs.Events.{is_in}
-use Rattle.replay_run.proofs.Feeding.{going_of, line_goes, line_halted, line_refused}
+use Rattle.replay_run.proofs.SessionLines.{going_of, line_goes, line_halted, line_refused}
 use Rattle.replay_run.proofs.session.Session.line.Goals as goal
 
 -- what holds of an open session

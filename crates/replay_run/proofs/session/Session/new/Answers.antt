@@ -1,6 +1,6 @@
 use Rattle.std.proofs.Common.{◌∙◌, [], ap}
 use Rattle.line_input.specs.Verdict.{start}
-use Rattle.replay_run.proofs.Feeding.{goes_on_start}
+use Rattle.replay_run.proofs.SessionLines.{goes_on_start}
 use Rattle.replay_run.proofs.session.Session.new.Goals as goal
 
 pub invariant_of-result : goal.invariant_of-result

@@ -3,8 +3,8 @@ use Rattle.scavenger.specs.declared.scan_set.Unit.TheVariants.{Word}
 use Rattle.scavenger.specs.Scan.{Scan}
 use Rattle.scavenger.specs.Left.{IsPaged, next_of}
 use Rattle.scavenger.specs.Scanning.{EndsPage, page_done}
-use Rattle.scavenger.proofs.Ending.{ended-paged}
-use Rattle.scavenger.proofs.Near.{left-closed, left-next}
+use Rattle.scavenger.proofs.PageEnds.{ended-paged}
+use Rattle.scavenger.proofs.UnfinishedPages.{left-closed, left-next}
 use Rattle.scavenger.proofs.scan_set.ScanSet.advance_word.Goals as goal
 
 pub end_page-requires-clause-pages : goal.end_page-requires-clause-pages

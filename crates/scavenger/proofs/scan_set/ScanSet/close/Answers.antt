@@ -4,8 +4,8 @@ use Rattle.area_space.specs.index_lists.Chains.{first_of}
 use Rattle.area_space.specs.PageList.{PageList}
 use Rattle.scavenger.specs.Scan.{Scan}
 use Rattle.scavenger.specs.Left.{is_none, next_of}
-use Rattle.scavenger.proofs.Closing.{over-by-set}
-use Rattle.scavenger.proofs.Nexts.{opened, register-some}
+use Rattle.scavenger.proofs.ScanEnd.{over-by-set}
+use Rattle.scavenger.proofs.NextUnits.{opened, register-some}
 use Rattle.scavenger.proofs.scan_set.ScanSet.close.Goals as goal
 use Rattle.scavenger.proofs.scan_set.ScanSet.close.Goals.{then-self, else-self}
 

@@ -1,15 +1,15 @@
 use Rattle.std.proofs.Common.{◌∙◌, refl, sym}
-use Rattle.transporter.proofs.Marked.{marks-read}
-use Rattle.transporter.proofs.Moving.{read-once, same-stores}
+use Rattle.transporter.proofs.PageMarks.{marks-read}
+use Rattle.transporter.proofs.TransportSequences.{read-once, same-stores}
 use Rattle.transporter.proofs.Places.{on-err}
 use Rattle.std.specs.Prelude.{Some, None}
 use Rattle.scavenger.specs.declared.scan_set.Unit.TheVariants.{Register, Word}
 use Rattle.scavenger.specs.Left.{next_of}
 use Rattle.scavenger.specs.Scanning.{register, word, none}
-use Rattle.scavenger.proofs.Scanned.{none-is-over}
-use Rattle.scavenger.proofs.Moved.{next-moves}
-use Rattle.scavenger.proofs.Nexts.{next-goes}
-use Rattle.scavenger.proofs.Swept.{scans-count}
+use Rattle.scavenger.proofs.UnitScans.{none-is-over}
+use Rattle.scavenger.proofs.MovedWords.{next-moves}
+use Rattle.scavenger.proofs.NextUnits.{next-goes}
+use Rattle.scavenger.proofs.ScanSequences.{scans-count}
 use Rattle.scavenger.proofs.scan_set.ScanSet.scan_next.Goals as goal
 
 pub returns-in_err-near-in-Some-Word-clause-fault : goal.returns-in_err-near-in-Some-Word-clause-fault

@@ -1,7 +1,7 @@
 use Rattle.std.proofs.Common.{sym, ◌∙◌, ap, arith}
-use Rattle.area_space.proofs.Extending.{words_small}
+use Rattle.area_space.proofs.UsedEnds.{words_small}
 use Rattle.scavenger.specs.Scan.{Scan}
-use Rattle.scavenger.proofs.Preserved.{units-none}
+use Rattle.scavenger.proofs.CleanScans.{units-none}
 use Rattle.scavenger.proofs.scan_set.ScanSet.units_left.Goals as goal
 
 pub returns-then-self : goal.returns-then-self

@@ -1,7 +1,7 @@
 use Rattle.std.proofs.Common.{◌≡◌, ◌+◌, Bool, true, false, ℕ, refl, sym, ◌∙◌, arith, ap, cond}
 use mir.Val.{bool_byte}
 use Rattle.sexpr_print.specs.Marks.{Marks, shared_in}
-use Rattle.sexpr_print.proofs.Marking.{labelled_more}
+use Rattle.sexpr_print.proofs.ObjectLabels.{labelled_more}
 use Rattle.sexpr_print.proofs.printed.Printed.add.Goals as goal
 
 byte_is : (b : Bool) → bool_byte b ≡ cond {A = ℕ} b 1 0

@@ -9,7 +9,7 @@ use Rattle.sexpr_print.specs.declared.token_text.TokenText.{TokenText}
 use Rattle.sexpr_print.specs.Printing.{bracket_of}
 use Rattle.sexpr_print.specs.Writing.{Adds}
 use Rattle.sexpr_print.specs.Tasks.{Opens}
-use Rattle.sexpr_print.proofs.Opening.{block_begun, list_begun}
+use Rattle.sexpr_print.proofs.FormStarts.{block_begun, list_begun}
 use Rattle.sexpr_print.proofs.Steps.{on_ok}
 use Rattle.sexpr_print.proofs.printer.Printer.form.Goals as goal
 

@@ -13,7 +13,7 @@ use Rattle.sexpr_print.specs.declared.token_text.TokenText.{TokenText}
 use Rattle.sexpr_print.specs.Writing.{Adds}
 use Rattle.sexpr_print.specs.Tasks.{Steps}
 use Rattle.sexpr_print.proofs.TaskLaws.{rest_ends, rest_goes}
-use Rattle.sexpr_print.proofs.Opening.{dotted_steps, next_none, next_some}
+use Rattle.sexpr_print.proofs.FormStarts.{dotted_steps, next_none, next_some}
 use Rattle.sexpr_print.proofs.Steps.{cons_sound, object_sound, on_ok, steps_end, steps_enter, work_two}
 use Rattle.sexpr_print.proofs.Writes.{adds_none}
 use Rattle.sexpr_print.proofs.printer.Printer.rest.Goals as goal

@@ -5,7 +5,7 @@ use Rattle.sexpr_print.specs.Marks.{shared_in}
 use Rattle.sexpr_print.specs.Writing.{Adds}
 use Rattle.sexpr_print.specs.Tasks.{Steps}
 use Rattle.sexpr_print.proofs.TaskLaws.{prints_atom}
-use Rattle.sexpr_print.proofs.Opening.{prints_again}
+use Rattle.sexpr_print.proofs.FormStarts.{prints_again}
 use Rattle.sexpr_print.proofs.Steps.{on_ok, steps_end}
 use Rattle.sexpr_print.proofs.printer.Printer.value.Goals as goal
 

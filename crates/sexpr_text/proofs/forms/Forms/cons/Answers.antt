@@ -3,7 +3,7 @@ use Rattle.std.proofs.lemmas.Result.{err_from_is_err_and}
 use Rattle.sexpr_text.specs.declared.task.ParseTask.TheVariants.{Conses}
 use Rattle.sexpr_text.specs.Tasks.{Fails, state_of}
 use Rattle.sexpr_text.specs.Begun.{beginning}
-use Rattle.sexpr_text.proofs.Shrinks.{passed_on}
+use Rattle.sexpr_text.proofs.RemainingPieces.{passed_on}
 use Rattle.sexpr_text.proofs.StepLaws.{cons_fails, cons_steps, next_name}
 use Rattle.sexpr_text.proofs.forms.Forms.cons.Goals as goal
 

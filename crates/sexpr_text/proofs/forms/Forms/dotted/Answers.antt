@@ -4,7 +4,7 @@ use Rattle.sexpr_text.specs.declared.task.ParseTask.TheVariants.{Behind}
 use Rattle.sexpr_text.specs.Pieces.{token_at}
 use Rattle.sexpr_text.specs.Tasks.{Fails, state_of}
 use Rattle.sexpr_text.specs.Begun.{beginning}
-use Rattle.sexpr_text.proofs.Shrinks.{passed_on}
+use Rattle.sexpr_text.proofs.RemainingPieces.{passed_on}
 use Rattle.sexpr_text.proofs.StepLaws.{at_dot, begun_at, dot_fails, dot_steps, fault_at}
 use Rattle.sexpr_text.proofs.forms.Forms.dotted.Goals as goal
 

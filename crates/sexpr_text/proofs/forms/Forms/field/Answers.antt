@@ -8,7 +8,7 @@ use Rattle.sexpr_text.specs.Pieces.{line_at, token_at}
 use Rattle.sexpr_text.specs.Reading.{closes, surplus}
 use Rattle.sexpr_text.specs.Tasks.{Fails, state_of}
 use Rattle.sexpr_text.specs.Begun.{beginning}
-use Rattle.sexpr_text.proofs.Shrinks.{passed_on}
+use Rattle.sexpr_text.proofs.RemainingPieces.{passed_on}
 use Rattle.sexpr_text.proofs.StepLaws.{begun_at, block_steps, fault_at, field_fails, field_steps, same_token, state, surplus_fails}
 use Rattle.sexpr_text.proofs.forms.Forms.field.Goals as goal
 

@@ -3,7 +3,7 @@ use Rattle.std.proofs.lemmas.Result.{err_from_is_err_and}
 use Rattle.sexpr_text.specs.declared.fault.SexprFault.{SexprFault}
 use Rattle.sexpr_text.specs.Reading.{IsFault}
 use Rattle.sexpr_text.specs.Tasks.{AllLead, TaskState, state_of}
-use Rattle.sexpr_text.proofs.Shrinks.{passed_on}
+use Rattle.sexpr_text.proofs.RemainingPieces.{passed_on}
 use Rattle.sexpr_text.proofs.StepLaws.{step_fails, step_leads, step_made}
 use Rattle.sexpr_text.proofs.forms.Forms.run.Goals as goal
 

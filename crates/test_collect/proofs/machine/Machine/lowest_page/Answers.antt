@@ -1,4 +1,4 @@
-use Rattle.heap_collect.proofs.ScannedAhead.{some_of}
+use Rattle.heap_collect.proofs.ScanSequences.{some_of}
 use Rattle.test_collect.proofs.Machines.{clean_of}
 use Rattle.test_collect.proofs.machine.Machine.lowest_page.Goals as goal
 

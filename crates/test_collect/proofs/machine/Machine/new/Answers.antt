@@ -1,4 +1,4 @@
-use Rattle.test_collect.proofs.Opened.{opened_machine}
+use Rattle.test_collect.proofs.NewMachine.{opened_machine}
 use Rattle.test_collect.proofs.machine.Machine.new.Goals as goal
 
 pub invariant_of-result-2 : goal.invariant_of-result-2

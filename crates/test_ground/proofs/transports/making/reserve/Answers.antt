@@ -1,5 +1,5 @@
 use Rattle.area_space.specs.Table.{slot_of}
-use Rattle.test_ground.proofs.Reserving.{end-there, made-allowed}
+use Rattle.test_ground.proofs.PlaceCommits.{end-there, made-allowed}
 use Rattle.test_ground.proofs.transports.making.reserve.Goals as goal
 
 pub commit-requires-clause-allowed : goal.commit-requires-clause-allowed

@@ -1,5 +1,5 @@
 use Rattle.std.proofs.Common.{arith}
-use Rattle.transporter.proofs.Writing.{writes-more}
+use Rattle.transporter.proofs.WriteSequences.{writes-more}
 use Rattle.test_ground.proofs.transports.making.write_cells.Goals as goal
 
 pub loop-i-preserved : goal.loop-i-preserved

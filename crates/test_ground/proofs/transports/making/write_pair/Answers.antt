@@ -1,7 +1,7 @@
 use Rattle.std.proofs.Common.{◌≡◌, ◌+◌, length, ◌∙◌, ap, subst, arith}
 use Rattle.std.proofs.lemmas.List.{length-set}
 use Rattle.mem_port.specs.Store.{Stores}
-use Rattle.transporter.proofs.Writing.{writes-none, writes-more}
+use Rattle.transporter.proofs.WriteSequences.{writes-none, writes-more}
 use Rattle.test_ground.specs.Written.{pair_of}
 use Rattle.test_ground.proofs.transports.making.write_pair.Goals as goal
 

@@ -1,9 +1,9 @@
 use Rattle.std.proofs.Common.{◌≡◌, ◌+◌, suc, refl, sym, ◌∙◌, ap, arith, List}
 use Rattle.store_word.specs.Words.{Parts}
 use Rattle.obj_layout.specs.Forwards.{word_at}
-use Rattle.obj_layout.proofs.Following.{word_at-read}
-use Rattle.transporter.proofs.Ready.{if-ok}
-use Rattle.test_ground.proofs.Relaid.{field-there}
+use Rattle.obj_layout.proofs.ForwardChains.{word_at-read}
+use Rattle.transporter.proofs.MovableParcels.{if-ok}
+use Rattle.test_ground.proofs.Relocations.{field-there}
 use Rattle.test_ground.proofs.transports.relaying.field.Goals as goal
 
 pub returns-then-i-fields-clause-value : goal.returns-then-i-fields-clause-value

@@ -1,6 +1,6 @@
 use Rattle.std.proofs.Common.{◌≡◌, ◌+◌, suc, ◌∙◌, ap, subst, arith}
 use Rattle.mem_port.specs.Store.{Stores}
-use Rattle.transporter.proofs.Writing.{writes-more, writes-none}
+use Rattle.transporter.proofs.WriteSequences.{writes-more, writes-none}
 use Rattle.test_ground.specs.Written.{husk_of}
 use Rattle.test_ground.proofs.transports.relaying.leave_husk.Goals as goal
 

@@ -1,8 +1,8 @@
 use Rattle.std.proofs.Common.{◌≡◌, ◌+◌, suc, ◌∙◌, ap, subst, arith}
 use Rattle.mem_port.specs.Store.{Stores}
-use Rattle.transporter.proofs.Writing.{writes-more, writes-then_read}
+use Rattle.transporter.proofs.WriteSequences.{writes-more, writes-then_read}
 use Rattle.test_ground.specs.Written.{wider_of}
-use Rattle.test_ground.proofs.Relaid.{field-same}
+use Rattle.test_ground.proofs.Relocations.{field-same}
 use Rattle.test_ground.proofs.transports.relaying.write_wider.Goals as goal
 
 pub loop-i-preserved : goal.loop-i-preserved

@@ -1,4 +1,4 @@
-use Rattle.paged_machine.proofs.Openable.{formed}
+use Rattle.paged_machine.proofs.OpenableWorlds.{formed}
 use Rattle.test_heap.proofs.trial.Trial.open.Goals as goal
 
 pub open-requires-clause-sound : goal.open-requires-clause-sound

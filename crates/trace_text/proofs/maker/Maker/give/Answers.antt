@@ -1,5 +1,5 @@
 use Rattle.std.proofs.Common.{◌≡◌, ◌≤◌, ◌+◌, ◌-◌, length, drop, take, ap, sym, ◌∙◌, arith, length-drop}
-use Rattle.trace_text.proofs.MadeLines.{made_given, made_none}
+use Rattle.trace_text.proofs.GeneratedLines.{made_given, made_none}
 use Rattle.trace_text.proofs.maker.Maker.give.Goals as goal
 
 pub returns-clause-given : goal.returns-clause-given

@@ -1,6 +1,6 @@
 use Rattle.std.proofs.Common.{◌-◌, length, inr, ap, ◌∙◌}
 use Rattle.line_input.specs.Reader.{no_feed}
-use Rattle.line_input.proofs.Feeds.{no_feed-take}
+use Rattle.line_input.proofs.LineFeeds.{no_feed-take}
 use Rattle.line_input.proofs.lines.reader.LineReader.next.Goals as goal
 
 -- the source failed: no buffered byte is a line feed, so neither is one before the latest piece

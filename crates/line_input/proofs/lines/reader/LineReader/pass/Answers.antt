@@ -1,4 +1,4 @@
-use Rattle.line_input.proofs.Feeds.{passed}
+use Rattle.line_input.proofs.LineFeeds.{passed}
 use Rattle.line_input.proofs.lines.reader.LineReader.pass.Goals as goal
 
 pub returns-clause-bytes : goal.returns-clause-bytes

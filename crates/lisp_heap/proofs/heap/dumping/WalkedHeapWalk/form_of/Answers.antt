@@ -1,6 +1,6 @@
 use Rattle.std.proofs.Common.{◌∙◌, ap}
 use Rattle.lisp_heap.specs.Walking.{graph_in}
-use Rattle.lisp_heap.proofs.Dumping.{goes_on}
+use Rattle.lisp_heap.proofs.HeapDumps.{goes_on}
 use Rattle.lisp_heap.proofs.heap.dumping.WalkedHeapWalk.form_of.Goals as goal
 
 pub invariant_of-self : goal.invariant_of-self

@@ -3,7 +3,7 @@ use Rattle.std.specs.Result.{IfOk}
 use Rattle.lisp_graph.specs.KeyedGraph.{Shows}
 use Rattle.lisp_heap.specs.HeapView.{HeapView}
 use Rattle.lisp_heap.specs.Walking.{graph_in}
-use Rattle.lisp_heap.proofs.Dumping.{goes_on}
+use Rattle.lisp_heap.proofs.HeapDumps.{goes_on}
 use Rattle.lisp_heap.proofs.heap.dumping.WalkedHeapWalk.value_of_register.Goals as goal
 
 pub invariant_of-self : goal.invariant_of-self

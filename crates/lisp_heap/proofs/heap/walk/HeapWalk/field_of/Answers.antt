@@ -1,5 +1,5 @@
 use Rattle.lisp_heap.specs.HeapView.{counted}
-use Rattle.lisp_heap.proofs.Walking.{field_is, field_shows, field_within, key_can, room_by_faults, same_graph, sound_after, stands_as_before}
+use Rattle.lisp_heap.proofs.HeapWalks.{field_is, field_shows, field_within, key_can, room_by_faults, same_graph, sound_after, stands_as_before}
 use Rattle.lisp_heap.proofs.heap.walk.HeapWalk.field_of.Goals as goal
 
 pub read_field-seen-requires-clause-object : goal.read_field-seen-requires-clause-object

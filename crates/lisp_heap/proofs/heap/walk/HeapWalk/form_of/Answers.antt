@@ -1,5 +1,5 @@
 use Rattle.lisp_heap.specs.HeapView.{counted}
-use Rattle.lisp_heap.proofs.Walking.{form_is, key_can, room_by_faults, same_graph, sound_after, stands_as_before}
+use Rattle.lisp_heap.proofs.HeapWalks.{form_is, key_can, room_by_faults, same_graph, sound_after, stands_as_before}
 use Rattle.lisp_heap.proofs.heap.walk.HeapWalk.form_of.Goals as goal
 
 pub read_form-form-requires : goal.read_form-form-requires

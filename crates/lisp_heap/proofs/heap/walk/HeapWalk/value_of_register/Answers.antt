@@ -1,5 +1,5 @@
 use Rattle.lisp_heap.specs.HeapView.{counted}
-use Rattle.lisp_heap.proofs.Walking.{register_can, register_is, register_shows, room_by_faults, same_graph, sound_after, stands_as_before}
+use Rattle.lisp_heap.proofs.HeapWalks.{register_can, register_is, register_shows, room_by_faults, same_graph, sound_after, stands_as_before}
 use Rattle.lisp_heap.proofs.heap.walk.HeapWalk.value_of_register.Goals as goal
 
 pub read_word-seen-requires : goal.read_word-seen-requires

@@ -1,6 +1,6 @@
 use Rattle.std.proofs.Common.{arith}
 use Rattle.std.proofs.lemmas.Result.{err_from_is_err_and}
-use Rattle.outer_ports.proofs.Pending.{gathers_none, gathers_wrote}
+use Rattle.outer_ports.proofs.BufferGains.{gathers_none, gathers_wrote}
 use Rattle.outer_ports.proofs.sinks.buffer.SinkBuffer.gather_anew.Goals as goal
 
 pub returns-in_err-flush-clause-gathers : goal.returns-in_err-flush-clause-gathers

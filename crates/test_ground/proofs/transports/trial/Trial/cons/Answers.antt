@@ -2,7 +2,7 @@ use Rattle.std.proofs.Common.{◌+◌, ◌≤◌, ap, arith}
 use Rattle.store_word.specs.Words.{Parts}
 use Rattle.area_space.specs.Table.{quota_of}
 use Rattle.area_space.specs.Accounts.{account_of}
-use Rattle.test_ground.proofs.Made.{enough-room, reserved-inside, reserved-small, open-pair}
+use Rattle.test_ground.proofs.NewObjects.{enough-room, reserved-inside, reserved-small, open-pair}
 use Rattle.test_ground.proofs.transports.trial.Trial.cons.Goals as goal
 
 pub reserve-at-requires-clause-in_range : goal.reserve-at-requires-clause-in_range

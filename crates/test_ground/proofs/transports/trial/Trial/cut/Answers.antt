@@ -1,8 +1,8 @@
 use Rattle.std.proofs.Common.{refl, sym, ◌∙◌, ap, arith, List, length, slice_get}
 use Rattle.store_word.specs.Words.{Parts}
-use Rattle.transporter.proofs.Landing.{opened-words}
-use Rattle.test_ground.proofs.Made.{open-same, enough-room, reserved-inside}
-use Rattle.test_ground.proofs.Relaid.{cell-inside, open-cut}
+use Rattle.transporter.proofs.MovedParcels.{opened-words}
+use Rattle.test_ground.proofs.NewObjects.{open-same, enough-room, reserved-inside}
+use Rattle.test_ground.proofs.Relocations.{cell-inside, open-cut}
 use Rattle.test_ground.proofs.transports.trial.Trial.cut.Goals as goal
 
 pub returns-then-not-is_cell : goal.returns-then-not-is_cell

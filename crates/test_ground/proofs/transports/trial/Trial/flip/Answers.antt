@@ -1,7 +1,7 @@
 use Rattle.std.proofs.Common.{◌≡◌, subst, sym, ap}
 use Rattle.lisp_graph.specs.declared.command.Condemn.TheVariants.{Full}
 use Rattle.test_ground.specs.Trials.{IsOpen}
-use Rattle.test_ground.proofs.Running.{running-flipped}
+use Rattle.test_ground.proofs.MachineFlip.{running-flipped}
 use Rattle.test_ground.proofs.transports.trial.Trial.flip.Goals as goal
 
 pub returns : goal.returns

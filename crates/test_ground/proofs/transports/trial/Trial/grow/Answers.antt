@@ -3,11 +3,11 @@ use Rattle.store_word.specs.Words.{Parts}
 use Rattle.mem_port.specs.Store.{Store}
 use Rattle.area_space.specs.Accounts.{account_of}
 use Rattle.area_space.specs.Table.{quota_of, slot_of}
-use Rattle.obj_layout.proofs.Following.{stores_nothing-twice}
-use Rattle.transporter.proofs.Landing.{opened-words}
+use Rattle.obj_layout.proofs.ForwardChains.{stores_nothing-twice}
+use Rattle.transporter.proofs.MovedParcels.{opened-words}
 use Rattle.test_ground.specs.Trials.{IsOpen}
-use Rattle.test_ground.proofs.Made.{open-same, enough-room, reserved-inside}
-use Rattle.test_ground.proofs.Relaid.{block-final, front-block, block-inside, block-apart, in_live, husk-enough, open-grown}
+use Rattle.test_ground.proofs.NewObjects.{open-same, enough-room, reserved-inside}
+use Rattle.test_ground.proofs.Relocations.{block-final, front-block, block-inside, block-apart, in_live, husk-enough, open-grown}
 use Rattle.test_ground.proofs.transports.trial.Trial.grow.Goals as goal
 
 pub resolve-requires : goal.resolve-requires

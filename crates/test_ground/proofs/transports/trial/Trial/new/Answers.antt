@@ -1,6 +1,6 @@
 use Rattle.std.proofs.Common.{ap}
 use Rattle.store_word.specs.Words.{Parts}
-use Rattle.test_ground.proofs.Running.{open-new}
+use Rattle.test_ground.proofs.MachineFlip.{open-new}
 use Rattle.test_ground.proofs.transports.trial.Trial.new.Goals as goal
 
 pub returns : goal.returns

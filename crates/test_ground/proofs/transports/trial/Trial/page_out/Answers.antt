@@ -1,4 +1,4 @@
-use Rattle.test_ground.proofs.Made.{open-same}
+use Rattle.test_ground.proofs.NewObjects.{open-same}
 use Rattle.test_ground.proofs.transports.trial.Trial.page_out.Goals as goal
 
 pub returns : goal.returns

@@ -1,4 +1,4 @@
-use Rattle.test_ground.proofs.Running.{running-same}
+use Rattle.test_ground.proofs.MachineFlip.{running-same}
 use Rattle.test_ground.proofs.transports.trial.Trial.read.Goals as goal
 
 pub returns-in_err-word : goal.returns-in_err-word

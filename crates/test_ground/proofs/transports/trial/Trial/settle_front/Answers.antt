@@ -1,4 +1,4 @@
-use Rattle.test_ground.proofs.Running.{front-settles, front-settleable, front-settled, running-stays}
+use Rattle.test_ground.proofs.MachineFlip.{front-settles, front-settleable, front-settled, running-stays}
 use Rattle.test_ground.proofs.transports.trial.Trial.settle_front.Goals as goal
 
 pub settle-requires : goal.settle-requires

@@ -1,4 +1,4 @@
-use Rattle.test_ground.proofs.Running.{middle-settles, middle-settleable, middle-settled, running-stays}
+use Rattle.test_ground.proofs.MachineFlip.{middle-settles, middle-settleable, middle-settled, running-stays}
 use Rattle.test_ground.proofs.transports.trial.Trial.settle_middle.Goals as goal
 
 pub settle-requires : goal.settle-requires

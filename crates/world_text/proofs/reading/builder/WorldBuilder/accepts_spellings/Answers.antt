@@ -1,7 +1,7 @@
 use Rattle.std.proofs.Common.{subst}
 use Rattle.world_text.specs.reading.Limits.{IsReached}
 use Rattle.world_text.proofs.reading_laws.LineLaws.{accepted_all, accepted_only}
-use Rattle.world_text.proofs.reading_laws.Reached.{known_at}
+use Rattle.world_text.proofs.reading_laws.PlaceInvariant.{known_at}
 use Rattle.world_text.proofs.reading.builder.WorldBuilder.accepts_spellings.Goals as goal
 
 pub returns-clause-accepted : goal.returns-clause-accepted

@@ -1,5 +1,5 @@
-use Rattle.world_text.proofs.reading_laws.Reached.{judged_reached, judged_step}
-use Rattle.world_text.proofs.reading_laws.Refused.{judged_area}
+use Rattle.world_text.proofs.reading_laws.PlaceInvariant.{judged_reached, judged_step}
+use Rattle.world_text.proofs.reading_laws.ChargeRefusals.{judged_area}
 use Rattle.world_text.proofs.reading.builder.WorldBuilder.line.Goals as goal
 
 pub invariant_of-self : goal.invariant_of-self

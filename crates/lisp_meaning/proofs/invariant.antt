@@ -1,0 +1,21 @@
+-- Each change of the machine keeps the invariant.
+pub mod RunTransport
+pub mod AfterTransport
+pub mod ObjectTransport
+pub mod AfterNewObject
+pub mod AfterRelocation
+pub mod Relocation
+pub mod CellRelocation
+pub mod BlockGrowth
+pub mod NewObject
+pub mod NewCells
+pub mod NewList
+pub mod AfterWrite
+pub mod Stores
+pub mod AfterFlip
+pub mod AfterReclaim
+pub mod Collections
+pub mod EmptyMachine
+pub mod Allocation
+pub mod Rewrites
+pub mod Transports
