@@ -1,5 +1,6 @@
 pub mod SpanStores
 pub mod Lookups
+pub mod Passing
 mod PlainLaws
 mod PlainSpans
 mod SpanLaws

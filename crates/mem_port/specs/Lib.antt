@@ -1,5 +1,6 @@
 pub mod Frames
 pub mod Plain
+pub mod Reading
 pub mod Spans
 pub mod Store
 pub mod Swaps

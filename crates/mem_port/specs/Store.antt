@@ -57,6 +57,12 @@ pub record Stores (old new : Store) (at : ℕ) (word : Parts) : Type 0 where
   pub top : new.top ≡ old.top
   pub unmarked : (page : ℕ) → old.marks page ≡ 0 → (page ≡ at / 256 → level_of_word old.levels word ≡ 0) → new.marks page ≡ 0
 
+-- two consecutive words are stored, one after the other
+pub record StoresTwo (old new : Store) (at : ℕ) (first second : Parts) : Type 0 where
+  pub between : Store
+  pub front : Stores old between at first
+  pub back : Stores between new (at + 1) second
+
 -- `count` words from a place on are these, and the others are unchanged
 pub record Overwrites (old new : List Parts) (at count : ℕ) (word : ℕ → Parts) : Type 0 where
   pub size : length new ≡ length old

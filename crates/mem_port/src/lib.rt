@@ -7,10 +7,12 @@
 
 mod memory;
 mod plain;
+mod reading;
 mod spans;
 mod tags;
 
 pub use memory::{HOLD_LIMIT, Memory, assert_invariant};
 pub use plain::PlainMemory;
+pub use reading::{WordTest, words_before};
 pub use spans::{Span, hold_spans};
 pub use tags::{levels_on, tag_after, tag_anew, tag_meets, tag_with};

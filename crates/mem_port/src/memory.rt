@@ -1,12 +1,14 @@
 //! The contract of a memory, on which every layer of the heap is built.
-ghost use Rattle.std.specs.Prelude.{◌≡◌, ◌≢◌, ◌+◌, ◌*◌, ◌/◌, ◌<◌, ◌≤◌, ℕ, List, length, slice_get, slice_set, IsOk, IfOk, OnOk, OnErr, IsTrue, ◌↔◌, IfSome, IfNone, All, drop, min, ◌⊎◌, ◌%◌, slice_index_or};
-ghost use Rattle.mem_port.specs.Store.{Store, level_at, level_of_word, IsSound, IsFresh, StoresNothing, Stores, Clears, IsUnused, Remarks, Covers};
+ghost use Rattle.std.specs.Prelude.{◌≡◌, ◌≢◌, ◌+◌, ◌*◌, ◌/◌, ◌<◌, ◌≤◌, ℕ, List, length, slice_get, slice_set, IsOk, IfOk, MatchResult, OnOk, OnErr, IsTrue, ◌↔◌, IfSome, IfNone, All, drop, min, ◌⊎◌, ◌%◌, slice_index_or};
+ghost use Rattle.mem_port.specs.Store.{Store, level_at, level_of_word, IsSound, IsFresh, StoresNothing, Stores, StoresTwo, Clears, IsUnused, Remarks, Covers};
 ghost use Rattle.mem_port.specs.Swaps.{Swaps};
 ghost use Rattle.store_word.specs.Sets.{HasLevel, Meets};
 ghost use Rattle.store_word.specs.Words.{Parts, null_word};
 ghost use Rattle.store_word.specs.Faults.{TellsFaults};
 ghost use Rattle.mem_port.specs.Frames.{EvictsFewer, LeavesRoom, outside};
+ghost use Rattle.mem_port.specs.Reading.{Passes};
 
+use crate::reading::WordTest;
 use std::sync::ledger::Ledger;
 use store_word::{Levels, Steps, SwapFault, Word};
 
@@ -62,6 +64,33 @@ pub trait Memory {
         ensures taken { taken self.new ≡ taken self.old + 1 }
         ensures cost { steps.new ≡ steps.old + 1 };
 
+    /// Reads up to `count` words, at least one, one after another from an address on, and stops at the first that is
+    /// wanted. It returns how many come before that, or `count` if none is wanted. The words are on one page. Each
+    /// word that is read takes one memory access, the wanted one too. A swap error occurs only at the first word, and
+    /// only if the page isn't held; it raises the count of swap errors.
+    fn read_until<T: WordTest, L: Ledger>(
+        &mut self,
+        at: u32,
+        count: u32,
+        test: &T,
+        steps: &mut Steps<L>,
+    ) -> Result<u32, SwapFault>
+        requires at_least { 0 < count }
+        requires in_range { at + count ≤ length (seen self.old).words }
+        requires page { at % 256 + count ≤ 256 }
+
+        // What is returned. Nothing is stored.
+        ensures value { IfOk result (Passes (seen self.old).words (T.wanted test.now) at count) }
+        ensures unchanged { StoresNothing (seen self.old) (seen self.new) }
+
+        // The pages, swap errors and the cost.
+        ensures succeeds { held self.old (at / 256) → IsOk result }
+        ensures stays_held { held self.old (at / 256) → (page : ℕ) → held self.old page → held self.new page }
+        ensures cause { TellsFaults (faults self.old) (faults self.new) result }
+        ensures room { LeavesRoom (length (resident self.old)) (length (resident self.new)) result }
+        ensures taken { MatchResult result (λ passed. taken self.new ≡ taken self.old + min count (passed + 1)) (λ _. taken self.new ≡ taken self.old + 1) }
+        ensures cost { MatchResult result (λ passed. steps.new ≡ steps.old + min count (passed + 1)) (λ _. steps.new ≡ steps.old + 1) };
+
     /// Stores a word at an address. It takes one memory access. A swap error occurs only if the page isn't held,
     /// stores nothing, and raises the count of swap errors.
     fn write<L: Ledger>(
@@ -79,6 +108,31 @@ pub trait Memory {
         ensures room { LeavesRoom (length (resident self.old)) (length (resident self.new)) result }
         ensures taken { taken self.new ≡ taken self.old + 1 }
         ensures cost { steps.new ≡ steps.old + 1 };
+
+    /// Stores two words, at an address and at the next one, both or none. They are on one page, which is used once. It
+    /// takes two memory accesses. A swap error occurs only if the page isn't held, stores nothing, and raises the
+    /// count of swap errors.
+    fn write_two<L: Ledger>(
+        &mut self,
+        at: u32,
+        first: Word,
+        second: Word,
+        steps: &mut Steps<L>,
+    ) -> Result<(), SwapFault>
+        requires in_range { at + 1 < length (seen self.old).words }
+        requires page { at % 256 < 255 }
+
+        // What is stored.
+        ensures ok { OnOk result (StoresTwo (seen self.old) (seen self.new) at first second) }
+        ensures err { OnErr result (StoresNothing (seen self.old) (seen self.new)) }
+
+        // The pages, swap errors and the cost.
+        ensures succeeds { held self.old (at / 256) → IsOk result }
+        ensures stays_held { held self.old (at / 256) → (page : ℕ) → held self.old page → held self.new page }
+        ensures cause { TellsFaults (faults self.old) (faults self.new) result }
+        ensures room { LeavesRoom (length (resident self.old)) (length (resident self.new)) result }
+        ensures taken { taken self.new ≡ taken self.old + 2 }
+        ensures cost { steps.new ≡ steps.old + 2 };
 
     /// Holds up to 24 pages together, in the order of the list, whatever was held before. Each page
     /// takes one memory access. On a swap error nothing is stored, and the count of swap errors rises.

@@ -2,10 +2,11 @@
 //! resident, and no swap error occurs.
 ghost use Rattle.std.specs.Prelude.{◌≡◌, ◌<◌, ◌≤◌, ℕ, length, slice_get, Some, IfOk, ◌+◌, slice_index_or};
 ghost use Rattle.mem_port.specs.Plain.{plain_store};
-ghost use Rattle.mem_port.specs.Store.{IsFresh, Overwrites};
+ghost use Rattle.mem_port.specs.Store.{IsFresh, Overwrites, Stores};
 ghost use Rattle.store_word.specs.Words.{null_word};
 
 use crate::memory::Memory;
+use crate::reading::{WordTest, words_before};
 use crate::tags::{tag_after, tag_anew, tag_meets, tag_with};
 use std::alloc::Global;
 use std::marker::Model;
@@ -51,6 +52,18 @@ impl PlainMemory {
             taken: Count::new(),
         })
     }
+
+    // Stores a word at an address, and tags its page if the word has an address of level 1 or more.
+    fn store(&mut self, at: u32, word: Word)
+        requires { at < length self.old.words }
+        ensures stored { Stores (plain_store self.old) (plain_store self.new) at word }
+        ensures taken { self.new.taken ≡ self.old.taken }
+    {
+        let page = (at / 256) as usize;
+        let tag = tag_after(self.tags[page], &self.levels, word);
+        self.words[at as usize] = word;
+        self.tags[page] = tag;
+    }
 }
 
 impl Memory for PlainMemory {
@@ -80,6 +93,21 @@ impl Memory for PlainMemory {
         Ok(self.words[at as usize])
     }
 
+    fn read_until<T: WordTest, L: Ledger>(
+        &mut self,
+        at: u32,
+        count: u32,
+        test: &T,
+        steps: &mut Steps<L>,
+    ) -> Result<u32, SwapFault> {
+        let words = &self.words[at as usize..(at + count) as usize];
+        let passed = words_before(words, test);
+        let read = u64::from(count.min(passed + 1));
+        steps.tick_all(read);
+        self.taken = self.taken.and(&read);
+        Ok(passed)
+    }
+
     fn write<L: Ledger>(
         &mut self,
         at: u32,
@@ -88,10 +116,21 @@ impl Memory for PlainMemory {
     ) -> Result<(), SwapFault> {
         steps.tick();
         self.taken = self.taken.and(&1);
-        let page = (at / 256) as usize;
-        let tag = tag_after(self.tags[page], &self.levels, word);
-        self.words[at as usize] = word;
-        self.tags[page] = tag;
+        self.store(at, word);
+        Ok(())
+    }
+
+    fn write_two<L: Ledger>(
+        &mut self,
+        at: u32,
+        first: Word,
+        second: Word,
+        steps: &mut Steps<L>,
+    ) -> Result<(), SwapFault> {
+        steps.tick_all(2);
+        self.taken = self.taken.and(&2);
+        self.store(at, first);
+        self.store(at + 1, second);
         Ok(())
     }
 
