@@ -8,6 +8,7 @@ use Rattle.lisp_graph.specs.declared.object.Object.{Object}
 use Rattle.lisp_graph.specs.declared.walk.Seen.{Seen}
 use Rattle.lisp_graph.specs.declared.walk.Seen.TheVariants.{Fix, Nil, Cons, Block}
 use Rattle.lisp_graph.specs.declared.walk.Form.{Form}
+use Rattle.lisp_graph.specs.declared.walk.SeenCons.{SeenCons}
 use Rattle.lisp_graph.specs.Graph.{Graph, object_at, value_at, width}
 
 -- the registers' values, and the objects: which keys they have, which of them are conses, the form of each, and its fields
@@ -24,6 +25,10 @@ Shows graph (Cons key) = (graph.has key ≡ true) × ((graph.form key).length �
 Shows graph (Block key) = (graph.has key ≡ true) × (graph.cons key ≡ false)
 Shows graph Nil = Unit {0}
 Shows graph (Fix number) = Unit {0}
+
+-- the cons with this key: its area and charge, and its two fields
+abbrev pub cons_at : KeyedGraph → ℕ → SeenCons
+cons_at graph key = record { area = (graph.form key).area; charge = (graph.form key).charge; car = graph.field key 0; cdr = graph.field key 1 }
 
 -- A graph as a walk shows it: an object's key is its name
 

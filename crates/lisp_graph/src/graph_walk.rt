@@ -3,7 +3,7 @@ ghost use Rattle.std.specs.Prelude.{◌≡◌, length};
 ghost use Rattle.lisp_graph.specs.Graph.{IsGraph};
 ghost use Rattle.lisp_graph.specs.World.{opening};
 
-use crate::{Form, Seen, Walk, World, WorldWalk};
+use crate::{Form, Seen, SeenCons, Walk, World, WorldWalk};
 use std::marker::Model;
 use store_word::SwapFault;
 
@@ -57,5 +57,9 @@ impl Walk for GraphWalk {
 
     fn field_of(&mut self, key: u64, index: u32) -> Result<Seen, SwapFault> {
         WorldWalk::new(&self.world).field_of(key, index)
+    }
+
+    fn cons_of(&mut self, key: u64) -> Result<SeenCons, SwapFault> {
+        WorldWalk::new(&self.world).cons_of(key)
     }
 }

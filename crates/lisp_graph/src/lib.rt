@@ -34,6 +34,6 @@ pub use reply::Reply;
 pub use request::Request;
 pub use short::CommandHead;
 pub use store_word::{NoMemory, SwapFault};
-pub use walk::{Form, Seen, Walk};
+pub use walk::{Form, Seen, SeenCons, Walk};
 pub use world::{AreaKind, AreaRule, World};
 pub use world_walk::{WorldWalk, object_at};

@@ -1,7 +1,8 @@
 //! Walks over the objects that a machine holds.
 ghost use Rattle.std.specs.Prelude.{◌≡◌, ◌<◌, ℕ, length, slice_get, Some, true, IfOk};
 ghost use Rattle.lisp_graph.specs.Cause.{HasCause};
-ghost use Rattle.lisp_graph.specs.KeyedGraph.{KeyedGraph, Shows};
+ghost use Rattle.lisp_graph.specs.KeyedGraph.{KeyedGraph, Shows, cons_at};
+ghost use Rattle.lisp_graph.specs.declared.walk.Seen.TheVariants.{Cons as a_cons};
 
 use store_word::SwapFault;
 
@@ -22,6 +23,15 @@ pub struct Form {
     pub code: u16,
     pub length: u16,
     pub charge: u32,
+}
+
+/// A cons as a walk shows it: its area, its charge in words, and its two fields.
+#[derive(Clone, Copy, Debug, PartialEq, Eq)]
+pub struct SeenCons {
+    pub area: u8,
+    pub charge: u32,
+    pub car: Seen,
+    pub cdr: Seen,
 }
 
 /// Shows registers and objects, and changes none. A caller passes only keys that a call has returned in a `Seen`. Until the
@@ -60,4 +70,24 @@ pub trait Walk {
         ensures shows { IfOk result (λ seen. Shows (graph self.old) seen) }
         ensures unchanged { graph self.new ≡ graph self.old }
         ensures cause { HasCause (faults self.old) (faults self.new) result };
+
+    /// The cons with this key: what `form_of` and `field_of` return of it, by one call.
+    fn cons_of(&mut self, key: u64) -> Result<SeenCons, SwapFault>
+        requires { Shows (graph self.old) (a_cons key) }
+        ensures value { IfOk result (λ cons. cons ≡ cons_at (graph self.old) key) }
+        ensures car { IfOk result (λ cons. Shows (graph self.old) cons.car) }
+        ensures cdr { IfOk result (λ cons. Shows (graph self.old) cons.cdr) }
+        ensures unchanged { graph self.new ≡ graph self.old }
+        ensures cause { HasCause (faults self.old) (faults self.new) result }
+    {
+        let form = self.form_of(key)?;
+        let car = self.field_of(key, 0)?;
+        let cdr = self.field_of(key, 1)?;
+        Ok(SeenCons {
+            area: form.area,
+            charge: form.charge,
+            car,
+            cdr,
+        })
+    }
 }

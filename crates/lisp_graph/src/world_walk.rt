@@ -4,7 +4,7 @@ ghost use Rattle.lisp_graph.specs.Graph.{IsGraph, RefersBelow, object_at, width}
 ghost use Rattle.lisp_graph.specs.KeyedGraph.{form_of, part_of, keyed_value};
 ghost use Rattle.lisp_graph.specs.World.{opening};
 
-use crate::{Body, Form, Object, Seen, Value, Walk, World};
+use crate::{Body, Form, Object, Seen, SeenCons, Value, Walk, World};
 use std::marker::Model;
 use store_word::SwapFault;
 
@@ -110,5 +110,16 @@ impl<'a> Walk for WorldWalk<'a> {
         let objects = self.world.objects.as_slice();
         let value = part_of(&object_at(objects, key).body, index);
         Ok(keyed_value(objects, value))
+    }
+
+    fn cons_of(&mut self, key: u64) -> Result<SeenCons, SwapFault> {
+        let objects = self.world.objects.as_slice();
+        let object = object_at(objects, key);
+        Ok(SeenCons {
+            area: object.area,
+            charge: object.charge,
+            car: keyed_value(objects, part_of(&object.body, 0)),
+            cdr: keyed_value(objects, part_of(&object.body, 1)),
+        })
     }
 }
