@@ -1,5 +1,5 @@
 -- Reads, stores and tags of a page in a frame.
-use Rattle.std.proofs.Common.{ℕ, ◌≡◌, ◌≢◌, ◌+◌, ◌-◌, ◌*◌, ◌/◌, ◌%◌, ◌<◌, ◌≤◌, Bool, true, false, not, eqb, ◌||◌, nat_lt, List, Option, Some, length, length-set, slice_get, slice_set, get_or, get_or-set_same, get_or-set_other, refl, sym, ap, subst, ◌∙◌, arith, inl, inr}
+use Rattle.std.proofs.Common.{ℕ, ◌≡◌, ◌≢◌, ◌+◌, ◌-◌, ◌*◌, ◌/◌, ◌%◌, ◌<◌, ◌≤◌, Bool, true, false, not, eqb, ◌||◌, nat_lt, List, Option, Some, length, length-set, length-take, length-drop, drop, slice_get, slice_set, slice_range, get_or, get_or-set_same, get_or-set_other, refl, sym, ap, subst, ◌∙◌, arith, inl, inr}
 use Rattle.std.specs.Prelude.{Contains, map}
 use Rattle.std.proofs.Math.Bool.{or-true, or-false}
 use Rattle.std.proofs.lemmas.Bool.{cases_eq, lt-ltb, or_left, or_right}
@@ -8,17 +8,20 @@ use Rattle.std.proofs.lemmas.List.FromFn.{get_or-map-range_with_len, fill_by_all
 use Rattle.std.proofs.lemmas.Nat.Bits.{bit_at_ones}
 use Rattle.store_word.specs.Words.{Parts, null_word}
 use Rattle.store_word.specs.Sets.{HasLevel}
-use Rattle.mem_port.specs.Store.{Store, level_of_word, StoresNothing, Stores, IsSound}
+use Rattle.mem_port.specs.Store.{Store, level_of_word, StoresNothing, Stores, StoresTwo, IsSound}
+use Rattle.mem_port.specs.Reading.{Passes}
 use Rattle.mem_port.specs.Tags.{marks_of_tag}
+use Rattle.mem_port.proofs.Lookups.{get-slice_range}
+use Rattle.mem_port.proofs.Passing.{passes_at}
 use Rattle.page_map.specs.declared.place.PagePlace.{PagePlace}
 use Rattle.page_map.specs.declared.place.PagePlace.TheVariants.{Empty, InFrame, Swapped}
 use Rattle.page_map.specs.Map.{place_at}
 use Rattle.frame_pool.specs.Pool.{Pool, IsPool, page_at, tag_of}
-use Rattle.paged_memory.specs.Paging.{Paging, word_in, word_at, size_of, words_of, marks_in, marks_of, store_of, resident_of, IsPaged}
+use Rattle.paged_memory.specs.Paging.{Paging, stored_pool, word_in, word_at, size_of, words_of, marks_in, marks_of, store_of, resident_of, IsPaged}
 use Rattle.paged_memory.specs.Order.{HasLeft, Uses}
 use Rattle.paged_memory.proofs.Places.{frame_same}
 use Rattle.paged_memory.proofs.FrameChanges.{with_pool, repooled}
-use Rattle.paged_memory.proofs.Words.{words_size, words_get, word_kept, marks_kept, level_low}
+use Rattle.paged_memory.proofs.Words.{words_size, words_get, word_framed, word_kept, get_or_same, marks_kept, level_low}
 
 pub frame_in : (p : Paging) (stored : List Parts) (page frame : ℕ) → IsPaged p stored → place_at p.places page ≡ InFrame frame → frame < length p.pool.pages
 frame_in p stored page frame h e = h.pool.used_in frame (h.framed page frame e).0
@@ -56,10 +59,6 @@ store_sound p stored pages h is = record {
       let same : word_at p stored at ≡ word = cc in
       sound_at p stored at (level_of_word p.levels word) (place_at p.places (at / 256)) h refl (ap (level_of_word p.levels) same) young (level_low p.levels p.top word h.low);
 }
-
--- the frames with a word stored into one
-abbrev pub stored_pool : Pool → ℕ → ℕ → Parts → Bool → Pool
-stored_pool pool frame offset word tag = record pool { words = slice_set pool.words (256 * frame + offset) word; tags = slice_set pool.tags frame tag }
 
 -- a word is stored into the frame of its page, which has the tag if it had it or the word has an address of level 1 or more
 pub record PutsWord (p : Paging) (stored : List Parts) (pool : Pool) (frame at : ℕ) (word : Parts) (tag : Bool) : Type 0 where
@@ -153,14 +152,14 @@ put_stores p stored pool frame at word tag h c =
           ];
     }
 
--- a use that stores a word
-pub put_uses : (p mid : Paging) (stored : List Parts) (pool : Pool) (frame at : ℕ) (word : Parts) (tag : Bool) → IsPaged mid stored → mid.levels ≡ p.levels → mid.top ≡ p.top → PutsWord mid stored pool frame at word tag → Uses p mid (at / 256) false
-    → Uses p (with_pool mid pool) (at / 256) (nat_lt 0 (level_of_word p.levels word))
-put_uses p mid stored pool frame at word tag h levels top c u =
+-- a use that stores a word, perhaps after others
+pub put_uses : (p mid : Paging) (stored : List Parts) (pool : Pool) (frame at : ℕ) (word : Parts) (tag before : Bool) → IsPaged mid stored → mid.levels ≡ p.levels → mid.top ≡ p.top → PutsWord mid stored pool frame at word tag → Uses p mid (at / 256) before
+    → Uses p (with_pool mid pool) (at / 256) (before || nat_lt 0 (level_of_word p.levels word))
+put_uses p mid stored pool frame at word tag before h levels top c u =
     let order : resident_of (with_pool mid pool) ≡ resident_of mid = ap (λ (v : Pool). map (page_at v) v.used) c.stores in
     let left : (q : ℕ) → HasLeft p (with_pool mid pool) q → HasLeft p mid q = λ q l. (l.0, λ m. l.1 (subst (λ (xs : List ℕ). Contains xs q) (sym order) m)) in
     let left_back : (q : ℕ) → HasLeft p mid q → HasLeft p (with_pool mid pool) q = λ q l. (l.0, λ m. l.1 (subst (λ (xs : List ℕ). Contains xs q) order m)) in
-    let was : marks_of_tag p.top (tag_of mid.pool frame) ≡ marks_of_tag p.top (not (eqb (marks_of p (at / 256)) 0)) =
+    let was : marks_of_tag p.top (tag_of mid.pool frame) ≡ marks_of_tag p.top (before || not (eqb (marks_of p (at / 256)) 0)) =
     ap (λ n. marks_of_tag n (tag_of mid.pool frame)) (sym top) ∙ sym (ap (marks_in mid (at / 256)) c.here) ∙ u.tag in
     let young : nat_lt 0 (level_of_word mid.levels word) ≡ nat_lt 0 (level_of_word p.levels word) = ap (λ (ls : List ℕ). nat_lt 0 (level_of_word ls word)) levels in
     record {
@@ -172,10 +171,10 @@ put_uses p mid stored pool frame at word tag h levels top c u =
       others = λ q ne off. put_marks_other mid stored pool frame at word tag h c q ne ∙ u.others q ne (λ l. off (left_back q l));
     }
   where
-    either : (y : Bool) → marks_of_tag p.top (tag_of mid.pool frame) ≡ marks_of_tag p.top (not (eqb (marks_of p (at / 256)) 0))
-        → marks_of_tag p.top (tag_of mid.pool frame || y) ≡ marks_of_tag p.top (y || not (eqb (marks_of p (at / 256)) 0))
-    either true was = ap (marks_of_tag p.top) (or-true (tag_of mid.pool frame))
-    either false was = ap (marks_of_tag p.top) (or-false (tag_of mid.pool frame)) ∙ was
+    either : (y : Bool) → marks_of_tag p.top (tag_of mid.pool frame) ≡ marks_of_tag p.top (before || not (eqb (marks_of p (at / 256)) 0))
+        → marks_of_tag p.top (tag_of mid.pool frame || y) ≡ marks_of_tag p.top ((before || y) || not (eqb (marks_of p (at / 256)) 0))
+    either true was = ap (marks_of_tag p.top) (or-true (tag_of mid.pool frame)) ∙ sym (ap (λ b. marks_of_tag p.top (b || not (eqb (marks_of p (at / 256)) 0))) (or-true before))
+    either false was = ap (marks_of_tag p.top) (or-false (tag_of mid.pool frame)) ∙ was ∙ sym (ap (λ b. marks_of_tag p.top (b || not (eqb (marks_of p (at / 256)) 0))) (or-false before))
 
 pub stores_after : (a b c : Store) (at : ℕ) (word : Parts) → StoresNothing a b → Stores b c at word → Stores a c at word
 stores_after a b c at word x y = record {
@@ -185,14 +184,55 @@ stores_after a b c at word x y = record {
   unmarked = λ page none old. y.unmarked page (x.unmarked page none) (λ e. ap (λ (ls : List ℕ). level_of_word ls word) x.levels ∙ old e);
 }
 
--- a word and then a tag are set
-pub puts_word : (p : Paging) (stored : List Parts) (one two : Pool) (frame at : ℕ) (word : Parts) (old tag : Bool) (levels : List ℕ) → place_at p.places (at / 256) ≡ InFrame frame → at < 256 * size_of p
-    → one ≡ record (p.pool) { words = slice_set p.pool.words (256 * frame + at % 256) word } → two ≡ record one { tags = slice_set one.tags frame tag } → IsPool two
-    → old ≡ tag_of p.pool frame → levels ≡ p.levels → tag ≡ (old || nat_lt 0 (level_of_word levels word)) → PutsWord p stored two frame at word tag
-puts_word p stored one two frame at word old tag levels here inside one_is two_is sound old_is levels_are tag_is = record {
-  here = here;
-  inside = inside;
-  sound = sound;
-  stores = two_is ∙ ap (λ (v : Pool). (let w : Pool = record v { tags = slice_set v.tags frame tag } in w)) one_is;
-  tagged = tag_is ∙ ap (λ (b : Bool). b || nat_lt 0 (level_of_word levels word)) old_is ∙ ap (λ (ls : List ℕ). tag_of p.pool frame || nat_lt 0 (level_of_word ls word)) levels_are;
+-- a word that is stored into the frame of its page
+pub puts_word : (p : Paging) (stored : List Parts) (pool : Pool) (frame at : ℕ) (word : Parts) → place_at p.places (at / 256) ≡ InFrame frame → at < 256 * size_of p → IsPool pool
+    → pool ≡ stored_pool p.pool frame (at % 256) word (tag_of p.pool frame || nat_lt 0 (level_of_word p.levels word)) → PutsWord p stored pool frame at word (tag_of p.pool frame || nat_lt 0 (level_of_word p.levels word))
+puts_word p stored pool frame at word here inside sound is = record { here = here; inside = inside; sound = sound; stores = is; tagged = refl }
+
+-- words of a page that were read in its frame, up to one that is wanted
+pub passes_framed : (p : Paging) (stored : List Parts) (words : List Parts) (wanted : Parts → Type 0) (at frame count passed : ℕ) → at % 256 + count ≤ 256 → at + count ≤ 256 * size_of p → place_at p.places (at / 256) ≡ InFrame frame → length words ≡ 256
+    → ((k : ℕ) → k < 256 → slice_get words k ≡ slice_get p.pool.words (256 * frame + k)) → Passes (slice_range words (at % 256) (at % 256 + count)) wanted 0 (length (slice_range words (at % 256) (at % 256 + count))) passed → Passes (words_of p stored) wanted at count passed
+passes_framed p stored words wanted at frame count passed page inside here size same x =
+    let part : length (slice_range words (at % 256) (at % 256 + count)) ≡ count = omega (arith, length-take (at % 256 + count - at % 256) (drop (at % 256) words), length-drop (at % 256) words) in
+    passes_at (words_of p stored) (slice_range words (at % 256) (at % 256 + count)) wanted at count passed part
+    (λ i low.
+    let whole : 256 * (at / 256) + (at % 256 + i) ≡ at + i = omega arith in
+    get_or_same (slice_range words (at % 256) (at % 256 + count)) p.pool.words i (256 * frame + (at % 256 + i)) null_word (get-slice_range words (at % 256) (at % 256 + count) i (omega arith) ∙ same (at % 256 + i) (omega arith))
+    ∙ sym (word_framed p stored (at / 256) (at % 256 + i) frame (omega arith) here) ∙ ap (word_at p stored) whole
+    ∙ sym (get_or-map-range_with_len (word_at p stored) 0 (256 * size_of p) (at + i) (at + i) null_word (omega arith) (omega arith))) x
+
+-- two consecutive words of a page, one after the other
+pub record PutsTwo (p : Paging) (stored : List Parts) (pool pool' : Pool) (frame at : ℕ) (first second : Parts) : Type 0 where
+  pub front : PutsWord p stored pool frame at first (tag_of p.pool frame || nat_lt 0 (level_of_word p.levels first))
+  pub back : PutsWord (with_pool p pool) stored pool' frame (at + 1) second (tag_of pool frame || nat_lt 0 (level_of_word p.levels second))
+
+pub puts_two : (p : Paging) (stored : List Parts) (pool pool' : Pool) (frame at : ℕ) (first second : Parts) → place_at p.places (at / 256) ≡ InFrame frame → at % 256 < 255 → at + 1 < 256 * size_of p
+    → IsPool pool → pool ≡ stored_pool p.pool frame (at % 256) first (tag_of p.pool frame || nat_lt 0 (level_of_word p.levels first))
+    → IsPool pool' → pool' ≡ stored_pool pool frame ((at + 1) % 256) second (tag_of pool frame || nat_lt 0 (level_of_word p.levels second)) → PutsTwo p stored pool pool' frame at first second
+puts_two p stored pool pool' frame at first second here page inside sound is sound' is' =
+    let same : (at + 1) / 256 ≡ at / 256 = omega arith in
+    record {
+      front = puts_word p stored pool frame at first here (omega arith) sound is;
+      back = puts_word (with_pool p pool) stored pool' frame (at + 1) second (ap (place_at p.places) same ∙ here) inside sound' is';
+    }
+
+pub two_paged : (p : Paging) (stored : List Parts) (pool pool' : Pool) (frame at : ℕ) (first second : Parts) → IsPaged p stored → PutsTwo p stored pool pool' frame at first second → IsPaged (with_pool p pool') stored
+two_paged p stored pool pool' frame at first second h c =
+    put_paged (with_pool p pool) stored pool' frame (at + 1) second _ (put_paged p stored pool frame at first _ h c.front) c.back
+
+pub stores_two : (a p : Paging) (before stored : List Parts) (pool pool' : Pool) (frame at : ℕ) (first second : Parts) → StoresNothing (store_of a before) (store_of p stored) → IsPaged p stored → PutsTwo p stored pool pool' frame at first second
+    → StoresTwo (store_of a before) (store_of (with_pool p pool') stored) at first second
+stores_two a p before stored pool pool' frame at first second read h c = record {
+  between = store_of (with_pool p pool) stored;
+  front = stores_after (store_of a before) (store_of p stored) (store_of (with_pool p pool) stored) at first read (put_stores p stored pool frame at first _ h c.front);
+  back = put_stores (with_pool p pool) stored pool' frame (at + 1) second _ (put_paged p stored pool frame at first _ h c.front) c.back;
 }
+
+pub two_uses : (p mid : Paging) (stored : List Parts) (pool pool' : Pool) (frame at : ℕ) (first second : Parts) → at % 256 < 255 → IsPaged mid stored → mid.levels ≡ p.levels → mid.top ≡ p.top → PutsTwo mid stored pool pool' frame at first second
+    → Uses p mid (at / 256) false → Uses p (with_pool mid pool') (at / 256) (nat_lt 0 (level_of_word p.levels first) || nat_lt 0 (level_of_word p.levels second))
+two_uses p mid stored pool pool' frame at first second page h levels top c u =
+    let same : (at + 1) / 256 ≡ at / 256 = omega arith in
+    let one = put_uses p mid stored pool frame at first _ false h levels top c.front u in
+    subst (λ (q : ℕ). Uses p (with_pool mid pool') q (nat_lt 0 (level_of_word p.levels first) || nat_lt 0 (level_of_word p.levels second))) same
+    (put_uses p (with_pool mid pool) stored pool' frame (at + 1) second _ (nat_lt 0 (level_of_word p.levels first)) (put_paged mid stored pool frame at first _ h c.front) levels top c.back
+    (subst (λ (q : ℕ). Uses p (with_pool mid pool) q (nat_lt 0 (level_of_word p.levels first))) (sym same) one))

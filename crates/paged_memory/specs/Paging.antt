@@ -1,5 +1,5 @@
 -- A memory whose pages are empty, in frames, or on a swap device.
-use Rattle.std.specs.Prelude.{ℕ, ◌≡◌, ◌≢◌, ◌+◌, ◌*◌, ◌/◌, ◌%◌, ◌<◌, ◌≤◌, ◌↔◌, Bool, true, false, List, filter, map, length, slice_index, slice_index_or, Contains}
+use Rattle.std.specs.Prelude.{ℕ, ◌≡◌, ◌≢◌, ◌+◌, ◌*◌, ◌/◌, ◌%◌, ◌<◌, ◌≤◌, ◌↔◌, Bool, true, false, List, filter, map, length, slice_index, slice_index_or, slice_set, Contains}
 use Rattle.std.specs.List.{range_with_len}
 use Rattle.store_word.specs.Words.{Parts, null_word}
 use Rattle.store_word.specs.Sets.{HasLevel}
@@ -31,6 +31,10 @@ word_in pool stored at Swapped = slice_index_or stored at null_word
 -- the word at an address
 abbrev pub word_at : Paging → List Parts → ℕ → Parts
 word_at p stored at = word_in p.pool stored at (place_at p.places (at / 256))
+
+-- the frames once a word is stored into one, at an offset; the tag of this frame is set to a value
+abbrev pub stored_pool : Pool → ℕ → ℕ → Parts → Bool → Pool
+stored_pool pool frame offset word tag = record pool { words = slice_set pool.words (256 * frame + offset) word; tags = slice_set pool.tags frame tag }
 
 -- how many pages there are
 abbrev pub size_of : Paging → ℕ

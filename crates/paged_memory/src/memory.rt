@@ -1,8 +1,9 @@
 //! The contract of a memory, and also what each call does to the order of use, to the places and to the marks.
-ghost use Rattle.std.specs.Prelude.{◌≡◌, ◌≢◌, ◌+◌, ◌*◌, ◌/◌, ◌<◌, ◌≤◌, ℕ, length, false, nat_lt, drop, min, slice_get, slice_set, Some, All, Contains, IsOk, IfOk, OnOk, OnErr, ◌⊎◌, ◌%◌, slice_index_or};
+ghost use Rattle.std.specs.Prelude.{◌≡◌, ◌≢◌, ◌+◌, ◌*◌, ◌/◌, ◌<◌, ◌≤◌, ℕ, length, false, nat_lt, drop, min, slice_get, slice_set, Some, All, Contains, IsOk, IfOk, MatchResult, OnOk, OnErr, ◌⊎◌, ◌%◌, ◌||◌, slice_index_or};
 ghost use Rattle.store_word.specs.Faults.{TellsFaults};
 ghost use Rattle.mem_port.specs.Frames.{EvictsFewer, LeavesRoom, outside};
-ghost use Rattle.mem_port.specs.Store.{IsSound, IsClean, IsUnused, StoresNothing, Stores, Clears, Remarks, level_of_word, Covers};
+ghost use Rattle.mem_port.specs.Store.{IsSound, IsClean, IsUnused, StoresNothing, Stores, StoresTwo, Clears, Remarks, level_of_word, Covers};
+ghost use Rattle.mem_port.specs.Reading.{Passes};
 ghost use Rattle.store_word.specs.Words.{null_word};
 ghost use Rattle.page_map.specs.Map.{place_at};
 ghost use Rattle.frame_pool.specs.Pool.{frames_of};
@@ -12,7 +13,7 @@ ghost use Rattle.paged_memory.specs.Order.{Evicts, Uses, UsesEach, Stops, StopsA
 
 use crate::marking::{lower, lowest_tagged};
 use crate::paged::PagedMemory;
-use mem_port::{HOLD_LIMIT, Memory, tag_anew, tag_meets};
+use mem_port::{HOLD_LIMIT, Memory, WordTest, tag_anew, tag_meets, words_before};
 use outer_ports::Swap;
 use page_map::PagePlace;
 use std::sync::ledger::Ledger;
@@ -74,6 +75,51 @@ impl<D: Swap> Memory for PagedMemory<D> {
         Ok(self.pager.pool.word(frame, at % 256))
     }
 
+    /// The words from an address on, up to the first that is wanted. Their page is used, as by reading them one after another.
+    fn read_until<T: WordTest, L: Ledger>(
+        &mut self,
+        at: u32,
+        count: u32,
+        test: &T,
+        steps: &mut Steps<L>,
+    ) -> Result<u32, SwapFault>
+        requires at_least { 0 < count }
+        requires in_range { at + count ≤ length (words_of self.old.0 (D.stored self.old.1)) }
+        requires page { at % 256 + count ≤ 256 }
+
+        // What is returned. Nothing is stored.
+        ensures value { IfOk result (Passes (words_of self.old.0 (D.stored self.old.1)) (T.wanted test.now) at count) }
+        ensures unchanged { StoresNothing (store_of self.old.0 (D.stored self.old.1)) (store_of self.new.0 (D.stored self.new.1)) }
+
+        // What becomes of the pages in frames.
+        ensures succeeds { Contains (resident_of self.old.0) (at / 256) → IsOk result }
+        ensures uses { OnOk result (Uses self.old.0 self.new.0 (at / 256) false) }
+        ensures stops { OnErr result (Stops self.old.0 self.new.0) }
+        ensures stays_held { Contains (resident_of self.old.0) (at / 256)
+            → (page : ℕ) → Contains (resident_of self.old.0) page → Contains (resident_of self.new.0) page }
+
+        // Swap errors, the calls of the device, and the cost.
+        ensures cause { TellsFaults (D.faults self.old.1) (D.faults self.new.1) result }
+        ensures room { LeavesRoom (length (resident_of self.old.0)) (length (resident_of self.new.0)) result }
+        ensures taken { MatchResult result (λ passed. self.new.2 ≡ self.old.2 + min count (passed + 1)) (λ _. self.new.2 ≡ self.old.2 + 1) }
+        ensures calls { OnOk result (D.calls self.new.1 ≡ calls_to_use self.old.0 (at / 256) (D.calls self.old.1)) }
+        ensures stopped { OnErr result (StopsCalls self.old.0 (at / 256) (D.calls self.old.1) (D.calls self.new.1)) }
+        ensures cost { MatchResult result (λ passed. steps.new ≡ steps.old + min count (passed + 1)) (λ _. steps.new ≡ steps.old + 1) }
+    {
+        steps.tick();
+        self.taken = self.taken.and(&1);
+        let frame = self
+            .pager
+            .use_page(&mut self.buffer, &mut self.swap, at / 256)?;
+        let start = (at % 256) as usize;
+        let words = self.pager.pool.words(frame);
+        let passed = words_before(&words[start..start + count as usize], test);
+        let more = u64::from(passed.min(count - 1));
+        steps.tick_all(more);
+        self.taken = self.taken.and(&more);
+        Ok(passed)
+    }
+
     /// Stores a word at an address, whose page is used.
     fn write<L: Ledger>(
         &mut self,
@@ -107,10 +153,53 @@ impl<D: Swap> Memory for PagedMemory<D> {
         let frame = self
             .pager
             .use_page(&mut self.buffer, &mut self.swap, at / 256)?;
-        self.pager.pool.set_word(frame, at % 256, word);
         self.pager
             .levels
-            .tag_word(&mut self.pager.pool, frame, word);
+            .store_word(&mut self.pager.pool, frame, at % 256, word);
+        Ok(())
+    }
+
+    /// Stores two words of one page, which is used once.
+    fn write_two<L: Ledger>(
+        &mut self,
+        at: u32,
+        first: Word,
+        second: Word,
+        steps: &mut Steps<L>,
+    ) -> Result<(), SwapFault>
+        requires in_range { at + 1 < length (words_of self.old.0 (D.stored self.old.1)) }
+        requires page { at % 256 < 255 }
+
+        // What is stored, and that a swap error stores nothing.
+        ensures ok { OnOk result (StoresTwo (store_of self.old.0 (D.stored self.old.1)) (store_of self.new.0 (D.stored self.new.1)) at first second) }
+        ensures err { OnErr result (StoresNothing (store_of self.old.0 (D.stored self.old.1)) (store_of self.new.0 (D.stored self.new.1))) }
+
+        // What becomes of the pages in frames.
+        ensures succeeds { Contains (resident_of self.old.0) (at / 256) → IsOk result }
+        ensures uses { OnOk result (Uses self.old.0 self.new.0 (at / 256) (nat_lt 0 (level_of_word self.old.0.levels first) || nat_lt 0 (level_of_word self.old.0.levels second))) }
+        ensures stops { OnErr result (Stops self.old.0 self.new.0) }
+        ensures stays_held { Contains (resident_of self.old.0) (at / 256)
+            → (page : ℕ) → Contains (resident_of self.old.0) page → Contains (resident_of self.new.0) page }
+
+        // Swap errors, the calls of the device, and the cost.
+        ensures cause { TellsFaults (D.faults self.old.1) (D.faults self.new.1) result }
+        ensures room { LeavesRoom (length (resident_of self.old.0)) (length (resident_of self.new.0)) result }
+        ensures taken { self.new.2 ≡ self.old.2 + 2 }
+        ensures calls { OnOk result (D.calls self.new.1 ≡ calls_to_use self.old.0 (at / 256) (D.calls self.old.1)) }
+        ensures stopped { OnErr result (StopsCalls self.old.0 (at / 256) (D.calls self.old.1) (D.calls self.new.1)) }
+        ensures cost { steps.new ≡ steps.old + 2 }
+    {
+        steps.tick_all(2);
+        self.taken = self.taken.and(&2);
+        let frame = self
+            .pager
+            .use_page(&mut self.buffer, &mut self.swap, at / 256)?;
+        self.pager
+            .levels
+            .store_word(&mut self.pager.pool, frame, at % 256, first);
+        self.pager
+            .levels
+            .store_word(&mut self.pager.pool, frame, (at + 1) % 256, second);
         Ok(())
     }
 

@@ -3,6 +3,7 @@ ghost use Rattle.std.specs.Prelude.{ℕ, List, ◌≡◌, ◌<◌, ◌↔◌, �
 ghost use Rattle.frame_pool.specs.Pool.{frames_of, tag_of, IsPool};
 ghost use Rattle.mem_port.specs.Store.{level_of_word};
 ghost use Rattle.mem_port.specs.Tags.{HasEphemeral};
+ghost use Rattle.paged_memory.specs.Paging.{stored_pool};
 
 use frame_pool::FramePool;
 use mem_port::{tag_after, tag_with};
@@ -79,6 +80,19 @@ impl RegionLevels {
         if self.is_ephemeral(word) {
             pool.set_tag(frame, true);
         }
+    }
+
+    /// Stores a word into a frame, at an offset below 256, and sets the tag of the frame if the word has an address of level 1 or
+    /// more.
+    #[inline]
+    pub(crate) fn store_word(&self, pool: &mut FramePool, frame: u32, offset: u32, word: Word)
+        requires frame { frame < frames_of pool.old }
+        requires in_range { offset < 256 }
+        ensures stored { pool.new ≡ stored_pool pool.old frame offset word (tag_of pool.old frame || nat_lt 0 (level_of_word self.now word)) }
+        ensures sound { IsPool pool.new }
+    {
+        pool.set_word(frame, offset, word);
+        self.tag_word(pool, frame, word);
     }
 
     /// Whether a page is tagged once these words are stored into it. They are looked at only if it was not tagged before, and a
