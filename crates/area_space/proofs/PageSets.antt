@@ -62,6 +62,20 @@ added_pages bits words new_bits count page p low b = record {
   );
 }
 
+-- a page that is in is added again
+pub added_again : (bits : List ℕ) (count page : ℕ) → Contains (pages_of bits count) page → Adds (record { count = count; pages = pages_of bits count }) (record { count = count; pages = pages_of bits count }) page page
+added_again bits count page m = record {
+  count = refl;
+  ascending = ascending_listed (λ q. bit_of bits q == 1) 0 count;
+  members = λ q. (
+    (λ old. inl old),
+    (λ s. elim s [
+      | inl old ↦ old
+      | inr (a, b) ↦ (let e : q ≡ page = omega arith in subst (Contains (pages_of bits count)) (sym e) m)
+    ]),
+  );
+}
+
 pub dropped_pages : (bits words new_bits : List ℕ) (count page : ℕ) → IsPages bits words count → ClearsBit bits new_bits page
     → Drops (record { count = count; pages = pages_of bits count }) (record { count = count; pages = pages_of new_bits count }) page
 dropped_pages bits words new_bits count page p b = record {

@@ -48,6 +48,7 @@ impl<M: Memory> Ground<M> {
     ///
     /// There is always a place if the world keeps the room rule, and the used words of the area
     /// and these are together at most twice its quota.
+    #[inline]
     pub fn place(&mut self, area: u8, level: u8, words: u32) -> Placed
         requires at_least { 0 < words }
         requires at_most { words ≤ 2048 }
@@ -103,6 +104,7 @@ impl<M: Memory> Ground<M> {
     /// be scanned, and the class of the place is charged, in words. The place is the used end of the
     /// last region of a live chain, as `place` returned it. A new charge has to fit the area's quota,
     /// and a moved charge has to be in the old class that it leaves; a reserve is 0.
+    #[inline]
     pub fn commit(&mut self, placed: &Placed, words: u32, charge: u32, origin: Origin)
         requires at_least { 0 < words }
         requires end { (slot : ℕ) × IsEnd self.old.table slot placed.now.at words }

@@ -49,15 +49,20 @@ impl PageSet {
     }
 
     /// Adds a page, which may be in the set already.
+    #[inline]
     pub fn insert(&mut self, page: u32)
         requires { page < self.old.count }
         ensures { Adds self.old self.new page page }
     {
+        if has_bit(&self.lower, page) {
+            return;
+        }
         set_bit(&mut self.lower, page);
         set_bit(&mut self.upper, page / 64);
     }
 
     /// Adds the pages from one to another, both included.
+    #[inline]
     pub fn insert_span(&mut self, from: u32, to: u32)
         requires order { from ≤ to }
         requires in_range { to < self.old.count }

@@ -150,13 +150,23 @@ impl RegionTable {
         self.aim.is_some()
     }
 
-    /// Whether the region of an address is old.
+    /// Whether the region of an address is old. While no collection runs none is, and the table doesn't
+    /// look for the region.
     #[inline]
     pub fn is_old(&self, at: u32) -> bool
         requires { at / 4096 < self.now.regions }
         ensures { IsTrue result ↔ IsOld self.now (at / 4096) }
     {
-        match self.class_at(at / 4096) {
+        self.is_collecting() && self.is_in_old_class(at / 4096)
+    }
+
+    // Whether a region is in an old class.
+    #[inline]
+    fn is_in_old_class(&self, region: u32) -> bool
+        requires { region < self.now.regions }
+        ensures { IsTrue result ↔ IsOld self.now region }
+    {
+        match self.class_at(region) {
             Some(class) => class % 2 == 1,
             None => false,
         }

@@ -10,6 +10,7 @@ use crate::classes::{Class, Origin};
 
 impl RegionTable {
     // Charges the live class of a slot, by the origin of the charge.
+    #[inline(always)]
     pub(crate) fn charge_by(&mut self, slot: u32, charge: u32, origin: Origin)
         requires in_range { slot < slots_of self.old }
         requires placed { chain self.old (live slot) ≢ [] }
@@ -24,6 +25,7 @@ impl RegionTable {
     }
 
     // Adds to the charge of a live class that has a region.
+    #[inline]
     fn add_charge(&mut self, slot: u32, amount: u32)
         requires in_range { slot < slots_of self.old }
         requires placed { chain self.old (live slot) ≢ [] }
@@ -37,6 +39,7 @@ impl RegionTable {
 
     // Moves a charge from an old class to the live class of a slot that has a region. The slot is one of
     // the same area, whose account stays.
+    #[inline]
     fn move_charge(&mut self, from: Class, slot: u32, amount: u32)
         requires in_range { slot < slots_of self.old }
         requires placed { chain self.old (live slot) ≢ [] }

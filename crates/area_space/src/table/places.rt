@@ -11,6 +11,7 @@ use super::RegionTable;
 
 impl RegionTable {
     // The used end of a live chain, if this many words fit there.
+    #[inline(always)]
     pub(crate) fn room(&self, area: u8, level: u8, words: u32) -> Option<u32>
         requires area { area < areas_of self.now }
         requires level { level < levels_of self.now }
@@ -36,6 +37,7 @@ impl RegionTable {
     }
 
     // The last region of a slot's live chain.
+    #[inline(always)]
     fn last_region(&self, slot: u32) -> Option<u32>
         requires { slot < slots_of self.now }
         ensures last { result ≡ last_of (chain self.now (live slot)) }
@@ -46,6 +48,7 @@ impl RegionTable {
     }
 
     // The lowest free region. There must be one.
+    #[inline(never)]
     pub(crate) fn lowest_free(&self) -> u32
         requires { ((region : ℕ) → region < self.now.regions → IsUnclassed self.now region → ⊥) → ⊥ }
         ensures in_range { result < self.now.regions }
@@ -59,6 +62,7 @@ impl RegionTable {
     }
 
     // Puts a free region at the end of a live chain.
+    #[inline(never)]
     pub(crate) fn open(&mut self, area: u8, level: u8, region: u32)
         requires area { area < areas_of self.old }
         requires level { level < levels_of self.old }
@@ -75,6 +79,7 @@ impl RegionTable {
     }
 
     // Moves the used end of the last region of a live chain.
+    #[inline(always)]
     pub(crate) fn extend(&mut self, at: u32, words: u32)
         requires at_least { 0 < words }
         requires end { (slot : ℕ) × IsEnd self.old slot at words }

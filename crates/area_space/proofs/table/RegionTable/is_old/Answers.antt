@@ -1,9 +1,5 @@
-use Rattle.area_space.specs.Table.{stale}
-use Rattle.area_space.proofs.RegionStates.{odd_is_old}
+use Rattle.std.proofs.Common.{◌/◌}
 use Rattle.area_space.proofs.table.RegionTable.is_old.Goals as goal
 
-pub returns-in-Some : goal.returns-in-Some
-returns-in-Some c = odd_is_old c.args.self.now c.in-Some.class _ c.in-Some.ensures.cases c.in-Some.ensures.found
-
-pub returns-in-None : goal.returns-in-None
-returns-in-None c = ((λ t. absurd (cc)), λ old. absurd (c.in-None.ensures.cases (stale old.0) old.1))
+pub returns-else-is_collecting : goal.returns-else-is_collecting
+returns-else-is_collecting c = ((λ t. absurd (let f = c.if-is_collecting.false in cc)), λ old. absurd (c.is_collecting.ensures.idle c.if-is_collecting.false (c.args.at / 4096) old))
