@@ -30,8 +30,8 @@ use Rattle.lisp_ground.proofs.words.PlaceRoom.{moved_room}
 use Rattle.lisp_ground.proofs.words.Shapes.{block_stands, head_shape, cell_there, cons_no_block, pair_whole, whole}
 use Rattle.lisp_ground.proofs.words.Runs.{has_run}
 use Rattle.transporter.specs.declared.parcel.Parcel.{Parcel}
-use Rattle.transporter.specs.Parcels.{IsParcel, a_block, a_pair, a_run, StandsWhole, word_count_of, run_parcel}
-use Rattle.transporter.specs.Relocations.{IsOldIn, CanMove, IsMovable}
+use Rattle.transporter.specs.Parcels.{IsFit, IsParcel, a_block, a_pair, a_run, StandsWhole, word_count_of, run_parcel}
+use Rattle.transporter.specs.Relocations.{IsOldIn, CanMove, IsMovable, MovesHere, Relocates}
 use Rattle.transporter.proofs.ParcelRoles.{Stands, not_blank, block-stands, pair-stands, run-stands, run-pair}
 use Rattle.transporter.proofs.OldCharges.{charged_there, charged_image}
 use Rattle.transporter.proofs.MovedParcels.{role_inside}
@@ -57,6 +57,18 @@ can-read {s} {read} {t} {p} n c = record {
   room = c.room;
   ground = ground_same s read t n.words n.levels n.top c.ground;
   named = named_same s read t n.words c.named;
+}
+
+-- a parcel was read, and then it moved
+pub moves-here : {s read s' : Store} {t t' : Table} {at to : ℕ} {p : Parcel} → IsParcel s.words at p → IsFit p → CanMove s t p → StoresNothing s read → Relocates read t s' t' p to → MovesHere s t s' t' at to
+moves-here {s} {read} {s'} {t} {t'} {at} {to} {p} is fits can stays moved = record {
+  parcel = p;
+  is = is;
+  fits = fits;
+  one_region = can.one_region;
+  read = read;
+  stays = stays;
+  relocates = moved;
 }
 
 pub parcel-at : {words : List Parts} {at : ℕ} {p : Parcel} → IsParcel words at p → p.at ≡ at

@@ -54,6 +54,12 @@ pub pair-stays : {old new : List Parts} (p : Parcel) (pair : Option Pair) → ne
 pair-stays p None same x = tt
 pair-stays p (Some pair) same x = subst (λ (ws : List Parts). ArePairOf ws p pair) (sym same) x
 
+-- a pair's parcel, written out
+pub pair-parcel : {words : List Parts} {p : Parcel} {pair : Pair} → ArePairOf words p pair → record { at = p.at; words = 2; objects = 1; charge = p.charge; rest = None } ≡ p
+pair-parcel {words} {p} x =
+    ap (λ (n : ℕ). record p { words = n; objects = 1; rest = None }) (sym x.two)
+    ∙ (ap (λ (n : ℕ). record p { objects = n; rest = None }) (sym x.one) ∙ ap (λ (r : Option ℕ). record p { rest = r }) (sym x.whole))
+
 -- they are two
 pub pair-count : {words : List Parts} {p : Parcel} {pair : Pair} → ArePairOf words p pair → word_count_of p ≡ 2
 pair-count {words} {p} x = ap (λ (r : Option ℕ). p.words + word_more r) x.whole ∙ (let two = x.two in omega arith)

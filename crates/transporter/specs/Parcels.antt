@@ -50,6 +50,7 @@ pub record StandsWhole (words : List Parts) (at : ℕ) : Type 0 where
 -- a parcel is a pair, and its words were read
 pub record ArePairOf (words : List Parts) (p : Parcel) (pair : Pair) : Type 0 where
   pub two : p.words ≡ 2
+  pub one : p.objects ≡ 1
   pub whole : p.rest ≡ None
   pub first : pair.first ≡ word_at words p.at
   pub second : pair.second ≡ word_at words (p.at + 1)

@@ -10,6 +10,7 @@ use Rattle.obj_layout.specs.Forwards.{word_at}
 use Rattle.store_word.specs.Words.{Parts}
 use Rattle.store_word.specs.declared.word.Content.{Content}
 use Rattle.transporter.specs.declared.parcel.Parcel.{Parcel}
+use Rattle.transporter.specs.Growth.{Grows}
 use Rattle.transporter.specs.LiveWordsUnchanged as live_same
 use Rattle.transporter.specs.Marking as marking
 use Rattle.transporter.specs.Moving as moving
@@ -104,3 +105,15 @@ FetchMoves v v' = moving.FetchMoves v.mem.store v.table v'.mem.store v'.table
 
 abbrev pub MovesAtMost : GroundView → GroundView → ℕ → Type 0
 MovesAtMost v v' = moving.MovesAtMost v.mem.store v.table v'.mem.store v'.table
+
+-- whatever the ground represented, it represents by a later map, by which the new word has each value of the old one
+abbrev pub SettlesAlways : GroundView → GroundView → Parts → Parts → Type 0
+SettlesAlways v v' word new = (k : RoleMap) (top : ℕ) (areas : List AreaRule) (registers : List Value) (s : MeaningStore) (aim : Condemned) (value : Value) → CanSettle v k top areas registers s aim word value → SettlesOn v v' k top areas s aim word new
+
+-- what the barrier does to a ground, whatever the word: at most one transport, in a table that only grows; live words are unchanged, scanned words stay or are fresh, and marks follow the changes
+pub record KeepsBarrier (v v' : GroundView) : Type 0 where
+  pub moves : MovesAtMost v v' 1
+  pub table : Grows v.table v'.table
+  pub live : LiveWordsUnchanged v v'
+  pub preserves : PreservesScanned v v'
+  pub marks : MarksFollow v v'

@@ -61,6 +61,7 @@ pub fn copy_words<M: Memory, L: Ledger>(
 
 // Writes GC-FORWARDs in `count` words, to the `count` words from `to` on. Their pages are held,
 // so no swap error occurs. It takes a memory access for each word.
+#[inline(always)]
 pub(crate) fn leave_forwards<M: Memory, L: Ledger>(
     mem: &mut M,
     at: u32,
@@ -117,7 +118,9 @@ pub(crate) fn make_last_pair<M: Memory, L: Ledger>(
     Ok(())
 }
 
-// Writes the two words of a pair. Their pages are held, so no swap error occurs. Two accesses.
+// Writes the two words of a pair, by one use of their page if they are on one. Their pages are held, so no swap error
+// occurs. Two accesses.
+#[inline(always)]
 fn write_pair<M: Memory, L: Ledger>(
     mem: &mut M,
     pair: Pair,
@@ -133,12 +136,17 @@ fn write_pair<M: Memory, L: Ledger>(
     ensures cost { steps.new ≡ steps.old + 2 }
 {
     assert_invariant(mem);
+    if to % 256 < 255 {
+        mem.write_two(to, pair.first, pair.second, steps)?;
+        return Ok(());
+    }
     mem.write(to, pair.first, steps)?;
     mem.write(to + 1, pair.second, steps)?;
     Ok(())
 }
 
 // Writes a parcel at its new place: a pair on one page by its words, and all else by copies.
+#[inline(always)]
 fn lay_parcel<M: Memory, L: Ledger>(
     mem: &mut M,
     parcel: &Parcel,
@@ -162,6 +170,7 @@ fn lay_parcel<M: Memory, L: Ledger>(
 
 // Copies a parcel to its new place, and writes the forwards of its objects. All words of both
 // places are held, so no swap error occurs. At most three memory accesses for each new word.
+#[inline(always)]
 pub(crate) fn move_words<M: Memory, L: Ledger>(
     mem: &mut M,
     parcel: &Parcel,
@@ -186,6 +195,7 @@ pub(crate) fn move_words<M: Memory, L: Ledger>(
 }
 
 // Copies a parcel to its new place.
+#[inline(never)]
 fn copy_parcel<M: Memory, L: Ledger>(
     mem: &mut M,
     parcel: &Parcel,

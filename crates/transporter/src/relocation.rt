@@ -37,6 +37,7 @@ pub(crate) fn class_if_old(table: &RegionTable, at: u32) -> Option<Class>
 /// If they don't fit in its last region, the free region with the lowest number is opened.
 ///
 /// The used words of the area and these may be at most twice its quota. Nothing is stored.
+#[inline]
 pub fn place_for<M: Memory>(ground: &mut Ground<M>, area: u8, level: u8, words: u32) -> Placed
     requires at_least { 0 < words }
     requires at_most { words ≤ 2048 }
@@ -66,6 +67,7 @@ pub fn place_for<M: Memory>(ground: &mut Ground<M>, area: u8, level: u8, words: 
 
 // Writes a parcel at a place of its survivors' class, and commits it. A swap error occurs only
 // before anything is written or committed.
+#[inline(always)]
 fn put<M: Memory, L: Ledger>(
     ground: &mut Ground<M>,
     parcel: &Parcel,
@@ -101,6 +103,7 @@ fn put<M: Memory, L: Ledger>(
 }
 
 // Moves a parcel out of an old region of this class, and returns the new address of its first object.
+#[inline(always)]
 pub(crate) fn relocate<M: Memory, L: Ledger>(
     ground: &mut Ground<M>,
     parcel: &Parcel,
@@ -123,4 +126,32 @@ pub(crate) fn relocate<M: Memory, L: Ledger>(
     put(ground, parcel, pair, class, &placed, steps)?;
     ground.table.assert_invariant();
     Ok(placed.at)
+}
+
+// The same for a pair, the most frequent object. Its sizes are numbers here, so few tests remain of `relocate`.
+#[inline(always)]
+pub(crate) fn relocate_pair<M: Memory, L: Ledger>(
+    ground: &mut Ground<M>,
+    parcel: &Parcel,
+    pair: Pair,
+    class: Class,
+    steps: &mut Steps<L>,
+) -> Result<u32, SwapFault>
+    requires can { CanMove (view ground.old) parcel.now }
+    requires agrees { IsOldClass ground.old.table parcel.now.at class }
+    requires pair { ArePairOf (view ground.old).mem.store.words parcel.now pair }
+    ensures moved { IfOk result (Relocates (view ground.old) (view ground.new) parcel.now) }
+    ensures fault { OnErr result (OpensOnly (view ground.old) (view ground.new)) }
+    ensures accounted { AccountsForFaults (view ground.old).mem (view ground.new).mem steps.old steps.new result }
+    ensures cost { steps.new ≤ steps.old + 3 * word_count_of parcel.now + 18 }
+    ensures cost_at_most { OnErr result (steps.new ≤ steps.old + 18) }
+{
+    let whole = Parcel {
+        at: parcel.at,
+        words: 2,
+        objects: 1,
+        charge: parcel.charge,
+        rest: None,
+    };
+    relocate(ground, &whole, Some(pair), class, steps)
 }

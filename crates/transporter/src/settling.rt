@@ -1,8 +1,8 @@
 //! Settling (the read barrier): an old address in a word becomes that of the transported object.
-ghost use Rattle.std.specs.Prelude.{◌≡◌, ℕ, List, ◌+◌, ◌-◌, ◌*◌, ◌/◌, ◌<◌, ◌≤◌, ◌^◌, ◌↔◌, IsTrue, IfOk, OnOk, OnErr, Some, length};
+ghost use Rattle.std.specs.Prelude.{◌≡◌, ℕ, List, ◌+◌, ◌-◌, ◌*◌, ◌/◌, ◌<◌, ◌≤◌, ◌^◌, IfOk, OnOk, OnErr, Some, length};
 ghost use Rattle.mem_port.specs.View.{AccountsForFaults, shown};
 ghost use Rattle.area_space.specs.View.{view};
-ghost use Rattle.transporter.specs.Views.{NoOldAddresses, CanSettle, FetchMoves, HasOldAt, IsSettleable, RepresentedByLaterMap, LiveWordsUnchanged, LiveWordsUnchangedExcept, MarksFollow, MovesAtMost, MovesFor, SettlesOn, SettlesWordAt, WordsUnchanged, PreservesScanned};
+ghost use Rattle.transporter.specs.Views.{NoOldAddresses, CanSettle, FetchMoves, HasOldAt, IsSettleable, KeepsBarrier, RepresentedByLaterMap, LiveWordsUnchanged, LiveWordsUnchangedExcept, MarksFollow, MovesAtMost, MovesFor, SettlesAlways, SettlesOn, SettlesWordAt, WordsUnchanged, PreservesScanned};
 ghost use Rattle.area_space.specs.lisp_graph.declared.object.Value.{Value};
 ghost use Rattle.area_space.specs.lisp_graph.declared.world.AreaRule.{AreaRule};
 ghost use Rattle.lisp_ground.specs.lisp_meaning.State.{Condemned, Store};
@@ -15,12 +15,13 @@ ghost use Rattle.transporter.specs.LiveWordsUnchanged.{IsLiveWord};
 ghost use Rattle.transporter.specs.Settling.{reference_of, readdressed, RefersToOld, Replaces, Settles};
 
 use crate::transports::transport;
-use area_space::{Ground, RegionTable};
+use area_space::Ground;
 use mem_port::Memory;
 use std::sync::ledger::Ledger;
 use store_word::{Content, Steps, SwapFault, Word};
 
 // The address of a reference.
+#[inline(always)]
 fn reference(word: Word) -> Option<u32>
     ensures { result ≡ reference_of word.content }
 {
@@ -44,16 +45,6 @@ fn with_address(word: Word, to: u32) -> Word
     }
 }
 
-// Whether an address is in an old region. While no collection runs, no region is old, and the table
-// doesn't look for the region.
-#[inline]
-fn is_in_old(table: &RegionTable, at: u32) -> bool
-    requires { at / 4096 < table.now.regions }
-    ensures { IsTrue result ↔ IsOld table.now (at / 4096) }
-{
-    table.is_collecting() && table.is_old(at)
-}
-
 /// The word itself or, if it is a reference to an old address, the word with the address of the
 /// same object in a live region. It has the same cdr code and the same value.
 ///
@@ -63,7 +54,7 @@ fn is_in_old(table: &RegionTable, at: u32) -> bool
 /// Without a swap error it takes at most 43 memory accesses and 4 for each word that it places, at
 /// most 2,048; none for a word without an old address. After a swap error, at most 1,069 memory
 /// accesses: every word is as before, and the count of swap errors has risen.
-#[inline]
+#[inline(always)]
 pub fn settle<M: Memory, L: Ledger>(
     ground: &mut Ground<M>,
     word: Word,
@@ -97,7 +88,7 @@ pub fn settle<M: Memory, L: Ledger>(
     ensures cost_at_most { OnErr result (steps.new ≤ steps.old + 1069) }
 {
     match reference(word) {
-        Some(at) if is_in_old(&ground.table, at) => settle_old(ground, word, at, steps),
+        Some(at) if ground.table.is_old(at) => settle_old(ground, word, at, steps),
         _ => Ok(word),
     }
 }
@@ -115,18 +106,12 @@ fn settle_old<M: Memory, L: Ledger>(
     requires in_range { IsOld ground.old.table (at / 4096) }
 
     // The word that is returned, and its value.
-    ensures settles { IfOk result (λ new. (k : RoleMap) (top : ℕ) (areas : List AreaRule) (registers : List Value) (s : Store) (aim : Condemned) (v : Value)
-        → CanSettle (view ground.old) k top areas registers s aim word v
-        → SettlesOn (view ground.old) (view ground.new) k top areas s aim word new) }
+    ensures settles { IfOk result (SettlesAlways (view ground.old) (view ground.new) word) }
     ensures word { IfOk result (Settles ground.old.table ground.new.table word) }
     ensures words { IfOk result (MovesFor (view ground.old) (view ground.new) word) }
-    ensures moves { MovesAtMost (view ground.old) (view ground.new) 1 }
 
-    // What is unchanged in the ground.
-    ensures table { Grows ground.old.table ground.new.table }
-    ensures live { LiveWordsUnchanged (view ground.old) (view ground.new) }
-    ensures preserves { PreservesScanned (view ground.old) (view ground.new) }
-    ensures marks { MarksFollow (view ground.old) (view ground.new) }
+    // What changes in the ground, and what is unchanged.
+    ensures stays_ground { KeepsBarrier (view ground.old) (view ground.new) }
 
     // What holds after a swap error, and that it is counted.
     ensures fault { OnErr result (WordsUnchanged (view ground.old) (view ground.new)) }
@@ -148,6 +133,7 @@ fn settle_old<M: Memory, L: Ledger>(
 /// 45 memory accesses and 4 for each word that it places, at most 2,048; with one, at most 1,026
 /// more. After a swap error each used word of a live region is as before; an object may have moved,
 /// and the count of swap errors has risen.
+#[inline]
 pub fn fetch<M: Memory, L: Ledger>(
     ground: &mut Ground<M>,
     at: u32,

@@ -13,7 +13,7 @@ ghost use Rattle.transporter.specs.Parcels.{StandsWhole};
 ghost use Rattle.transporter.specs.Relocations.{IsOldClass};
 
 use crate::parcel::parcel_of;
-use crate::relocation::{class_if_old, relocate};
+use crate::relocation::{class_if_old, relocate, relocate_pair};
 use area_space::{Class, Ground};
 use mem_port::Memory;
 use obj_layout::{Resolved, resolve_first};
@@ -84,5 +84,10 @@ fn move_from<M: Memory, L: Ledger>(
     ensures cost_at_most { OnErr result (steps.new ≤ steps.old + 1057) }
 {
     let found = parcel_of(&mut ground.mem, object, steps)?;
-    relocate(ground, &found.parcel, found.pair, class, steps)
+    let parcel = found.parcel;
+    let words = found.pair;
+    match words {
+        Some(pair) => relocate_pair(ground, &parcel, pair, class, steps),
+        None => relocate(ground, &parcel, None, class, steps),
+    }
 }

@@ -36,3 +36,13 @@ returns-clause-word g c =
 
 pub returns-clause-words : goal.returns-clause-words
 returns-clause-words g c = moves_for c.args.at c.in_ok-to.to c.requires.agrees c.requires.in_range c.in_ok-to.ensures.words c.with_address.ensures
+
+pub returns-in_err-to-clause-stays_ground : goal.returns-in_err-to-clause-stays_ground
+returns-in_err-to-clause-stays_ground g c =
+    let to = c.in_err-to.ensures in
+    record { moves = to.moves; table = to.table; live = to.live; preserves = to.preserves; marks = to.marks }
+
+pub returns-clause-stays_ground : goal.returns-clause-stays_ground
+returns-clause-stays_ground g c =
+    let to = c.in_ok-to.ensures in
+    record { moves = to.moves; table = to.table; live = to.live; preserves = to.preserves; marks = to.marks }
