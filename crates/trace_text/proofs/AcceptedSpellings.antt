@@ -132,7 +132,7 @@ list_back space areas name to area items small names one all some few =
     command_read space areas (codes "list") words (commands.List to area items) refl (ap (λ (said : Result Command Reason). said >>= (λ c. Ok (Run c))) read)
     (rw (register_good space to small one, names.word, item_words) refl)
 
-make_back : (space : Space) (areas : List AreaRule) (name : List ℕ) (to area code size : ℕ) → space.registers ≤ 256 → NamesArea areas name area → to < space.registers → code ≤ 65535 → size ≤ 2047
+pub make_back : (space : Space) (areas : List AreaRule) (name : List ℕ) (to area code size : ℕ) → space.registers ≤ 256 → NamesArea areas name area → to < space.registers → code ≤ 65535 → size ≤ 2047
     → Accepts space areas (codes "make" ∷ decimal to ∷ name ∷ decimal code ∷ decimal size ∷ []) (commands.Make to area code size)
 unfolding line_in command_in make_in
 make_back space areas name to area code size small names one low short =
@@ -142,7 +142,7 @@ make_back space areas name to area code size small names one low short =
     ∙ number_back 65535 code (decimal size ∷ []) _ (omega arith) low ∙ number_back 2047 size [] _ (omega arith) short))
     (rw (register_good space to small one, names.word, decimal_word code (omega arith), decimal_word size (omega arith)) refl)
 
-grow_back : (space : Space) (areas : List AreaRule) (target size : ℕ) → space.registers ≤ 256 → target < space.registers → size ≤ 2047 → Accepts space areas (codes "grow" ∷ decimal target ∷ decimal size ∷ []) (commands.Grow target size)
+pub grow_back : (space : Space) (areas : List AreaRule) (target size : ℕ) → space.registers ≤ 256 → target < space.registers → size ≤ 2047 → Accepts space areas (codes "grow" ∷ decimal target ∷ decimal size ∷ []) (commands.Grow target size)
 unfolding line_in command_in grow_in
 grow_back space areas target size small one short =
     command_read space areas (codes "grow") (decimal target ∷ decimal size ∷ []) (commands.Grow target size) refl
@@ -167,7 +167,7 @@ put_back space areas target index from small one two low =
     (register_back space target (decimal index ∷ decimal from ∷ []) _ small one ∙ number_back (2 ^ 32 - 1) index (decimal from ∷ []) _ (omega arith) (omega arith) ∙ register_back space from [] _ small two))
     (rw (register_good space target small one, decimal_word index (omega arith), register_good space from small two) refl)
 
-size_back : (space : Space) (areas : List AreaRule) (of : ℕ) → space.registers ≤ 256 → of < space.registers → Accepts space areas (codes "size" ∷ decimal of ∷ []) (commands.Size of)
+pub size_back : (space : Space) (areas : List AreaRule) (of : ℕ) → space.registers ≤ 256 → of < space.registers → Accepts space areas (codes "size" ∷ decimal of ∷ []) (commands.Size of)
 unfolding line_in command_in size_in
 size_back space areas of small one =
     command_read space areas (codes "size") (decimal of ∷ []) (commands.Size of) refl

@@ -16,8 +16,8 @@ use Rattle.trace_text.specs.declared.pair.PairKind.{PairKind}
 use Rattle.trace_text.specs.Commands.{Run, trace_line}
 use Rattle.trace_text.specs.Pairs.{pair_name, pair_with}
 use Rattle.trace_text.specs.Items.{items_of}
-use Rattle.trace_text.specs.Fast.{LeadsCommand, LeadsCons, LeadsItems, LeadsList, LeadsSet}
-use Rattle.trace_text.proofs.AcceptedSpellings.{NamesArea, cons_back, get_back, kind_back, list_back, put_back, set_back}
+use Rattle.trace_text.specs.Fast.{LeadsCommand, LeadsCons, LeadsItems, LeadsList, LeadsMake, LeadsSet}
+use Rattle.trace_text.proofs.AcceptedSpellings.{NamesArea, cons_back, get_back, grow_back, kind_back, list_back, make_back, put_back, set_back, size_back}
 
 -- Words with a space between them make a line
 
@@ -52,23 +52,33 @@ pair_line space areas text words rest kind one two small one_in two_in head is =
 names : (areas : List AreaRule) (text : List ℕ) (area : ℕ) (rest : List ℕ) (lead : LeadsArea areas text area rest) → NamesArea areas lead.name area
 names areas text area rest lead = record { word = lead.word; read = ap (found NoArea) lead.found }
 
-cons_row : (name to car cdr : List ℕ) → codes "cons " ++ to ++ 32 ∷ (name ++ 32 ∷ (car ++ 32 ∷ cdr)) ≡ line_of (codes "cons" ∷ to ∷ name ∷ car ∷ cdr ∷ [])
-cons_row name to car cdr = simp (append_assoc, append-nil)
+area_row : (command to name first second : List ℕ) → (command ++ 32 ∷ []) ++ (to ++ 32 ∷ (name ++ 32 ∷ (first ++ 32 ∷ second))) ≡ line_of (command ∷ to ∷ name ∷ first ∷ second ∷ [])
+area_row command to name first second = simp (append_assoc, append-nil)
 
-cons_text : (name to car cdr rest : List ℕ) → codes "cons " ++ to ++ 32 ∷ (name ++ (32 ∷ car ++ 32 ∷ cdr ++ rest)) ≡ line_of (codes "cons" ∷ to ∷ name ∷ car ∷ cdr ∷ []) ++ rest
-cons_text name to car cdr rest =
-    ap (λ more. codes "cons " ++ to ++ 32 ∷ more) (after_space name (car ++ 32 ∷ cdr) rest)
-    ∙ ap (λ more. codes "cons " ++ more) (after_space to (name ++ 32 ∷ (car ++ 32 ∷ cdr)) rest) ∙ ap (λ line. line ++ rest) (cons_row name to car cdr)
+area_text : (command to name first second rest : List ℕ) → (command ++ 32 ∷ []) ++ (to ++ 32 ∷ (name ++ (32 ∷ first ++ 32 ∷ second ++ rest))) ≡ line_of (command ∷ to ∷ name ∷ first ∷ second ∷ []) ++ rest
+area_text command to name first second rest =
+    ap (λ more. (command ++ 32 ∷ []) ++ (to ++ 32 ∷ more)) (after_space name (first ++ 32 ∷ second) rest)
+    ∙ ap (λ more. (command ++ 32 ∷ []) ++ more) (after_space to (name ++ 32 ∷ (first ++ 32 ∷ second)) rest)
+    ∙ sym (append_assoc (command ++ 32 ∷ []) (to ++ 32 ∷ (name ++ 32 ∷ (first ++ 32 ∷ second))) rest) ∙ ap (λ line. line ++ rest) (area_row command to name first second)
 
-cons_words : (name to car cdr named last rest text : List ℕ) → text ≡ codes "cons " ++ to ++ 32 ∷ named → named ≡ name ++ last → last ≡ 32 ∷ car ++ 32 ∷ cdr ++ rest → text ≡ line_of (codes "cons" ∷ to ∷ name ∷ car ∷ cdr ∷ []) ++ rest
-cons_words name to car cdr named last rest text head lead is =
-    head ∙ ap (λ more. codes "cons " ++ to ++ 32 ∷ more) (lead ∙ ap (λ more. name ++ more) is) ∙ cons_text name to car cdr rest
+-- the name of an area, and two numbers after it
+area_words : (command to name first second named last rest text : List ℕ) → text ≡ (command ++ 32 ∷ []) ++ (to ++ 32 ∷ named) → named ≡ name ++ last → last ≡ 32 ∷ first ++ 32 ∷ second ++ rest
+    → text ≡ line_of (command ∷ to ∷ name ∷ first ∷ second ∷ []) ++ rest
+area_words command to name first second named last rest text head lead is =
+    head ∙ ap (λ more. (command ++ 32 ∷ []) ++ (to ++ 32 ∷ more)) (lead ∙ ap (λ more. name ++ more) is) ∙ area_text command to name first second rest
 
 pub cons_line : (space : Space) (areas : List AreaRule) (text rest : List ℕ) (to area car cdr : ℕ) → space.registers ≤ 256 → LeadsCons space areas text to area car cdr rest → LeadsCommand space areas text (commands.Cons to area car cdr) rest
 cons_line space areas text rest to area car cdr small s = record {
   line = line_of (codes "cons" ∷ decimal to ∷ s.name.name ∷ decimal car ∷ decimal cdr ∷ []);
   means = cons_back space areas s.name.name to area car cdr small (names areas s.named area s.last s.name) s.to_in s.car_in s.cdr_in;
-  is = cons_words s.name.name (decimal to) (decimal car) (decimal cdr) s.named s.last rest text s.head s.name.is s.is;
+  is = area_words (codes "cons") (decimal to) s.name.name (decimal car) (decimal cdr) s.named s.last rest text s.head s.name.is s.is;
+}
+
+pub make_line : (space : Space) (areas : List AreaRule) (text rest : List ℕ) (to area code size : ℕ) → space.registers ≤ 256 → LeadsMake space areas text to area code size rest → LeadsCommand space areas text (commands.Make to area code size) rest
+make_line space areas text rest to area code size small s = record {
+  line = line_of (codes "make" ∷ decimal to ∷ s.name.name ∷ decimal code ∷ decimal size ∷ []);
+  means = make_back space areas s.name.name to area code size small (names areas s.named area s.last s.name) s.to_in s.numbers s.limit;
+  is = area_words (codes "make") (decimal to) s.name.name (decimal code) (decimal size) s.named s.last rest text s.head s.name.is s.is;
 }
 
 list_text : (name to : List ℕ) (words : List (List ℕ)) (rest : List ℕ) → codes "list " ++ to ++ 32 ∷ (name ++ (spaced words ++ rest)) ≡ line_of (codes "list" ∷ to ∷ name ∷ words) ++ rest
@@ -111,6 +121,24 @@ put_line space areas text rest target index from small target_in from_in fits is
   line = line_of (codes "put" ∷ decimal target ∷ decimal index ∷ decimal from ∷ []);
   means = put_back space areas target index from small target_in from_in fits;
   is = is ∙ three_words (codes "put") (decimal target) (decimal index) (decimal from) rest;
+}
+
+pub grow_line : (space : Space) (areas : List AreaRule) (text rest : List ℕ) (target size : ℕ) → space.registers ≤ 256 → target < space.registers → size ≤ 2047
+    → text ≡ codes "grow " ++ decimal target ++ 32 ∷ decimal size ++ rest → LeadsCommand space areas text (commands.Grow target size) rest
+grow_line space areas text rest target size small target_in short is = record {
+  line = line_of (codes "grow" ∷ decimal target ∷ decimal size ∷ []);
+  means = grow_back space areas target size small target_in short;
+  is = is ∙ two_words (codes "grow") (decimal target) (decimal size) rest;
+}
+
+one_word : (name a rest : List ℕ) → (name ++ 32 ∷ []) ++ a ++ rest ≡ line_of (name ∷ a ∷ []) ++ rest
+one_word name a rest = simp (append_assoc, append-nil)
+
+pub size_line : (space : Space) (areas : List AreaRule) (text rest : List ℕ) (of : ℕ) → space.registers ≤ 256 → of < space.registers → text ≡ codes "size " ++ decimal of ++ rest → LeadsCommand space areas text (commands.Size of) rest
+size_line space areas text rest of small of_in is = record {
+  line = line_of (codes "size" ∷ decimal of ∷ []);
+  means = size_back space areas of small of_in;
+  is = is ∙ one_word (codes "size") (decimal of) rest;
 }
 
 -- a command that is the whole text

@@ -36,6 +36,17 @@ pub record LeadsCons (space : Space) (areas : List AreaRule) (text : List ℕ) (
   pub cdr_in : cdr < space.registers
   pub is : last ≡ 32 ∷ decimal car ++ 32 ∷ decimal cdr ++ rest
 
+-- the text is `make` with this register, the name of this area, this code and this length, and then this rest
+pub record LeadsMake (space : Space) (areas : List AreaRule) (text : List ℕ) (to area code size : ℕ) (rest : List ℕ) : Type 0 where
+  pub named : List ℕ
+  pub last : List ℕ
+  pub head : text ≡ codes "make " ++ decimal to ++ 32 ∷ named
+  pub name : LeadsArea areas named area last
+  pub to_in : to < space.registers
+  pub numbers : code ≤ 65535
+  pub limit : size ≤ 2047
+  pub is : last ≡ 32 ∷ decimal code ++ 32 ∷ decimal size ++ rest
+
 -- the text is `list` with this register and the name of this area, and then these items
 pub record LeadsList (space : Space) (areas : List AreaRule) (text : List ℕ) (to area : ℕ) (items : List ℕ) : Type 0 where
   pub named : List ℕ

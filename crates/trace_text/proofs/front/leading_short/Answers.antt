@@ -2,7 +2,7 @@ use Rattle.std.proofs.Common.{◌≡◌, ℕ, ◌+◌, ◌-◌, ◌*◌, ◌≤�
 use Rattle.std.proofs.lemmas.List.{take_rest}
 use Rattle.std.proofs.lemmas.Fmt.{decimal_digit}
 use Rattle.itoa.proofs.Decimal.{decimal_two}
-use Rattle.trace_text.proofs.fast.leading_short.Goals as goal
+use Rattle.trace_text.proofs.front.leading_short.Goals as goal
 
 one_digit : (first : ℕ) (rest : List ℕ) → 48 ≤ first → first ≤ 57 → first ∷ rest ≡ decimal (first - 48) ++ rest
 one_digit first rest low high = let e : first ≡ 48 + (first - 48) = omega arith in rw (decimal_digit (first - 48) (omega arith)) (ap (λ d. d ∷ rest) e)

@@ -1,5 +1,5 @@
 use Rattle.trace_text.proofs.FastLines.{get_line}
-use Rattle.trace_text.proofs.fast.get.Goals as goal
+use Rattle.trace_text.proofs.fast_blocks.get.Goals as goal
 
 pub returns : goal.returns
 returns c = λ areas.

@@ -1,5 +1,5 @@
 use Rattle.trace_text.proofs.FastLines.{put_line}
-use Rattle.trace_text.proofs.fast.put.Goals as goal
+use Rattle.trace_text.proofs.fast_blocks.put.Goals as goal
 
 pub returns : goal.returns
 returns c = λ areas.

@@ -1,0 +1,123 @@
+//! Registers, numbers and values at the front of a text, for the readers of the most frequent commands. Each call looks at each byte once, and
+//! returns None if the text begins with something else.
+ghost use Rattle.std.specs.Prelude.{◌≡◌, ◌≤◌, ◌<◌, ◌++◌, ◌∷◌, decimal, IfSome};
+ghost use Rattle.lisp_graph.specs.Commands.{IsPlain};
+ghost use Rattle.world_text.specs.Spelling.{IsWritten, value_text};
+
+use lisp_graph::Value;
+use world_text::{behind_space, leading_number, leading_value};
+
+/// A number of one or two digits, and the text after it, which isn't empty. Most registers are such numbers.
+#[inline(always)]
+fn leading_short(text: &[u8]) -> Option<(u32, &[u8])>
+    ensures { IfSome result (λ x. text.now ≡ decimal x.0 ++ x.1.now) }
+{
+    let [first, second, rest @ ..] = text else {
+        return None;
+    };
+    if !first.is_ascii_digit() {
+        return None;
+    }
+    let tens = u32::from(*first - b'0');
+    if !second.is_ascii_digit() {
+        return Some((tens, &text[1..]));
+    }
+    if tens == 0 || rest.is_empty() || rest[0].is_ascii_digit() {
+        return None;
+    }
+    Some((10 * tens + u32::from(*second - b'0'), rest))
+}
+
+/// A number, and the text after it.
+#[inline(always)]
+pub fn leading_any(text: &[u8]) -> Option<(u32, &[u8])>
+    ensures { IfSome result (λ x. text.now ≡ decimal x.0 ++ x.1.now) }
+{
+    match leading_short(text) {
+        Some(found) => Some(found),
+        None => leading_number(text),
+    }
+}
+
+/// A register, and the text after it.
+#[inline(always)]
+pub fn leading_register(registers: u32, text: &[u8]) -> Option<(u8, &[u8])>
+    requires { registers ≤ 256 }
+    ensures { IfSome result (λ x. (x.0 < registers) × (text.now ≡ decimal x.0 ++ x.1.now)) }
+{
+    let (number, rest) = leading_any(text)?;
+    if number < registers {
+        Some((number as u8, rest))
+    } else {
+        None
+    }
+}
+
+/// A register and a space, and the text after them.
+#[inline(always)]
+pub fn register_and_space(registers: u32, text: &[u8]) -> Option<(u8, &[u8])>
+    requires { registers ≤ 256 }
+    ensures { IfSome result (λ x. (x.0 < registers) × (text.now ≡ decimal x.0 ++ 32 ∷ x.1.now)) }
+{
+    let (register, rest) = leading_register(registers, text)?;
+    let behind = behind_space(rest)?;
+    Some((register, behind))
+}
+
+/// Two registers, and the text after them.
+#[inline(always)]
+pub fn two_registers(registers: u32, text: &[u8]) -> Option<(u8, u8, &[u8])>
+    requires { registers ≤ 256 }
+    ensures { IfSome result (λ x. (x.0 < registers) × (x.1 < registers) × (text.now ≡ decimal x.0 ++ 32 ∷ decimal x.1 ++ x.2.now)) }
+{
+    let (first, last) = register_and_space(registers, text)?;
+    let (second, rest) = leading_register(registers, last)?;
+    Some((first, second, rest))
+}
+
+/// A number and a space, and the text after them.
+#[inline(always)]
+pub fn number_and_space(text: &[u8]) -> Option<(u32, &[u8])>
+    ensures { IfSome result (λ x. text.now ≡ decimal x.0 ++ 32 ∷ x.1.now) }
+{
+    let (number, rest) = leading_any(text)?;
+    let behind = behind_space(rest)?;
+    Some((number, behind))
+}
+
+/// A space and a register, and the text after them.
+#[inline(always)]
+pub fn spaced_register(registers: u32, text: &[u8]) -> Option<(u8, &[u8])>
+    requires { registers ≤ 256 }
+    ensures { IfSome result (λ x. (x.0 < registers) × (text.now ≡ 32 ∷ decimal x.0 ++ x.1.now)) }
+{
+    let word = behind_space(text)?;
+    leading_register(registers, word)
+}
+
+/// A number of one or two digits as a value, and the text after it, which isn't empty.
+#[inline(always)]
+fn short_value(text: &[u8]) -> Option<(Value, &[u8])>
+    ensures { IfSome result (λ x. IsPlain x.0 × IsWritten x.0 × (text.now ≡ value_text x.0 ++ x.1.now)) }
+{
+    let (number, rest) = leading_short(text)?;
+    if number > i32::MAX as u32 {
+        return None;
+    }
+    Some((Value::Fix(number as i32), rest))
+}
+
+/// `nil` or an integer, and the text after it. Most values are numbers of one or two digits.
+#[inline(always)]
+pub fn plain_value(text: &[u8]) -> Option<(Value, &[u8])>
+    ensures { IfSome result (λ x. IsPlain x.0 × IsWritten x.0 × (text.now ≡ value_text x.0 ++ x.1.now)) }
+{
+    if let Some(found) = short_value(text) {
+        return Some(found);
+    }
+    let (value, rest) = leading_value(text)?;
+    match value {
+        Value::Ref(_) => None,
+        Value::Fix(_) | Value::Nil => Some((value, rest)),
+    }
+}
