@@ -1,5 +1,6 @@
 //! Writing a world.
 
+mod backward_line;
 mod dump;
 mod dumped;
 mod file;

@@ -6,7 +6,7 @@ use Rattle.std.proofs.lemmas.List.{map-append, length-map, take-append-le, take_
 use Rattle.std.proofs.lemmas.List.Elements.{All-nil, All-push, All-get_or}
 use Rattle.std.proofs.lemmas.Option.{get_or_from_slice_get, slice_get_within}
 use Rattle.lisp_graph.specs.Graph.{value_at}
-use Rattle.lisp_graph.specs.KeyedGraph.{KeyedGraph, Shows}
+use Rattle.lisp_graph.specs.KeyedGraph.{KeyedGraph, Shows, cons_at}
 use Rattle.lisp_graph.specs.declared.object.Value.{Value}
 use Rattle.lisp_graph.specs.declared.object.Value.TheVariants.{Ref}
 use Rattle.lisp_graph.specs.declared.object.Body.{Body}
@@ -14,11 +14,12 @@ use Rattle.lisp_graph.specs.declared.object.Body.TheVariants as B
 use Rattle.lisp_graph.specs.declared.object.Object.{Object}
 use Rattle.lisp_graph.specs.declared.walk.Form.{Form}
 use Rattle.lisp_graph.specs.declared.walk.Seen.{Seen}
-use Rattle.lisp_graph.specs.declared.walk.Seen.TheVariants.{Nil, Cons, Block}
+use Rattle.lisp_graph.specs.declared.walk.Seen.TheVariants.{Cons, Block}
+use Rattle.lisp_graph.specs.declared.walk.SeenCons.{SeenCons}
 use Rattle.world_text.specs.declared.writing.visit.VisitedObjects.{VisitedObjects}
 use Rattle.world_text.specs.writing.Dump.{dumped_body, dumped_object, dumped_value, reference}
 use Rattle.world_text.specs.writing.Numbering.{AllVisited, Chained, Visited, Walked, done, fields_from, fields_of, is_numbered, more, none, seen_as, step}
-use Rattle.world_text.specs.writing.Visits.{AreDumped, AreVisited, AreVisits, Grows, IsBody, IsDumped, IsVisit, IsWalk, cdr_of}
+use Rattle.world_text.specs.writing.Visits.{AreDumped, AreVisited, AreVisits, Grows, IsDumped, IsVisit, IsWalk, ShowsParts, kept_of, no_cons}
 use Rattle.world_text.proofs.reading_laws.AreaLaws.{get_front}
 use Rattle.world_text.proofs.writing_laws.Visits.{item_read, item_shows, known_more}
 use Rattle.world_text.proofs.writing_laws.Numbers.{all_grow, grows_none, grows_twice, number_chained, number_next, number_of, number_stays, numbered_some, visit_grows, walk_grows}
@@ -27,41 +28,49 @@ use Rattle.world_text.proofs.writing_laws.Numbers.{all_grow, grows_none, grows_t
 
 -- An object gets a number
 
--- one more object, with its cdr
-pub visits_more : (graph : KeyedGraph) (old new : VisitedObjects) (key : ℕ) (cons : Bool) (cdr : Seen) → AreVisits graph old → Shows graph (seen_as cons key) → Shows graph cdr → cdr ≡ cdr_of graph key
-    → new.numbering.keys ≡ old.numbering.keys ++ key ∷ [] → new.numbering.conses ≡ old.numbering.conses ++ cons ∷ [] → new.cdrs ≡ old.cdrs ++ cdr ∷ [] → AreVisits graph new
-visits_more graph old new key cons cdr visits shows shown is keys conses cdrs = record {
-  known = known_more graph old.numbering new.numbering key cons visits.known shows keys conses;
-  cdrs = cdrs ∙ ap (λ (l : List Seen). l ++ cdr ∷ []) visits.cdrs ∙ ap (λ (x : Seen). map (cdr_of graph) old.numbering.keys ++ x ∷ []) is
-      ∙ sym (map-append (cdr_of graph) old.numbering.keys (key ∷ [])) ∙ ap (map (cdr_of graph)) (sym keys);
-  shown = subst (All (Shows graph)) (sym cdrs) (All-push (Shows graph) old.cdrs cdr visits.shown shown);
+-- one more object, with what is kept of it
+pub visits_more : (graph : KeyedGraph) (old new : VisitedObjects) (key : ℕ) (cons : Bool) (kept : SeenCons) → AreVisits graph old → Shows graph (seen_as cons key) → ShowsParts graph kept → kept ≡ kept_of graph key
+    → new.numbering.keys ≡ old.numbering.keys ++ key ∷ [] → new.numbering.conses ≡ old.numbering.conses ++ cons ∷ [] → new.conses ≡ old.conses ++ kept ∷ [] → AreVisits graph new
+visits_more graph old new key cons kept visits shows shown is keys kinds conses = record {
+  known = known_more graph old.numbering new.numbering key cons visits.known shows keys kinds;
+  conses = conses ∙ ap (λ (l : List SeenCons). l ++ kept ∷ []) visits.conses ∙ ap (λ (x : SeenCons). map (kept_of graph) old.numbering.keys ++ x ∷ []) is
+      ∙ sym (map-append (kept_of graph) old.numbering.keys (key ∷ [])) ∙ ap (map (kept_of graph)) (sym keys);
+  shown = subst (All (ShowsParts graph)) (sym conses) (All-push (ShowsParts graph) old.conses kept visits.shown shown);
 }
 
--- the cdr of a cons is its second field, and that of a block nil
-pub cdr_of_cons : (graph : KeyedGraph) (key : ℕ) → graph.cons key ≡ true → cdr_of graph key ≡ graph.field key 1
-cdr_of_cons graph key cons = ap (λ (b : Bool). if b then graph.field key 1 else Nil) cons
+-- a cons is kept as it is shown, and of a block nothing
+pub kept_of_cons : (graph : KeyedGraph) (key : ℕ) → graph.cons key ≡ true → kept_of graph key ≡ cons_at graph key
+kept_of_cons graph key cons = ap (λ (b : Bool). if b then cons_at graph key else no_cons) cons
 
-pub cdr_of_block : (graph : KeyedGraph) (key : ℕ) → graph.cons key ≡ false → cdr_of graph key ≡ Nil
-cdr_of_block graph key block = ap (λ (b : Bool). if b then graph.field key 1 else Nil) block
+pub kept_of_block : (graph : KeyedGraph) (key : ℕ) → graph.cons key ≡ false → kept_of graph key ≡ no_cons
+kept_of_block graph key block = ap (λ (b : Bool). if b then cons_at graph key else no_cons) block
 
--- the cdr that is kept for the cons with this number
-pub cdr_kept : (graph : KeyedGraph) (visits : VisitedObjects) (number key : ℕ) (cdrs : List Seen) (default : Seen) → AreVisits graph visits → slice_get visits.numbering.keys number ≡ Some key
-    → graph.cons key ≡ true → cdrs ≡ visits.cdrs → get_or cdrs number default ≡ graph.field key 1
-cdr_kept graph visits number key cdrs default are at cons is =
-    get_or_from_slice_get cdrs number (graph.field key 1) default
-    (ap (λ (l : List Seen). slice_get l number) (is ∙ are.cdrs) ∙ mapped (cdr_of graph) visits.numbering.keys number key at ∙ ap Some (cdr_of_cons graph key cons))
+-- one more cons
+pub cons_more : (now graph : KeyedGraph) (old new : VisitedObjects) (key : ℕ) (cons : SeenCons) → now ≡ graph → AreVisits graph old → Shows graph (Cons key) → cons ≡ cons_at now key
+    → Shows now cons.car → Shows now cons.cdr → new.numbering.keys ≡ old.numbering.keys ++ key ∷ [] → new.numbering.conses ≡ old.numbering.conses ++ true ∷ [] → new.conses ≡ old.conses ++ cons ∷ [] → AreVisits graph new
+cons_more now graph old new key cons same visits shows is car cdr keys kinds conses =
+    let parts : ShowsParts graph cons = subst (λ (g : KeyedGraph). ShowsParts g cons) same (car, cdr) in
+    let kept : cons ≡ kept_of graph key = is ∙ ap (λ (g : KeyedGraph). cons_at g key) same ∙ sym (kept_of_cons graph key shows.3) in
+    visits_more graph old new key true cons visits shows parts kept keys kinds conses
+
+-- what is kept of the cons with this number
+pub cons_kept : (graph : KeyedGraph) (visits : VisitedObjects) (number key : ℕ) (conses : List SeenCons) (default : SeenCons) → AreVisits graph visits → slice_get visits.numbering.keys number ≡ Some key
+    → graph.cons key ≡ true → conses ≡ visits.conses → get_or conses number default ≡ cons_at graph key
+cons_kept graph visits number key conses default are at cons is =
+    get_or_from_slice_get conses number (cons_at graph key) default
+    (ap (λ (l : List SeenCons). slice_get l number) (is ∙ are.conses) ∙ mapped (kept_of graph) visits.numbering.keys number key at ∙ ap Some (kept_of_cons graph key cons))
   where
     mapped : {X Y : Type 0} (f : X → Y) (items : List X) (number : ℕ) (item : X) → slice_get items number ≡ Some item → slice_get (map f items) number ≡ Some (f item)
     mapped f [] number item is = absurd (cc (is))
     mapped f (x ∷ items) zero item is = let e : x ≡ item = cc (is) in ap (λ o. Some (f o)) e
     mapped f (x ∷ items) (suc number) item is = mapped f items number item is
 
-pub cdr_shown : (graph : KeyedGraph) (visits : VisitedObjects) (number key : ℕ) (cdrs : List Seen) (default : Seen) → AreVisits graph visits → slice_get visits.numbering.keys number ≡ Some key
-    → cdrs ≡ visits.cdrs → Shows graph (get_or cdrs number default)
-cdr_shown graph visits number key cdrs default are at is =
-    let within : number < length cdrs =
-    omega (arith, ap length (is ∙ are.cdrs), length-map visits.numbering.keys (cdr_of graph), slice_get_within visits.numbering.keys number key at) in
-    All-get_or (Shows graph) cdrs number default within (subst (All (Shows graph)) (sym is) are.shown)
+pub parts_shown : (graph : KeyedGraph) (visits : VisitedObjects) (number key : ℕ) (conses : List SeenCons) (default : SeenCons) → AreVisits graph visits → slice_get visits.numbering.keys number ≡ Some key
+    → conses ≡ visits.conses → ShowsParts graph (get_or conses number default)
+parts_shown graph visits number key conses default are at is =
+    let within : number < length conses =
+    omega (arith, ap length (is ∙ are.conses), length-map visits.numbering.keys (kept_of graph), slice_get_within visits.numbering.keys number key at) in
+    All-get_or (ShowsParts graph) conses number default within (subst (All (ShowsParts graph)) (sym is) are.shown)
 
 -- A value is visited
 
@@ -88,11 +97,11 @@ block_before graph visits key number are is = record {
 }
 
 pub block_now : (graph : KeyedGraph) (old new : VisitedObjects) (key : ℕ) → is_numbered old.numbering.keys key ≡ false → AreVisits graph old → Shows graph (Block key)
-    → new.numbering.keys ≡ old.numbering.keys ++ key ∷ [] → new.numbering.conses ≡ old.numbering.conses ++ false ∷ [] → new.cdrs ≡ old.cdrs ++ Nil ∷ []
+    → new.numbering.keys ≡ old.numbering.keys ++ key ∷ [] → new.numbering.conses ≡ old.numbering.conses ++ false ∷ [] → new.conses ≡ old.conses ++ no_cons ∷ []
     → IsVisit graph (Block key) old new (Ref (length old.numbering.keys))
-block_now graph old new key fresh are shows keys conses cdrs = record {
+block_now graph old new key fresh are shows keys kinds conses = record {
   visited = inr (fresh, keys);
-  visits = visits_more graph old new key false Nil are shows tt (sym (cdr_of_block graph key shows.1)) keys conses cdrs;
+  visits = visits_more graph old new key false no_cons are shows (tt, tt) (sym (kept_of_block graph key shows.1)) keys kinds conses;
   is = λ all grows. sym (ap reference (number_next old.numbering.keys key (subst (λ (l : List ℕ). Grows l all) keys grows) fresh));
 }
 
@@ -173,42 +182,34 @@ cons_fields graph key two = ap (fields_from graph key 0) two
 
 -- An object is visited
 
-pub is_block : (graph : KeyedGraph) (key : ℕ) (form : Form) (old new : VisitedObjects) (fields : List Value) → graph.cons key ≡ false → form ≡ graph.form key
-    → AreVisited graph (fields_of graph key) old new fields → IsBody graph key old new (B.Block form.code fields)
-is_block graph key form old new fields block same visited = record {
-  visited = visited.visited;
-  visits = visited.visits;
-  shown = visited.shown;
-  is = λ all grows.
-      ap (B.Block form.code) (visited.is all grows) ∙ ap (λ (f : Form). B.Block f.code (map (dumped_value all) (fields_of graph key))) same
-      ∙ sym (ap (λ (b : Bool). dumped_body b (graph.form key).code (map (dumped_value all) (fields_of graph key))) block);
-}
-
-pub is_cons : (graph : KeyedGraph) (key : ℕ) (old middle new : VisitedObjects) (car cdr : Seen) (first second : Value) → AreVisits graph old → Shows graph (Cons key)
-    → car ≡ graph.field key 0 → cdr ≡ graph.field key 1 → Shows graph car → IsVisit graph car old middle first → IsVisit graph cdr middle new second
-    → Shows graph cdr → IsBody graph key old new (B.Cons first second)
-is_cons graph key old middle new car cdr first second are shows is_car is_cdr car_shows one two cdr_shows =
-    let both = visited_more graph (car ∷ []) old middle new (first ∷ []) cdr second (visited_more graph [] old old middle [] car first (visited_none graph old are) one car_shows) two cdr_shows in
-    let fields : car ∷ cdr ∷ [] ≡ fields_of graph key = ap (λ (x : Seen). x ∷ cdr ∷ []) is_car ∙ ap (λ (x : Seen). graph.field key 0 ∷ x ∷ []) is_cdr ∙ sym (cons_fields graph key shows.1) in
-    let all_fields = subst (λ (l : List Seen). AreVisited graph l old new (first ∷ second ∷ [])) fields both in record {
-      visited = all_fields.visited;
-      visits = all_fields.visits;
-      shown = all_fields.shown;
-      is = λ all grows.
-          ap (λ (l : List Value). B.Cons (value_at l 0) (value_at l 1)) (all_fields.is all grows)
-          ∙ sym (ap (λ (b : Bool). dumped_body b (graph.form key).code (map (dumped_value all) (fields_of graph key))) shows.3);
-    }
-
-pub is_object : (now graph : KeyedGraph) (key : ℕ) (form : Form) (old new : VisitedObjects) (body : Body) → now ≡ graph → form ≡ graph.form key → IsBody now key old new body
-    → IsDumped graph key old new (record { area = form.area; charge = form.charge; body = body })
-is_object now graph key form old new body same is visit =
-    let visited = subst (λ (g : KeyedGraph). IsBody g key old new body) same visit in record {
+pub is_block : (now graph : KeyedGraph) (key : ℕ) (form : Form) (old new : VisitedObjects) (fields : List Value) → now ≡ graph → graph.cons key ≡ false → form ≡ graph.form key
+    → AreVisited now (fields_of now key) old new fields → IsDumped graph key old new (record { area = form.area; charge = form.charge; body = B.Block form.code fields })
+is_block now graph key form old new fields same block is shown =
+    let visited = subst (λ (g : KeyedGraph). AreVisited g (fields_of g key) old new fields) same shown in record {
       visited = visited.visited;
       visits = visited.visits;
       shown = visited.shown;
       is = λ all grows.
-          let one : Form → Body → Object = λ (f : Form) (b : Body). record { area = f.area; charge = f.charge; body = b } in
-          ap (λ (f : Form). one f body) is ∙ ap (one (graph.form key)) (visited.is all grows);
+          let one : Form → List Value → Object = λ (f : Form) (l : List Value). record { area = f.area; charge = f.charge; body = B.Block f.code l } in
+          ap (λ (f : Form). one f fields) is ∙ ap (one (graph.form key)) (visited.is all grows)
+          ∙ sym (ap (λ (b : Bool). record { area = (graph.form key).area; charge = (graph.form key).charge; body = dumped_body b (graph.form key).code (map (dumped_value all) (fields_of graph key)) }) block);
+    }
+
+pub is_cons : (graph : KeyedGraph) (key : ℕ) (old middle new : VisitedObjects) (cons : SeenCons) (first second : Value) → AreVisits graph old → Shows graph (Cons key)
+    → cons ≡ cons_at graph key → ShowsParts graph cons → IsVisit graph cons.car old middle first → IsVisit graph cons.cdr middle new second
+    → IsDumped graph key old new (record { area = cons.area; charge = cons.charge; body = B.Cons first second })
+is_cons graph key old middle new cons first second are shows is parts one two =
+    let both = visited_more graph (cons.car ∷ []) old middle new (first ∷ []) cons.cdr second (visited_more graph [] old old middle [] cons.car first (visited_none graph old are) one parts.0) two parts.1 in
+    let fields : cons.car ∷ cons.cdr ∷ [] ≡ fields_of graph key = ap (λ (x : SeenCons). x.car ∷ x.cdr ∷ []) is ∙ sym (cons_fields graph key shows.1) in
+    let visited = subst (λ (l : List Seen). AreVisited graph l old new (first ∷ second ∷ [])) fields both in record {
+      visited = visited.visited;
+      visits = visited.visits;
+      shown = visited.shown;
+      is = λ all grows.
+          let object : SeenCons → Body → Object = λ (x : SeenCons) (b : Body). record { area = x.area; charge = x.charge; body = b } in
+          ap (λ (x : SeenCons). object x (B.Cons first second)) is
+          ∙ ap (λ (l : List Value). object (cons_at graph key) (B.Cons (value_at l 0) (value_at l 1))) (visited.is all grows)
+          ∙ sym (ap (λ (b : Bool). object (cons_at graph key) (dumped_body b (graph.form key).code (map (dumped_value all) (fields_of graph key)))) shows.3);
     }
 
 -- Objects are visited

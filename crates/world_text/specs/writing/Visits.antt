@@ -1,26 +1,34 @@
--- What a dump keeps of a walk while it numbers objects, so that each part of an object is read once.
+-- What a dump keeps of a walk while it numbers objects, so that each cons is read once.
 use Rattle.std.specs.Prelude.{◌≡◌, ℕ, List, ◌++◌, if◌then◌else◌, map}
 use Rattle.std.specs.List.{All}
-use Rattle.lisp_graph.specs.KeyedGraph.{KeyedGraph, Shows}
+use Rattle.lisp_graph.specs.KeyedGraph.{KeyedGraph, Shows, cons_at}
 use Rattle.lisp_graph.specs.declared.object.Value.{Value}
-use Rattle.lisp_graph.specs.declared.object.Body.{Body}
 use Rattle.lisp_graph.specs.declared.object.Object.{Object}
 use Rattle.lisp_graph.specs.declared.walk.Seen.{Seen}
 use Rattle.lisp_graph.specs.declared.walk.Seen.TheVariants.{Nil}
+use Rattle.lisp_graph.specs.declared.walk.SeenCons.{SeenCons}
 use Rattle.world_text.specs.declared.writing.visit.VisitedObjects.{VisitedObjects}
 use Rattle.world_text.specs.declared.writing.dumped.DumpContents.{DumpContents}
 use Rattle.world_text.specs.writing.Numbering.{AllVisited, IsKnown, IsNumbering, Visited, Walked, fields_of}
-use Rattle.world_text.specs.writing.Dump.{dumped_body, dumped_object, dumped_value}
+use Rattle.world_text.specs.writing.Dump.{dumped_object, dumped_value}
 
--- the cdr of a cons, and nil for a block
-abbrev pub cdr_of : KeyedGraph → ℕ → Seen
-cdr_of graph key = if graph.cons key then graph.field key 1 else Nil
+-- what is kept of a block: no cons
+abbrev pub no_cons : SeenCons
+no_cons = record { area = 0; charge = 0; car = Nil; cdr = Nil }
 
--- the objects that have numbers are known, and so are the cdrs of the conses among them
+-- a cons is kept as the walk shows it
+abbrev pub kept_of : KeyedGraph → ℕ → SeenCons
+kept_of graph key = if graph.cons key then cons_at graph key else no_cons
+
+-- both parts of a cons are shown correctly
+abbrev pub ShowsParts : KeyedGraph → SeenCons → Type 0
+ShowsParts graph cons = Shows graph cons.car × Shows graph cons.cdr
+
+-- the objects that have numbers are known, and so is what each cons among them contains
 pub record AreVisits (graph : KeyedGraph) (visits : VisitedObjects) : Type 0 where
   pub known : IsKnown graph visits.numbering
-  pub cdrs : visits.cdrs ≡ map (cdr_of graph) visits.numbering.keys
-  pub shown : All (Shows graph) visits.cdrs
+  pub conses : visits.conses ≡ map (kept_of graph) visits.numbering.keys
+  pub shown : All (ShowsParts graph) visits.conses
 
 -- more keys get numbers, and those before keep theirs
 pub record Grows (keys all : List ℕ) : Type 0 where
@@ -39,13 +47,6 @@ pub record AreVisited (graph : KeyedGraph) (seen : List Seen) (old new : Visited
   pub visits : AreVisits graph new
   pub shown : All (Shows graph) seen
   pub is : (all : List ℕ) → Grows new.numbering.keys all → values ≡ map (dumped_value all) seen
-
--- the fields of an object are visited, and are its body
-pub record IsBody (graph : KeyedGraph) (key : ℕ) (old new : VisitedObjects) (body : Body) : Type 0 where
-  pub visited : AllVisited graph old.numbering.keys (fields_of graph key) new.numbering.keys
-  pub visits : AreVisits graph new
-  pub shown : All (Shows graph) (fields_of graph key)
-  pub is : (all : List ℕ) → Grows new.numbering.keys all → body ≡ dumped_body (graph.cons key) (graph.form key).code (map (dumped_value all) (fields_of graph key))
 
 -- an object is visited
 pub record IsDumped (graph : KeyedGraph) (key : ℕ) (old new : VisitedObjects) (object : Object) : Type 0 where

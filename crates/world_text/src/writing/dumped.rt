@@ -2,12 +2,12 @@
 ghost use Rattle.std.specs.Prelude.{◌≡◌, ◌<◌, ◌^◌, Some, true, false, length, slice_get, IfOk, OnOk};
 ghost use Rattle.world_text.specs.writing.Numbering.{IsKnown, IsNumbering, fields_of};
 ghost use Rattle.world_text.specs.writing.Dump.{HasSwapCause};
-ghost use Rattle.world_text.specs.writing.Visits.{AreAllDumped, AreDumped, AreVisited, AreVisits, IsBody, IsDumped, IsWalk};
+ghost use Rattle.world_text.specs.writing.Visits.{AreAllDumped, AreDumped, AreVisited, AreVisits, IsDumped, IsWalk};
 
 use crate::DumpFault;
 use crate::writing::numbering::Numbering;
 use crate::writing::visit::{VisitedObjects, visit};
-use lisp_graph::{Body, Fields, Form, Object, Objects, Walk};
+use lisp_graph::{Body, Fields, Object, Objects, Walk};
 use std::alloc::Global;
 
 /// What a dump writes of a walk: the objects that the registers reach, in the order of their numbers, and the registers.
@@ -44,71 +44,54 @@ fn dumped_fields<W: Walk>(
     Ok(fields)
 }
 
-/// Visits the car and the cdr of the cons with this number. The cdr was shown when the cons got its number.
+/// Visits the car and the cdr of the cons with this number. The walk showed them when the cons got its number.
 fn dumped_cons<W: Walk>(
     walk: &mut W,
     visits: &mut VisitedObjects,
     number: usize,
     key: u64,
-) -> Result<Body, DumpFault>
+) -> Result<Object, DumpFault>
     requires listed { slice_get visits.old.numbering.keys number ≡ Some key }
     requires pair { (W.graph walk.old).cons key ≡ true }
     requires visits { AreVisits (W.graph walk.old) visits.old }
-    ensures value { IfOk result (λ body. IsBody (W.graph walk.old) key visits.old visits.new body) }
+    ensures value { IfOk result (λ object. IsDumped (W.graph walk.old) key visits.old visits.new object) }
     ensures unchanged { W.graph walk.new ≡ W.graph walk.old }
     ensures cause { HasSwapCause (W.faults walk.old) (W.faults walk.new) result }
 {
-    let cdr = visits.cdrs.as_slice()[number];
-    let car = walk.field_of(key, 0)?;
-    let car = visit(walk, visits, car)?;
-    let cdr = visit(walk, visits, cdr)?;
-    Ok(Body::Cons { car, cdr })
+    let cons = visits.conses.as_slice()[number];
+    let car = visit(walk, visits, cons.car)?;
+    let cdr = visit(walk, visits, cons.cdr)?;
+    Ok(Object {
+        area: cons.area,
+        charge: cons.charge,
+        body: Body::Cons { car, cdr },
+    })
 }
 
-/// Visits the fields of a block of this form.
+/// Visits the fields of a block.
 fn dumped_block<W: Walk>(
     alloc: Global,
     walk: &mut W,
     visits: &mut VisitedObjects,
     key: u64,
-    form: Form,
-) -> Result<Body, DumpFault>
+) -> Result<Object, DumpFault>
     requires object { (W.graph walk.old).has key ≡ true }
     requires pair { (W.graph walk.old).cons key ≡ false }
-    requires agrees { form ≡ (W.graph walk.old).form key }
     requires visits { AreVisits (W.graph walk.old) visits.old }
-    ensures value { IfOk result (λ body. IsBody (W.graph walk.old) key visits.old visits.new body) }
+    ensures value { IfOk result (λ object. IsDumped (W.graph walk.old) key visits.old visits.new object) }
     ensures unchanged { W.graph walk.new ≡ W.graph walk.old }
     ensures cause { HasSwapCause (W.faults walk.old) (W.faults walk.new) result }
 {
+    let form = walk.form_of(key)?;
     let fields = dumped_fields(alloc, walk, visits, key, form.length)?;
-    Ok(Body::Block {
-        code: form.code,
-        fields,
+    Ok(Object {
+        area: form.area,
+        charge: form.charge,
+        body: Body::Block {
+            code: form.code,
+            fields,
+        },
     })
-}
-
-/// Visits the fields of the object with this number and form.
-fn dumped_body<W: Walk>(
-    alloc: Global,
-    walk: &mut W,
-    visits: &mut VisitedObjects,
-    number: usize,
-    key: u64,
-    form: Form,
-) -> Result<Body, DumpFault>
-    requires listed { slice_get visits.old.numbering.keys number ≡ Some key }
-    requires agrees { form ≡ (W.graph walk.old).form key }
-    requires visits { AreVisits (W.graph walk.old) visits.old }
-    ensures value { IfOk result (λ body. IsBody (W.graph walk.old) key visits.old visits.new body) }
-    ensures unchanged { W.graph walk.new ≡ W.graph walk.old }
-    ensures cause { HasSwapCause (W.faults walk.old) (W.faults walk.new) result }
-{
-    if visits.numbering.conses.as_slice()[number] {
-        dumped_cons(walk, visits, number, key)
-    } else {
-        dumped_block(alloc, walk, visits, key, form)
-    }
 }
 
 /// Visits the object with this number.
@@ -125,13 +108,11 @@ fn dumped_object<W: Walk>(
     ensures unchanged { W.graph walk.new ≡ W.graph walk.old }
     ensures cause { HasSwapCause (W.faults walk.old) (W.faults walk.new) result }
 {
-    let form = walk.form_of(key)?;
-    let body = dumped_body(alloc, walk, visits, number, key, form)?;
-    Ok(Object {
-        area: form.area,
-        charge: form.charge,
-        body,
-    })
+    if visits.numbering.conses.as_slice()[number] {
+        dumped_cons(walk, visits, number, key)
+    } else {
+        dumped_block(alloc, walk, visits, key)
+    }
 }
 
 /// Visits the objects that have numbers, in the order of these, until none remains; further ones get numbers meanwhile.
@@ -199,8 +180,8 @@ fn dumped_registers<W: Walk>(
     Ok(registers)
 }
 
-/// What a dump writes of a walk. Each register is read once, and of each reachable object the form once and each field
-/// once. It fails if memory runs out, if 2^32 objects or more are reached, or if a page call of the swap device fails.
+/// What a dump writes of a walk. Each register and each reachable cons is read once; of each block, the form and each field
+/// are read once. It fails if memory runs out, if 2^32 objects or more are reached, or if a page call of the swap device fails.
 pub fn contents_of<W: Walk>(alloc: Global, walk: &mut W) -> Result<DumpContents, DumpFault>
     ensures value { IfOk result (IsWalk (W.graph walk.old)) }
     ensures at_most { IfOk result (λ contents. length contents.objects < 2 ^ 32) }

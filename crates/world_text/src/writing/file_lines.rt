@@ -1,8 +1,9 @@
 //! The lines of a world file, each with its line feed. If memory runs out, a call may have added a part of what it writes.
 ghost use Rattle.std.specs.Prelude.{◌≡◌, ◌≤◌, ◌++◌, [], ◌∷◌, true, take, map, OnOk};
-ghost use Rattle.world_text.specs.writing.Spelling.{AreaLine, CapacityLine, FormatLine, RootLine, RunLine, SpaceLine, spaced, value_text};
+ghost use Rattle.world_text.specs.writing.Spelling.{AreaLine, BlockLine, CapacityLine, ConsLine, FormatLine, RootLine, RunLine, SpaceLine, spaced, value_text};
 ghost use Rattle.world_text.specs.writing.File.{car_of, object_line, text_of};
 
+use crate::writing::backward_line::BackwardLine;
 use crate::writing::text::{
     kind_text, name_of, push_numbers, push_spaced, push_spaced_value, push_values, push_word,
 };
@@ -69,26 +70,56 @@ pub fn push_capacity(text: &mut Text, space: &Space) -> Result<(), NoMemory>
     text.push_all(b"\n")
 }
 
-/// The line of one object.
+/// The line of a cons.
 #[tactic(auto, using(std::proofs::Common::append_assoc))]
+pub fn push_cons(
+    text: &mut Text,
+    areas: &[AreaRule],
+    area: u8,
+    car: Value,
+    cdr: Value,
+) -> Result<(), NoMemory>
+    ensures { OnOk result (text.new ≡ text.old ++ text_of areas.now (ConsLine area car cdr ∷ [])) }
+{
+    let mut line = BackwardLine::new();
+    line.push_byte(b'\n');
+    line.push_value(cdr);
+    line.push_byte(b' ');
+    line.push_value(car);
+    line.push_byte(b' ');
+    line.push_text(name_of(areas, area));
+    line.push_text(b"cons ");
+    text.push_all(line.as_bytes())
+}
+
+/// The line of a block.
+#[tactic(auto, using(std::proofs::Common::append_assoc))]
+fn push_block(
+    text: &mut Text,
+    areas: &[AreaRule],
+    area: u8,
+    code: u16,
+    fields: &[Value],
+) -> Result<(), NoMemory>
+    ensures { OnOk result (text.new ≡ text.old ++ text_of areas.now (BlockLine area code fields.now ∷ [])) }
+{
+    text.push_all(b"block ")?;
+    text.push_all(name_of(areas, area))?;
+    push_spaced(text, u32::from(code))?;
+    push_values(text, fields)?;
+    text.push_all(b"\n")
+}
+
+/// The line of one object.
 pub fn push_object(text: &mut Text, areas: &[AreaRule], object: &Object) -> Result<(), NoMemory>
     ensures { OnOk result (text.new ≡ text.old ++ text_of areas.now (object_line object.now.area object.now.body ∷ [])) }
 {
     match &object.body {
-        Body::Cons { car, cdr } => {
-            text.push_all(b"cons ")?;
-            text.push_all(name_of(areas, object.area))?;
-            push_spaced_value(text, *car)?;
-            push_spaced_value(text, *cdr)?;
-        }
+        Body::Cons { car, cdr } => push_cons(text, areas, object.area, *car, *cdr),
         Body::Block { code, fields } => {
-            text.push_all(b"block ")?;
-            text.push_all(name_of(areas, object.area))?;
-            push_spaced(text, u32::from(*code))?;
-            push_values(text, fields.as_slice())?;
+            push_block(text, areas, object.area, *code, fields.as_slice())
         }
     }
-    text.push_all(b"\n")
 }
 
 fn car_of(body: &Body) -> Value

@@ -3,6 +3,7 @@ ghost use Rattle.std.specs.Prelude.{◌≡◌, ◌≤◌, ◌++◌, [], ◌∷�
 ghost use Rattle.std.specs.Fmt.{signed_decimal};
 ghost use Rattle.world_text.specs.writing.Spelling.{kind_text, name_of, spaced, value_text};
 
+use crate::writing::backward_line::BackwardLine;
 use itoa::Buffer;
 use lisp_graph::{AreaKind, AreaRule, Text, Value};
 use store_word::NoMemory;
@@ -48,30 +49,23 @@ pub fn push_word(text: &mut Text, word: &[u8]) -> Result<(), NoMemory>
 }
 
 /// A space and a number.
-#[tactic(auto, using(std::proofs::Common::append_assoc))]
 pub fn push_spaced(text: &mut Text, number: u32) -> Result<(), NoMemory>
     ensures { OnOk result (text.new ≡ text.old ++ 32 ∷ decimal number) }
 {
-    text.push_all(b" ")?;
-    push_number(text, u64::from(number))
+    let mut word = BackwardLine::new();
+    word.push_number(u64::from(number));
+    word.push_byte(b' ');
+    text.push_all(word.as_bytes())
 }
 
 /// A space and a value.
-#[tactic(auto, using(std::proofs::Common::append_assoc))]
 pub fn push_spaced_value(text: &mut Text, value: Value) -> Result<(), NoMemory>
     ensures { OnOk result (text.new ≡ text.old ++ 32 ∷ value_text value) }
 {
-    match value {
-        Value::Fix(number) => {
-            text.push_all(b" ")?;
-            push_integer(text, number)
-        }
-        Value::Nil => text.push_all(b" nil"),
-        Value::Ref(number) => {
-            text.push_all(b" #")?;
-            push_number(text, number)
-        }
-    }
+    let mut word = BackwardLine::new();
+    word.push_value(value);
+    word.push_byte(b' ');
+    text.push_all(word.as_bytes())
 }
 
 /// Values, each after a space.

@@ -5,19 +5,31 @@ ghost use Rattle.lisp_graph.specs.declared.object.Value.TheVariants.{Ref as a_re
 ghost use Rattle.lisp_graph.specs.declared.walk.Seen.TheVariants.{Block as a_block, Cons as a_cons};
 ghost use Rattle.world_text.specs.writing.Numbering.{Chained, is_numbered, next_cons};
 ghost use Rattle.world_text.specs.writing.Dump.{HasSwapCause};
-ghost use Rattle.world_text.specs.writing.Visits.{AreVisits, IsVisit};
+ghost use Rattle.world_text.specs.writing.Visits.{AreVisits, IsVisit, no_cons};
 
 use crate::DumpFault;
 use crate::writing::numbering::{KeyNumbers, Numbering};
-use lisp_graph::{Seen, Sequence, Value, Walk};
+use lisp_graph::{Seen, SeenCons, Sequence, Value, Walk};
 use std::alloc::Global;
 use store_word::NoMemory;
 
-/// The objects that were visited, and the cdr of each cons among them as the walk showed it; for a block, nil.
+/// The objects that were visited, and each cons among them as the walk showed it; for a block, `no_cons`.
 #[derive(Drop)]
 pub struct VisitedObjects {
     pub numbering: Numbering,
-    pub cdrs: Sequence<Seen>,
+    pub conses: Sequence<SeenCons>,
+}
+
+/// What is kept in the place of a block.
+fn no_cons() -> SeenCons
+    ensures { result ≡ no_cons }
+{
+    SeenCons {
+        area: 0,
+        charge: 0,
+        car: Seen::Nil,
+        cdr: Seen::Nil,
+    }
 }
 
 impl VisitedObjects {
@@ -28,7 +40,7 @@ impl VisitedObjects {
     {
         VisitedObjects {
             numbering: Numbering::new(alloc),
-            cdrs: Sequence::new(alloc),
+            conses: Sequence::new(alloc),
         }
     }
 }
@@ -56,9 +68,9 @@ fn chain<W: Walk>(walk: &mut W, visits: &mut VisitedObjects, key: u64) -> Result
     let mut key = key;
     loop {
         visits.numbering.add(key, true)?;
-        let cdr = walk.field_of(key, 1)?;
-        visits.cdrs.push(cdr)?;
-        match next_cons(&visits.numbering.keys, cdr) {
+        let cons = walk.cons_of(key)?;
+        visits.conses.push(cons)?;
+        match next_cons(&visits.numbering.keys, cons.cdr) {
             None => return Ok(()),
             Some(next) => key = next,
         }
@@ -95,7 +107,7 @@ fn block_number(visits: &mut VisitedObjects, key: u64) -> Result<u64, NoMemory>
     }
     let number = visits.numbering.keys.len();
     visits.numbering.add(key, false)?;
-    visits.cdrs.push(Seen::Nil)?;
+    visits.conses.push(no_cons())?;
     Ok(number as u64)
 }
 
