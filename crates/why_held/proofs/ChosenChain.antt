@@ -12,7 +12,7 @@ use Rattle.why_held.specs.Choice.{AreFirstReferences, IsChosen, IsFirst, IsFirst
 use Rattle.why_held.specs.Nearest.{AreNearest, IsFirstBelow, nearest_at}
 use Rattle.why_held.specs.Search.{AreLevels}
 use Rattle.why_held.proofs.SearchSteps.{option_cases, some_is}
-use Rattle.why_held.proofs.Levels.{depth_below, same_depth}
+use Rattle.why_held.proofs.Levels.{depth_below, same_depth, within_from}
 use Rattle.why_held.proofs.Chains.{shortest_at}
 
 one_less : (less more : Option ℕ) (n : ℕ) → more ≡ Some (suc n) → is_one_less less more ≡ true → less ≡ Some n
@@ -40,34 +40,34 @@ pub record Ending (graph : Graph) (depths : List (Option ℕ)) (object depth : �
   pub leads : Leads graph.objects to (drop (suc place) hops) object
   pub chosen : AreFirstReferences graph.objects depths to (drop (suc place) hops)
 
-pub near_along : (objects others : List Object) (depths nearest same : List (Option ℕ)) → AreNearest objects depths (length objects) nearest → objects ≡ others → same ≡ nearest → AreNearest others depths (length others) same
-near_along objects others depths nearest same near e f =
-    let P : List Object → Type 0 = λ os. AreNearest os depths (length os) same in
-    let Q : List (Option ℕ) → Type 0 = λ xs. AreNearest objects depths (length objects) xs in
+pub near_along : (objects others : List Object) (depths nearest same : List (Option ℕ)) (most : ℕ) → AreNearest objects depths most (length objects) nearest → objects ≡ others → same ≡ nearest → AreNearest others depths most (length others) same
+near_along objects others depths nearest same most near e f =
+    let P : List Object → Type 0 = λ os. AreNearest os depths most (length os) same in
+    let Q : List (Option ℕ) → Type 0 = λ xs. AreNearest objects depths most (length objects) xs in
     subst P e (subst Q (sym f) near)
 
 module _ (graph : Graph) (depths : List (Option ℕ)) (levels : AreLevels graph depths) where
   -- What was found for an object that isn't at depth 0
 
-  module _ (nearest : List (Option ℕ)) (near : AreNearest graph.objects depths (length graph.objects) nearest) where
-    pub nearest_some : (to less : ℕ) → depth_at depths to ≡ Some (suc less) → IsSome (nearest_at nearest to)
-    nearest_some to less e = elim (option_cases (nearest_at nearest to)) [
+  module _ (most : ℕ) (nearest : List (Option ℕ)) (near : AreNearest graph.objects depths most (length graph.objects) nearest) where
+    pub nearest_some : (to less : ℕ) → depth_at depths to ≡ Some (suc less) → suc less ≤ most → IsSome (nearest_at nearest to)
+    nearest_some to less e shallow = elim (option_cases (nearest_at nearest to)) [
       | inl none ↦ (
           let b = levels.before to less e in
           let passes : is_nearer graph.objects depths to b.0 ≡ true = and_from (is_one_less (depth_at depths b.0) (depth_at depths to)) (body_refers to (object_at graph.objects b.0).body) (is_less (depth_at depths b.0) (depth_at depths to) less b.1 e) b.2 in
           let l = depth_below depths b.0 less b.1 in
           let s = levels.each in
           let P : Option ℕ → Type 0 = λ o. IsFirstBelow (is_nearer graph.objects depths to) (length graph.objects) o in
-          let fails = subst P none (near.each to) b.0 (omega arith) in
+          let fails = subst P none (near.each to (within_from most (suc less) (depth_at depths to) e shallow)) b.0 (omega arith) in
           absurd cc)
       | inr x ↦ some_is (nearest_at nearest to) x.0 x.1
     ]
 
-    pub nearest_is : (to from less : ℕ) → depth_at depths to ≡ Some (suc less) → nearest_at nearest to ≡ Some from
+    pub nearest_is : (to from less : ℕ) → depth_at depths to ≡ Some (suc less) → suc less ≤ most → nearest_at nearest to ≡ Some from
         → (from < length graph.objects) × IsFirst (is_nearer graph.objects depths to) from × (depth_at depths from ≡ Some less) × (body_refers to (object_at graph.objects from).body ≡ true)
-    nearest_is to from less e f =
+    nearest_is to from less e shallow f =
         let P : Option ℕ → Type 0 = λ o. IsFirstBelow (is_nearer graph.objects depths to) (length graph.objects) o in
-        let n = subst P f (near.each to) in
+        let n = subst P f (near.each to (within_from most (suc less) (depth_at depths to) e shallow)) in
         let t = and_parts (is_one_less (depth_at depths from) (depth_at depths to)) (body_refers to (object_at graph.objects from).body) n.1.0 in
         (n.0, n.1, one_less (depth_at depths from) (depth_at depths to) less e t.0, t.1)
 

@@ -1,6 +1,7 @@
 -- The lowest numbered objects that are one less deep.
 use Rattle.std.proofs.Common.{◌≡◌, ℕ, suc, ◌+◌, ◌<◌, ◌⊎◌, inl, inr, Bool, true, false, ◌&&◌, ◌||◌, refl, sym, ◌∙◌, ap, ap₂, subst, arith, List, [], ◌∷◌, ◌++◌, length, get_or, set, take, Option, Some, None, length-set, get_or-set_same, get_or-set_other}
-use Rattle.std.proofs.lemmas.Bool.{cases_Bool, cases_eq}
+use Rattle.std.specs.Prelude.{nat_lt}
+use Rattle.std.proofs.lemmas.Bool.{cases_Bool, cases_eq, cases_lt, lt-ltb, ne_eqb}
 use Rattle.std.proofs.lemmas.List.{take_more}
 use Rattle.lisp_graph.specs.declared.object.Value.{Value}
 use Rattle.lisp_graph.specs.declared.object.Value.TheVariants.{Ref}
@@ -8,8 +9,8 @@ use Rattle.lisp_graph.specs.declared.object.Object.{Object}
 use Rattle.lisp_graph.specs.Graph.{body_refers, is_ref, object_at, refers_in}
 use Rattle.why_held.specs.Chains.{depth_at}
 use Rattle.why_held.specs.Choice.{is_nearer, is_one_less}
-use Rattle.why_held.specs.Nearest.{AreNearest, IsFirstBelow, Offered, nearest_at, or_this}
-use Rattle.why_held.specs.Search.{parts_of}
+use Rattle.why_held.specs.Nearest.{AreNearest, IsFirstBelow, Offered, is_less_deep, nearest_at, or_this}
+use Rattle.why_held.specs.Search.{IsWithin, parts_of}
 use Rattle.why_held.proofs.References.{is_ref-same, parts_refer, ref_of, refers_head, refers_in-cons, refers_in-nil, refers_one}
 
 -- Values
@@ -133,17 +134,41 @@ first_step test count (Some n) b e f = ((let l = f.0 in omega arith), f.1)
 first_step test count None true e f = (omega arith, (e, f))
 first_step test count None false e f = λ n l. elim (cases_eq n count) [ inl same ↦ ap test same ∙ e | inr ne ↦ f n (omega arith) ]
 
-pub nearest_next : (objects : List Object) (depths : List (Option ℕ)) (count more : ℕ) (object : Object) (old new : List (Option ℕ)) → AreNearest objects depths count old → object ≡ object_at objects count → more ≡ count + 1
-    → Offered depths count (parts_of object.body) old new → AreNearest objects depths more new
-nearest_next objects depths count more object old new f is e g = record {
+pub nearest_next : (objects : List Object) (depths : List (Option ℕ)) (most count more : ℕ) (object : Object) (old new : List (Option ℕ)) → AreNearest objects depths most count old → object ≡ object_at objects count → more ≡ count + 1
+    → Offered depths count (parts_of object.body) old new → AreNearest objects depths most more new
+nearest_next objects depths most count more object old new f is e g = record {
   size = g.size ∙ f.size;
-  each = λ to. (
+  each = λ to shallow. (
       let same : refers_in to (parts_of object.body) ≡ body_refers to (object_at objects count).body = parts_refer to object.body ∙ ap (λ (o : Object). body_refers to o.body) is in
       let test : is_nearer objects depths to count ≡ (is_one_less (depth_at depths count) (depth_at depths to) && refers_in to (parts_of object.body)) =
       sym (ap (λ (x : Bool). is_one_less (depth_at depths count) (depth_at depths to) && x) same) in
-      let step = first_step (is_nearer objects depths to) count (nearest_at old to) (is_one_less (depth_at depths count) (depth_at depths to) && refers_in to (parts_of object.body)) test (f.each to) in
+      let step = first_step (is_nearer objects depths to) count (nearest_at old to) (is_one_less (depth_at depths count) (depth_at depths to) && refers_in to (parts_of object.body)) test (f.each to shallow) in
       let m : more ≡ suc count = omega arith in
       let P : Option ℕ → Type 0 = λ o. IsFirstBelow (is_nearer objects depths to) (suc count) o in
       let Q : ℕ → Type 0 = λ n. IsFirstBelow (is_nearer objects depths to) n (nearest_at new to) in
       subst Q (sym m) (subst P (sym (g.each to)) step));
+}
+
+-- An object that isn't less deep than the deepest ones that matter
+
+not_nearer : (less more : Option ℕ) (most : ℕ) → is_less_deep less most ≡ false → IsWithin most more → is_one_less less more ≡ false
+not_nearer None None most deep shallow = refl
+not_nearer None (Some b) most deep shallow = refl
+not_nearer (Some a) None most deep shallow = absurd shallow
+not_nearer (Some a) (Some b) most deep shallow = elim (cases_lt a most) [
+  | inl l ↦ (let e : nat_lt a most ≡ true = lt-ltb a most l in absurd cc)
+  | inr l ↦ ne_eqb (suc a) b (λ e. absurd (omega (arith, shallow)))
+]
+
+pub nearest_skip : (objects : List Object) (depths : List (Option ℕ)) (most count more : ℕ) (nearest : List (Option ℕ)) → AreNearest objects depths most count nearest → is_less_deep (depth_at depths count) most ≡ false → more ≡ count + 1
+    → AreNearest objects depths most more nearest
+nearest_skip objects depths most count more nearest f deep e = record {
+  size = f.size;
+  each = λ to shallow. (
+      let test : is_nearer objects depths to count ≡ false = ap (λ (x : Bool). x && body_refers to (object_at objects count).body) (not_nearer (depth_at depths count) (depth_at depths to) most deep shallow) in
+      let step = first_step (is_nearer objects depths to) count (nearest_at nearest to) false test (f.each to shallow) in
+      let m : more ≡ suc count = omega arith in
+      let P : Option ℕ → Type 0 = λ o. IsFirstBelow (is_nearer objects depths to) (suc count) o in
+      let Q : ℕ → Type 0 = λ n. IsFirstBelow (is_nearer objects depths to) n (nearest_at nearest to) in
+      subst Q (sym m) (subst P (or_no (nearest_at nearest to) false count refl) step));
 }

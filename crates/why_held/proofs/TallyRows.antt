@@ -6,7 +6,7 @@ use Rattle.std.specs.Ordering.{is_eq, nat_cmp, ordering_then}
 use Rattle.std.specs.Option.{option_cmp, option_map}
 use Rattle.std.specs.Cmp.{IsTotalOrder, nat_cmp_total, on_total, then_total, tied_then}
 use Rattle.std.specs.Cmp.Lexicographic.{options_total}
-use Rattle.std.specs.BTreeMap.{IsOrdered, get}
+use Rattle.std.specs.BTreeMap.{IsOrdered, Updates, get}
 use Rattle.std.specs.Map.{keys_of}
 use Rattle.std.proofs.lemmas.Bool.{cases_order, cases_eq, eqb-true, eq-eqb, ne_eqb, lt-ltb, le-ltb, and_parts}
 use Rattle.std.proofs.lemmas.List.{length-map, map_more}
@@ -19,8 +19,10 @@ use Rattle.lisp_graph.specs.declared.object.Object.{Object}
 use Rattle.why_held.specs.declared.rows.CensusRow.{CensusRow}
 use Rattle.why_held.specs.declared.rows.Counted.{Counted}
 use Rattle.why_held.specs.declared.tallies.KindCount.{KindCount}
+use Rattle.why_held.specs.declared.tallies.KindTally.{KindTally}
+use Rattle.why_held.specs.declared.tallies.Tallies.{Tallies}
 use Rattle.why_held.specs.Census.{IsBefore, IsCensus, IsRow, charge_of, count_of, counted_object, is_code_before, is_kind, same_code}
-use Rattle.why_held.specs.Tallies.{AreTallies, Counts, HasRoom, Kind, kind_cmp, more, row_of, tally_of}
+use Rattle.why_held.specs.Tallies.{AreTallies, Counts, HasRoom, Kind, kind_cmp, latest_or, more, row_of, tally_in, tally_of}
 
 -- The order of kinds
 
@@ -154,8 +156,8 @@ tally_is : (counted : List Counted) (area : ℕ) (code : Option ℕ) → tally_o
 unfolding tally
 tally_is counted area code = refl
 
-module _ (counted : List Counted) (m : BTreeMap Kind KindCount) (are : AreTallies counted m) where
-  pub tallies_room : (area : ℕ) (code : Option ℕ) → length counted < 2 ^ 32 → HasRoom (get kind_cmp m (area, code))
+module _ (counted : List Counted) (m : Tallies) (are : AreTallies counted m) where
+  pub tallies_room : (area : ℕ) (code : Option ℕ) → length counted < 2 ^ 32 → HasRoom (tally_in m area code)
   tallies_room area code few = subst HasRoom (sym (are.each area code ∙ tally_is counted area code)) (go (cases_eq (count_of counted area code) 0))
     where
       counts : count_of counted area code ≤ length counted
@@ -172,34 +174,73 @@ module _ (counted : List Counted) (m : BTreeMap Kind KindCount) (are : AreTallie
       go (inl z) = subst HasRoom (sym (tally_none (count_of counted area code) (charge_of counted area code) z)) tt
       go (inr z) = subst HasRoom (sym (tally_some (count_of counted area code) (charge_of counted area code) (omega arith))) (let x = counts in let y = charges in (omega arith, omega arith))
 
-  module _ (one : Counted) (n : BTreeMap Kind KindCount) (counts : Counts one m n) where
-    each_more : (area : ℕ) (code : Option ℕ) → get kind_cmp n (area, code) ≡ tally_of (counted ++ one ∷ []) area code
+  module _ (one : Counted) (n : Tallies) (counts : Counts one m n) where
+    each_more : (area : ℕ) (code : Option ℕ) → tally_in n area code ≡ tally_of (counted ++ one ∷ []) area code
     each_more area code = go (is_kind area code one) refl
       where
-        found : get kind_cmp n (area, code) ≡ cond (is_kind area code one) (Some (more (get kind_cmp m (one.area, one.code)) one.charge)) (get kind_cmp m (area, code))
-        found = counts.updates.0 (area, code) ∙ ap (λ (b : Bool). cond b (Some (more (get kind_cmp m (one.area, one.code)) one.charge)) (get kind_cmp m (area, code))) (kind_same (one.area, one.code) area code)
-
-        go : (b : Bool) → is_kind area code one ≡ b → get kind_cmp n (area, code) ≡ tally_of (counted ++ one ∷ []) area code
+        go : (b : Bool) → is_kind area code one ≡ b → tally_in n area code ≡ tally_of (counted ++ one ∷ []) area code
         go true is =
             let parts = and_parts (one.area == area) (same_code one.code code) is in
             let a : one.area ≡ area = eqb-true one.area area parts.0 in
             let x : one.code ≡ code = same_code_is one.code code parts.1 in
-            let here : get kind_cmp m (one.area, one.code) ≡ tally (count_of counted area code) (charge_of counted area code) =
-            ap₂ (λ (p : ℕ) (q : Option ℕ). get kind_cmp m (p, q)) a x ∙ are.each area code ∙ tally_is counted area code in
+            let here : tally_in m one.area one.code ≡ tally (count_of counted area code) (charge_of counted area code) =
+            ap₂ (λ (p : ℕ) (q : Option ℕ). tally_in m p q) a x ∙ are.each area code ∙ tally_is counted area code in
             let number : count_of (counted ++ one ∷ []) area code ≡ count_of counted area code + 1 = count_push counted one area code ∙ ap (λ (b : Bool). count_of counted area code + cond b 1 0) is in
             let charges : charge_of (counted ++ one ∷ []) area code ≡ charge_of counted area code + one.charge = charge_push counted one area code ∙ ap (λ (b : Bool). charge_of counted area code + cond b one.charge 0) is in
-            found ∙ ap (λ (b : Bool). cond b (Some (more (get kind_cmp m (one.area, one.code)) one.charge)) (get kind_cmp m (area, code))) is
+            counts.updates area code ∙ ap (λ (b : Bool). cond b (Some (more (tally_in m one.area one.code) one.charge)) (tally_in m area code)) is
             ∙ ap (λ (t : Option KindCount). Some (more t one.charge)) here
             ∙ more_tally (count_of counted area code) (charge_of counted area code) one.charge (count_of (counted ++ one ∷ []) area code) (charge_of (counted ++ one ∷ []) area code) number charges (charge_none counted area code)
             ∙ sym (tally_is (counted ++ one ∷ []) area code)
         go false is =
             let number : count_of (counted ++ one ∷ []) area code ≡ count_of counted area code = count_push counted one area code ∙ ap (λ (b : Bool). count_of counted area code + cond b 1 0) is ∙ (omega arith) in
             let charges : charge_of (counted ++ one ∷ []) area code ≡ charge_of counted area code = charge_push counted one area code ∙ ap (λ (b : Bool). charge_of counted area code + cond b one.charge 0) is ∙ (omega arith) in
-            found ∙ ap (λ (b : Bool). cond b (Some (more (get kind_cmp m (one.area, one.code)) one.charge)) (get kind_cmp m (area, code))) is
+            counts.updates area code ∙ ap (λ (b : Bool). cond b (Some (more (tally_in m one.area one.code) one.charge)) (tally_in m area code)) is
             ∙ are.each area code ∙ tally_is counted area code ∙ sym (ap₂ tally number charges) ∙ sym (tally_is (counted ++ one ∷ []) area code)
 
     pub tallies_more : AreTallies (counted ++ one ∷ []) n
     tallies_more = record { each = each_more; small = All-push (λ (x : Counted). x.charge < 2 ^ 32) counted one are.small counts.small }
+
+-- The latest tally and those in the map
+
+module _ (latest : KindTally) (one : Counted) (same : (latest.area == one.area && same_code latest.code one.code) ≡ true) where
+  same_parts : (latest.area ≡ one.area) × (latest.code ≡ one.code)
+  same_parts =
+      let parts = and_parts (latest.area == one.area) (same_code latest.code one.code) same in
+      (eqb-true latest.area one.area parts.0, same_code_is latest.code one.code parts.1)
+
+  -- the tally of another kind than the latest one is in the map
+  pub other_stored : (area : ℕ) (code : Option ℕ) (stored : Option KindCount) → is_kind area code one ≡ false → latest_or (Some latest) area code stored ≡ stored
+  other_stored area code stored other =
+      let e : (latest.area == area && same_code latest.code code) ≡ false = ap₂ (λ (a : ℕ) (x : Option ℕ). a == area && same_code x code) same_parts.0 same_parts.1 ∙ other in
+      ap (λ (b : Bool). if b then Some latest.tally else stored) e
+
+  pub latest_is : (stored : Option KindCount) → latest_or (Some latest) one.area one.code stored ≡ Some latest.tally
+  latest_is stored = ap (λ (b : Bool). if b then Some latest.tally else stored) same
+
+-- the tallies after an object whose kind's tally is the latest one
+pub counts_latest : (one : Counted) (count : KindCount) (old new : Tallies) → new.latest ≡ Some (record { area = one.area; code = one.code; tally = count }) → count ≡ more (tally_in old one.area one.code) one.charge
+    → ((area : ℕ) (code : Option ℕ) → is_kind area code one ≡ false → get kind_cmp new.stored (area, code) ≡ tally_in old area code) → one.charge < 2 ^ 32 → Counts one old new
+counts_latest one count old new is counted others small = record { updates = λ area code. go area code (is_kind area code one) refl; small = small }
+  where
+    here : (area : ℕ) (code : Option ℕ) (b : Bool) → is_kind area code one ≡ b
+        → (if b then Some count else get kind_cmp new.stored (area, code)) ≡ (if b then Some (more (tally_in old one.area one.code) one.charge) else tally_in old area code)
+    here area code true same = ap Some counted
+    here area code false same = others area code same
+
+    go : (area : ℕ) (code : Option ℕ) (b : Bool) → is_kind area code one ≡ b → tally_in new area code ≡ (if is_kind area code one then Some (more (tally_in old one.area one.code) one.charge) else tally_in old area code)
+    go area code b same =
+        ap (λ (l : Option KindTally). latest_or l area code (get kind_cmp new.stored (area, code))) is
+        ∙ ap (λ (t : Bool). if t then Some count else get kind_cmp new.stored (area, code)) same
+        ∙ here area code b same
+        ∙ sym (ap (λ (t : Bool). if t then Some (more (tally_in old one.area one.code) one.charge) else tally_in old area code) same)
+
+-- the map has each tally after the latest one is put into it
+pub stored_all : (latest : KindTally) (old : Tallies) (stored : BTreeMap Kind KindCount) → old.latest ≡ Some latest → Updates kind_cmp old.stored stored (latest.area, latest.code) (Some latest.tally)
+    → (area : ℕ) (code : Option ℕ) → get kind_cmp stored (area, code) ≡ tally_in old area code
+stored_all latest old stored is updates area code =
+    updates.0 (area, code)
+    ∙ ap (λ (b : Bool). cond b (Some latest.tally) (get kind_cmp old.stored (area, code))) (kind_same (latest.area, latest.code) area code)
+    ∙ sym (ap (λ (l : Option KindTally). latest_or l area code (get kind_cmp old.stored (area, code))) is)
 
 -- The rows
 
@@ -238,17 +279,17 @@ length_keys : (es : List (Kind × KindCount)) → length (keys_of es) ≡ length
 length_keys [] = refl
 length_keys (e ∷ es) = ap suc (length_keys es)
 
-module _ (counted : List Counted) (m : BTreeMap Kind KindCount) (are : AreTallies counted m) (ordered : IsOrdered kind_cmp m) where
+module _ (counted : List Counted) (m : BTreeMap Kind KindCount) (are : (area : ℕ) (code : Option ℕ) → get kind_cmp m (area, code) ≡ tally_of counted area code) (ordered : IsOrdered kind_cmp m) where
   rows_each : All (IsRow counted) (map row_of m.entries)
   rows_each = All-map (IsRow counted) row_of m.entries (λ i d l. (
       let e = get_or m.entries i d in
-      let t = sym (are.each e.0.0 e.0.1) ∙ btree_map_get_place kind_total m i e.0 e.1 ordered (slice_get-get_or m.entries i d l) in
+      let t = sym (are e.0.0 e.0.1) ∙ btree_map_get_place kind_total m i e.0 e.1 ordered (slice_get-get_or m.entries i d l) in
       let x = is_some_tally counted e.0.0 e.0.1 e.1 t in
       record { some = x.0; count = x.1; charge = x.2 }))
 
   rows_whole : (area : ℕ) (code : Option ℕ) → 0 < count_of counted area code → Any (λ row. (row.area ≡ area) × (row.code ≡ code)) (map row_of m.entries)
   rows_whole area code some =
-      let t = are.each area code ∙ tally_is counted area code ∙ tally_some (count_of counted area code) (charge_of counted area code) some in
+      let t = are area code ∙ tally_is counted area code ∙ tally_some (count_of counted area code) (charge_of counted area code) some in
       let p = place_from_lookup (λ (k : Kind). is_eq (kind_cmp (area, code) k)) m.entries _ t in
       let same = and_parts (area == p.1.0) (same_code code p.1.1) (sym (kind_same (area, code) p.1.0 p.1.1) ∙ p.3) in
       let a : p.1.0 ≡ area = sym (eqb-true area p.1.0 same.0) in

@@ -1,10 +1,11 @@
--- For each object, the lowest numbered object that is one less deep and refers to it.
-use Rattle.std.specs.Prelude.{◌≡◌, ℕ, ◌<◌, List, length, Bool, false, ◌&&◌, if◌then◌else◌, Option, Some, None, slice_index_or}
+-- For each object up to a depth, the lowest numbered object that is one less deep and refers to it.
+use Rattle.std.specs.Prelude.{◌≡◌, ℕ, ◌<◌, List, length, Bool, false, ◌&&◌, if◌then◌else◌, nat_lt, Option, Some, None, slice_index_or}
 use Rattle.lisp_graph.specs.declared.object.Value.{Value}
 use Rattle.lisp_graph.specs.declared.object.Object.{Object}
 use Rattle.lisp_graph.specs.Graph.{refers_in}
 use Rattle.why_held.specs.Chains.{depth_at}
 use Rattle.why_held.specs.Choice.{IsFirst, is_nearer, is_one_less}
+use Rattle.why_held.specs.Search.{IsWithin}
 
 -- what was found for an object
 abbrev pub nearest_at : List (Option ℕ) → ℕ → Option ℕ
@@ -25,7 +26,12 @@ abbrev pub IsFirstBelow : (ℕ → Bool) → ℕ → Option ℕ → Type 0
 IsFirstBelow test count None = (number : ℕ) → number < count → test number ≡ false
 IsFirstBelow test count (Some number) = (number < count) × IsFirst test number
 
--- for each object, the lowest of the first `count` objects that is one less deep and refers to it
-pub record AreNearest (objects : List Object) (depths : List (Option ℕ)) (count : ℕ) (nearest : List (Option ℕ)) : Type 0 where
+-- the depth is less than this
+abbrev pub is_less_deep : Option ℕ → ℕ → Bool
+is_less_deep None most = false
+is_less_deep (Some depth) most = nat_lt depth most
+
+-- for each object that is at most so deep, the lowest of the first `count` objects that is one less deep and refers to it
+pub record AreNearest (objects : List Object) (depths : List (Option ℕ)) (most count : ℕ) (nearest : List (Option ℕ)) : Type 0 where
   pub size : length nearest ≡ length objects
-  pub each : (to : ℕ) → IsFirstBelow (is_nearer objects depths to) count (nearest_at nearest to)
+  pub each : (to : ℕ) → IsWithin most (depth_at depths to) → IsFirstBelow (is_nearer objects depths to) count (nearest_at nearest to)

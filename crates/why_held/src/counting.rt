@@ -3,10 +3,9 @@ ghost use Rattle.std.specs.Prelude.{◌≡◌, ◌<◌, ◌^◌, length, map, If
 ghost use Rattle.why_held.specs.Census.{IsCensus, code_of, counted_object};
 
 use crate::rows::{CensusRows, Counted};
-use crate::tallies::{count, rows_of};
+use crate::tallies::{count, no_tallies, rows_of};
 use lisp_graph::{Body, NoMemory, Object, World};
 use std::alloc::Global;
-use std::collections::BTreeMap;
 
 /// The code of a block; None for a cons.
 fn code_of(body: &Body) -> Option<u16>
@@ -35,9 +34,9 @@ pub fn census(alloc: Global, world: &World) -> Result<CensusRows, NoMemory>
     requires { length world.now.objects < 2 ^ 32 }
     ensures { IfOk result (λ rows. IsCensus (map counted_object world.now.objects) rows) }
 {
-    let mut tallies = BTreeMap::new(alloc);
+    let mut tallies = no_tallies(alloc);
     for object in world.objects.as_slice() {
         count(&mut tallies, counted_object(object))?;
     }
-    rows_of(alloc, &tallies)
+    rows_of(alloc, tallies)
 }

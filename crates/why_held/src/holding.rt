@@ -98,7 +98,7 @@ fn chain_to(
     ensures value { IfOk result (λ hops. IsChosen (opening world.now) depths.now hops) }
 {
     let objects = world.objects.as_slice();
-    let found = nearest_of(alloc, objects, depths)?;
+    let found = nearest_of(alloc, objects, depths, depth)?;
     let nearest = found.as_slice();
     let mut hops = Hops::new(alloc);
     let last = Hop {
@@ -145,7 +145,7 @@ fn held_of(
 /// Why an object of a world is held: a shortest chain of references from a register to it, and the depths of all objects. The
 /// chain is chosen backwards: each reference is from the lowest numbered object that is one less deep, and from the first of
 /// its parts that refer to the object; the first hop is from the lowest register. The world has at most 256 registers and
-/// fewer than 2^32 objects. It allocates memory for all objects, and follows each reference twice.
+/// fewer than 2^32 objects. It allocates memory for all objects, and follows each reference at most twice.
 pub fn why(alloc: Global, world: &World, object: u64) -> Result<Why, NoMemory>
     requires graph { IsGraph (opening world.now) }
     requires registers { length world.now.roots ≤ 256 }

@@ -2,10 +2,9 @@
 ghost use Rattle.std.specs.Prelude.{◌≡◌, ◌≤◌, ◌++◌, ◌∷◌, List, decimal, OnOk, IfOk};
 ghost use Rattle.world_text.specs.Spelling.{name_of};
 ghost use Rattle.why_held.specs.declared.rows.Counted.{Counted};
-ghost use Rattle.why_held.specs.Census.{same_code};
 ghost use Rattle.why_held.specs.CensusText.{AddUp, AddsUp, IsPart, census_line, census_text, code_text, found, line_with, lines_with, same_kind};
 
-use crate::rows::{CensusRow, CensusRows};
+use crate::rows::{CensusRow, CensusRows, same_code};
 use lisp_graph::{AreaRule, Areas, NoMemory, Text};
 use std::alloc::Global;
 use world_text::{name_of, push_number, push_spaced};
@@ -78,16 +77,6 @@ fn push_row(
     match reached {
         None => push_line(text, areas, row, 0, 0),
         Some(reached) => push_line(text, areas, row, reached.count, reached.charge),
-    }
-}
-
-fn same_code(code: Option<u16>, other: Option<u16>) -> bool
-    ensures { result ≡ same_code code other }
-{
-    match (code, other) {
-        (None, None) => true,
-        (Some(code), Some(other)) => code == other,
-        _ => false,
     }
 }
 

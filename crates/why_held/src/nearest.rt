@@ -1,10 +1,10 @@
-//! For each object, the lowest numbered object that is one less deep and refers to it.
-ghost use Rattle.std.specs.Prelude.{◌≡◌, ◌<◌, ◌∷◌, [], length, IfOk};
+//! For each object up to a depth, the lowest numbered object that is one less deep and refers to it.
+ghost use Rattle.std.specs.Prelude.{◌≡◌, ◌+◌, ◌<◌, ◌∷◌, [], length, IfOk};
 ghost use Rattle.std.specs.List.{All};
 ghost use Rattle.lisp_graph.specs.Graph.{IsObject, PartsReferBelow, RefersBelow};
 ghost use Rattle.why_held.specs.Chains.{depth_at};
 ghost use Rattle.why_held.specs.Choice.{is_one_less};
-ghost use Rattle.why_held.specs.Nearest.{AreNearest, Offered, nearest_at};
+ghost use Rattle.why_held.specs.Nearest.{AreNearest, Offered, is_less_deep, nearest_at};
 ghost use Rattle.why_held.specs.Search.{parts_of};
 
 use crate::search::{depth_at, object_at};
@@ -78,21 +78,52 @@ fn offer_parts(nearest: &mut Sequence<Option<u64>>, depths: &[Option<u32>], from
     }
 }
 
-/// For each object, the lowest numbered object that is one less deep and refers to it. Each reference is followed once.
+/// Whether a depth is less than `most`.
+fn is_less_deep(depth: Option<u32>, most: u32) -> bool
+    ensures { result ≡ is_less_deep depth most }
+{
+    match depth {
+        Some(depth) => depth < most,
+        None => false,
+    }
+}
+
+/// Does this for each part of the object `from`, if it is less than `most` deep.
+fn offer_object(
+    nearest: &mut Sequence<Option<u64>>,
+    objects: &[Object],
+    depths: &[Option<u32>],
+    most: u32,
+    from: usize,
+)
+    requires size { length depths.now ≡ length objects.now }
+    requires sound { All (IsObject (length objects.now)) objects.now }
+    requires from { from < length objects.now }
+    requires before { AreNearest objects.now depths.now most from nearest.old }
+    ensures { AreNearest objects.now depths.now most (from + 1) nearest.new }
+{
+    if is_less_deep(depth_at(depths, from as u64), most) {
+        offer_parts(nearest, depths, from as u64, &objects[from].body);
+    }
+}
+
+/// For each object that is at most so deep, the lowest numbered object that is one less deep and refers to it. Each reference in
+/// an object that is less deep is followed once.
 pub(crate) fn nearest_of(
     alloc: Global,
     objects: &[Object],
     depths: &[Option<u32>],
+    most: u32,
 ) -> Result<Sequence<Option<u64>>, NoMemory>
     requires size { length depths.now ≡ length objects.now }
     requires sound { All (IsObject (length objects.now)) objects.now }
-    ensures { IfOk result (λ nearest. AreNearest objects.now depths.now (length objects.now) nearest) }
+    ensures { IfOk result (λ nearest. AreNearest objects.now depths.now most (length objects.now) nearest) }
 {
     let mut nearest = Sequence::new(alloc);
     nearest.pad(objects.len(), None)?;
     let mut from = 0;
     while from < objects.len() {
-        offer_parts(&mut nearest, depths, from as u64, &objects[from].body);
+        offer_object(&mut nearest, objects, depths, most, from);
         from += 1;
     }
     Ok(nearest)

@@ -1,17 +1,15 @@
 //! Counting the objects that the registers of a walk reach.
 ghost use Rattle.std.specs.Prelude.{◌≡◌, true, [], map, IfOk, OnOk};
-ghost use Rattle.std.specs.BTreeMap.{get};
 ghost use Rattle.world_text.specs.Dump.{HasSwapCause};
 ghost use Rattle.world_text.specs.Numbering.{IsKnown, fields_of};
 ghost use Rattle.why_held.specs.Reached.{AreReached, IsReachedCensus, IsReaching, Meets, counted_form, counted_key};
-ghost use Rattle.why_held.specs.Tallies.{AreTallies, Counts, HasRoom, kind_cmp};
+ghost use Rattle.why_held.specs.Tallies.{AreTallies, Counts, HasRoom, tally_in};
 
 use crate::reach::{meet_fields, meet_registers};
 use crate::rows::{CensusRows, Counted};
-use crate::tallies::{Tallies, count, rows_of};
+use crate::tallies::{Tallies, count, no_tallies, rows_of};
 use lisp_graph::{Areas, Form, Walk};
 use std::alloc::Global;
-use std::collections::BTreeMap;
 use world_text::{DumpFault, Numbering};
 
 /// What a census uses of an object of this form.
@@ -36,7 +34,7 @@ fn count_object<W: Walk>(
     requires object { (W.graph walk.old).has key ≡ true }
     requires agrees { cons ≡ (W.graph walk.old).cons key }
     requires known { IsKnown (W.graph walk.old) met.old }
-    requires room { HasRoom (get kind_cmp tallies.old ((counted_key (W.graph walk.old) key).area, (counted_key (W.graph walk.old) key).code)) }
+    requires room { HasRoom (tally_in tallies.old (counted_key (W.graph walk.old) key).area (counted_key (W.graph walk.old) key).code) }
     ensures ok { OnOk result (Meets (fields_of (W.graph walk.old) key) met.old met.new) }
     ensures stays_known { OnOk result (IsKnown (W.graph walk.old) met.new) }
     ensures count { OnOk result (Counts (counted_key (W.graph walk.old) key) tallies.old tallies.new) }
@@ -56,7 +54,7 @@ fn count_objects<W: Walk>(
 ) -> Result<(), DumpFault>
     requires known { IsKnown (W.graph walk.old) met.old }
     requires fresh { IsReaching (W.graph walk.old) 0 met.old }
-    requires none { tallies.old.entries ≡ [] }
+    requires empty { AreTallies [] tallies.old }
     ensures sound { OnOk result (AreReached (W.graph walk.old) met.new.keys) }
     ensures after { OnOk result (AreTallies (map (counted_key (W.graph walk.old)) met.new.keys) tallies.new) }
     ensures unchanged { W.graph walk.new ≡ W.graph walk.old }
@@ -84,8 +82,8 @@ pub fn reached<W: Walk>(
 {
     let mut met = Numbering::new(alloc);
     meet_registers(walk, &mut met)?;
-    let mut tallies = BTreeMap::new(alloc);
+    let mut tallies = no_tallies(alloc);
     count_objects(walk, &mut met, &mut tallies)?;
-    let rows = rows_of(alloc, &tallies)?;
+    let rows = rows_of(alloc, tallies)?;
     Ok(rows)
 }

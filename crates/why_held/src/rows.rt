@@ -1,4 +1,7 @@
 //! The rows of a census.
+ghost use Rattle.std.specs.Prelude.{◌≡◌};
+ghost use Rattle.why_held.specs.Census.{same_code};
+
 use lisp_graph::Sequence;
 
 /// The conses of an area, if the code is None, or its blocks of one code: how many they are, and what they are charged
@@ -20,4 +23,15 @@ pub struct Counted {
     pub area: u8,
     pub code: Option<u16>,
     pub charge: u32,
+}
+
+/// Whether two kinds of objects have one code.
+pub(crate) fn same_code(code: Option<u16>, other: Option<u16>) -> bool
+    ensures { result ≡ same_code code other }
+{
+    match (code, other) {
+        (None, None) => true,
+        (Some(code), Some(other)) => code == other,
+        _ => false,
+    }
 }

@@ -1,9 +1,11 @@
 //! Counts and charges by area and code.
-ghost use Rattle.std.specs.Prelude.{◌≡◌, map, IfOk, OnOk};
+ghost use Rattle.std.specs.Prelude.{◌≡◌, ℕ, List, [], map, Option, None, IfOk, OnOk};
 ghost use Rattle.std.specs.BTreeMap.{IsOrdered, get};
-ghost use Rattle.why_held.specs.Tallies.{Counts, HasRoom, kind_cmp, more, row_of};
+ghost use Rattle.why_held.specs.declared.rows.Counted.{Counted as counted_object};
+ghost use Rattle.why_held.specs.Census.{IsCensus};
+ghost use Rattle.why_held.specs.Tallies.{AreTallies, Counts, HasRoom, kind_cmp, more, row_of, tally_in};
 
-use crate::rows::{CensusRow, CensusRows, Counted};
+use crate::rows::{CensusRow, CensusRows, Counted, same_code};
 use lisp_graph::NoMemory;
 use std::alloc::Global;
 use std::collections::BTreeMap;
@@ -15,8 +17,34 @@ pub struct KindCount {
     charge: u64,
 }
 
-/// The tally of each area and code of which there are objects.
-pub(crate) type Tallies = BTreeMap<(u8, Option<u16>), KindCount>;
+/// An area and a code, and their tally.
+#[derive(Clone, Copy)]
+pub struct KindTally {
+    area: u8,
+    code: Option<u16>,
+    tally: KindCount,
+}
+
+/// The tally of each area and code by its kind.
+type StoredTallies = BTreeMap<(u8, Option<u16>), KindCount>;
+
+/// The tally of each area and code of which there are objects. That of the object which was counted last is outside the map: so
+/// only an object of another kind than the one before it is looked up.
+#[derive(Drop)]
+pub(crate) struct Tallies {
+    stored: StoredTallies,
+    latest: Option<KindTally>,
+}
+
+/// The tallies before any object is counted.
+pub(crate) fn no_tallies(alloc: Global) -> Tallies
+    ensures { AreTallies [] result }
+{
+    Tallies {
+        stored: BTreeMap::new(alloc),
+        latest: None,
+    }
+}
 
 /// The tally with one more object.
 fn more(tally: Option<KindCount>, charge: u32) -> KindCount
@@ -35,19 +63,56 @@ fn more(tally: Option<KindCount>, charge: u32) -> KindCount
     }
 }
 
-/// Counts an object.
-pub(crate) fn count(tallies: &mut Tallies, one: Counted) -> Result<(), NoMemory>
-    requires { HasRoom (get kind_cmp tallies.old (one.area, one.code)) }
-    ensures { OnOk result (Counts one tallies.old tallies.new) }
+/// Puts the latest tally into the map.
+fn store_latest(tallies: &mut Tallies) -> Result<(), NoMemory>
+    ensures after { OnOk result (tallies.new.latest ≡ None) }
+    ensures unchanged { OnOk result ((area : ℕ) (code : Option ℕ) → get kind_cmp tallies.new.stored (area, code) ≡ tally_in tallies.old area code) }
 {
-    let kind = (one.area, one.code);
-    let tally = more(tallies.get(&kind).copied(), one.charge);
-    tallies.insert(kind, tally)?;
+    if let Some(latest) = tallies.latest {
+        tallies
+            .stored
+            .insert((latest.area, latest.code), latest.tally)?;
+        tallies.latest = None;
+    }
     Ok(())
 }
 
-/// A row for each tally, in their order.
-pub(crate) fn rows_of(alloc: Global, tallies: &Tallies) -> Result<CensusRows, NoMemory>
+/// Counts an object of another kind than the one before it.
+fn count_other(tallies: &mut Tallies, one: Counted) -> Result<(), NoMemory>
+    requires { HasRoom (tally_in tallies.old one.area one.code) }
+    ensures { OnOk result (Counts one tallies.old tallies.new) }
+{
+    store_latest(tallies)?;
+    let before = tallies.stored.get(&(one.area, one.code)).copied();
+    tallies.latest = Some(KindTally {
+        area: one.area,
+        code: one.code,
+        tally: more(before, one.charge),
+    });
+    Ok(())
+}
+
+/// Counts an object.
+pub(crate) fn count(tallies: &mut Tallies, one: Counted) -> Result<(), NoMemory>
+    requires { HasRoom (tally_in tallies.old one.area one.code) }
+    ensures { OnOk result (Counts one tallies.old tallies.new) }
+{
+    if let Some(latest) = tallies.latest {
+        if latest.area == one.area && same_code(latest.code, one.code) {
+            let tally = more(Some(latest.tally), one.charge);
+            tallies.latest = Some(KindTally {
+                area: one.area,
+                code: one.code,
+                tally,
+            });
+            return Ok(());
+        }
+    }
+    count_other(tallies, one)
+}
+
+/// A row for each tally of the map, in their order.
+fn stored_rows(alloc: Global, tallies: &StoredTallies) -> Result<CensusRows, NoMemory>
     ensures value { IfOk result (λ rows. rows ≡ map row_of tallies.now.entries) }
     ensures order { IsOrdered kind_cmp tallies.now }
 {
@@ -61,4 +126,13 @@ pub(crate) fn rows_of(alloc: Global, tallies: &Tallies) -> Result<CensusRows, No
         })?;
     }
     Ok(rows)
+}
+
+/// A row for each tally, in their order.
+pub(crate) fn rows_of(alloc: Global, tallies: Tallies) -> Result<CensusRows, NoMemory>
+    ensures { (counted : List counted_object) → AreTallies counted tallies → IfOk result (IsCensus counted) }
+{
+    let mut tallies = tallies;
+    store_latest(&mut tallies)?;
+    stored_rows(alloc, &tallies.stored)
 }

@@ -74,8 +74,9 @@ fn push_level(text: &mut Text, object: u64, depth: Option<u32>) -> Result<(), No
         Some(depth) => {
             text.push_all(b"level ")?;
             push_number(text, object)?;
-            push_spaced(text, depth)?;
-            text.push_all(b"\n")
+            text.push(b' ')?;
+            push_number(text, u64::from(depth))?;
+            text.push(b'\n')
         }
     }
 }

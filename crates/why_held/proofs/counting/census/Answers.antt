@@ -1,11 +1,10 @@
 use Rattle.std.proofs.Common.{◌≡◌, ◌<◌, ◌^◌, List, ap, sym, refl, ◌∙◌, subst, arith, length, map, take, length-take}
 use Rattle.std.proofs.lemmas.List.{length-map, take_all}
-use Rattle.std.proofs.lemmas.Result.{IfOk-weaker}
 use Rattle.lisp_graph.specs.declared.object.Object.{Object}
 use Rattle.why_held.specs.declared.rows.Counted.{Counted}
-use Rattle.why_held.specs.Census.{IsCensus, counted_object}
+use Rattle.why_held.specs.Census.{counted_object}
 use Rattle.why_held.specs.Tallies.{AreTallies}
-use Rattle.why_held.proofs.TallyRows.{counted_more, tallies_census, tallies_more, tallies_room}
+use Rattle.why_held.proofs.TallyRows.{counted_more, tallies_more, tallies_room}
 use Rattle.why_held.proofs.counting.census.Goals as goal
 
 pub count-requires : goal.count-requires
@@ -26,5 +25,4 @@ returns c =
     let all : take c.loop-object.object-index c.as_slice-object-items.result.now ≡ c.args.world.now.objects =
     take_all c.loop-object.object-index c.as_slice-object-items.result.now c.loop-object-test.false ∙ c.as_slice-object-items.ensures in
     let P : List Object → Type 0 = λ objects. AreTallies (map counted_object objects) c.loop-object.tallies in
-    IfOk-weaker c.rows_of.result _ (λ rows. IsCensus (map counted_object c.args.world.now.objects) rows)
-    (λ rows e. tallies_census (map counted_object c.args.world.now.objects) c.loop-object.tallies (subst P all c.loop-object.invariant) c.rows_of.ensures.order rows e) c.rows_of.ensures.value
+    c.rows_of.ensures (map counted_object c.args.world.now.objects) (subst P all c.loop-object.invariant)

@@ -1,12 +1,11 @@
 use Rattle.std.proofs.Common.{◌<◌, ◌^◌, ◌∙◌, List, sym, refl, subst, arith, length, map, take, length-take}
-use Rattle.std.specs.BTreeMap.{get}
 use Rattle.std.proofs.lemmas.List.{length-map}
 use Rattle.lisp_graph.specs.KeyedGraph.{KeyedGraph}
 use Rattle.world_text.specs.Numbering.{fields_of}
 use Rattle.world_text.proofs.writing_laws.Visits.{known_same}
 use Rattle.why_held.specs.declared.rows.Counted.{Counted}
 use Rattle.why_held.specs.Reached.{Meets, counted_key}
-use Rattle.why_held.specs.Tallies.{AreTallies, Counts, HasRoom, kind_cmp}
+use Rattle.why_held.specs.Tallies.{AreTallies, Counts, HasRoom, tally_in}
 use Rattle.why_held.proofs.ReachedKeys.{counted_next, reaching_last, reaching_next}
 use Rattle.why_held.proofs.TallyRows.{tallies_more, tallies_room}
 use Rattle.why_held.proofs.reaching.count_objects.Goals as goal
@@ -16,7 +15,7 @@ count_object-requires-clause-room g c =
     let G = g.W.Walk.graph c.args.walk.now in
     let counted = map (counted_key G) (take c.loop-key.number c.loop-key.met.keys) in
     let few : length counted < 2 ^ 32 = omega (arith, length-map (take c.loop-key.number c.loop-key.met.keys) (counted_key G), length-take c.loop-key.number c.loop-key.met.keys, c.in-Some.ensures.in_range) in
-    let P : KeyedGraph → Type 0 = λ graph. HasRoom (get kind_cmp c.loop-key.tallies ((counted_key graph c.in-Some.key).area, (counted_key graph c.in-Some.key).code)) in
+    let P : KeyedGraph → Type 0 = λ graph. HasRoom (tally_in c.loop-key.tallies (counted_key graph c.in-Some.key).area (counted_key graph c.in-Some.key).code) in
     subst P (sym c.loop-key.invariant.0) (tallies_room counted c.loop-key.tallies c.loop-key.invariant.4 (counted_key G c.in-Some.key).area (counted_key G c.in-Some.key).code few)
 
 pub loop-key-preserved : goal.loop-key-preserved

@@ -3,7 +3,6 @@ use Rattle.lisp_graph.specs.KeyedGraph.{KeyedGraph}
 use Rattle.why_held.specs.Reached.{AreReached, IsReaching, counted_key}
 use Rattle.why_held.specs.Tallies.{AreTallies}
 use Rattle.why_held.proofs.ReachedKeys.{reaching_first}
-use Rattle.why_held.proofs.TallyRows.{tallies_census}
 use Rattle.why_held.proofs.reaching.reached.Goals as goal
 
 pub count_objects-requires-clause-fresh : goal.count_objects-requires-clause-fresh
@@ -19,5 +18,5 @@ returns-clause-value g c =
     record {
       keys = c.count_objects.new.met.keys;
       reached = subst P c.meet_registers.ensures.unchanged c.in_ok-count_objects.ensures.sound;
-      census = tallies_census (map (counted_key G) c.count_objects.new.met.keys) c.count_objects.new.tallies (subst Q c.meet_registers.ensures.unchanged c.in_ok-count_objects.ensures.after) c.rows_of.ensures.order c.in_ok-rows.rows c.in_ok-rows.ensures.value;
+      census = c.in_ok-rows.ensures (map (counted_key G) c.count_objects.new.met.keys) (subst Q c.meet_registers.ensures.unchanged c.in_ok-count_objects.ensures.after);
     }

@@ -1,0 +1,18 @@
+use Rattle.std.proofs.Common.{◌≡◌, ◌∙◌, false, ap, sym, refl}
+use Rattle.std.proofs.lemmas.List.{get_or_default}
+use Rattle.lisp_graph.specs.Graph.{no_object}
+use Rattle.why_held.specs.Chains.{depth_at}
+use Rattle.why_held.specs.Nearest.{is_less_deep}
+use Rattle.why_held.proofs.NearestObjects.{nearest_next, nearest_skip}
+use Rattle.why_held.proofs.nearest.offer_object.Goals as goal
+
+pub returns-else-is_less_deep : goal.returns-else-is_less_deep
+returns-else-is_less_deep c =
+    let deep : is_less_deep (depth_at c.args.depths.now c.args.from) c.args.most ≡ false =
+    ap (λ o. is_less_deep o c.args.most) (sym c.depth_at.ensures) ∙ sym c.is_less_deep.ensures ∙ c.if-is_less_deep.false in
+    nearest_skip c.args.objects.now c.args.depths.now c.args.most c.args.from _ c.args.nearest.now c.requires.before deep refl
+
+pub returns-then-is_less_deep : goal.returns-then-is_less_deep
+returns-then-is_less_deep c =
+    nearest_next c.args.objects.now c.args.depths.now c.args.most c.args.from _ _ c.args.nearest.now c.offer_parts.new.nearest c.requires.before
+    (get_or_default c.args.objects.now c.args.from c.index-objects-from.result no_object c.requires.from) refl c.offer_parts.ensures
