@@ -1,25 +1,32 @@
 -- The lines that the fast reader takes.
-use Rattle.std.proofs.Common.{◌≡◌, ℕ, suc, ◌+◌, ◌*◌, ◌≤◌, List, [], ◌∷◌, ◌++◌, length, Bool, true, false, Some, Result, refl, ap, ◌∙◌, arith, decimal, codes}
-use Rattle.std.specs.Prelude.{◌&&◌, nat_lt, if◌then◌else◌, map}
+use Rattle.std.proofs.Common.{◌≡◌, ℕ, suc, ◌+◌, ◌*◌, ◌≤◌, ◌<◌, ◌-◌, List, [], ◌∷◌, ◌++◌, length, take, get_or, Bool, true, false, Option, Some, None, Result, Ok, refl, sym, ap, ◌∙◌, subst, arith, decimal, codes}
+use Rattle.std.specs.Prelude.{◌&&◌, nat_lt, if◌then◌else◌, map, IfSome}
 use Rattle.std.specs.List.{All, list_all}
 use Rattle.std.proofs.lemmas.Bool.Decides.{nat_tests}
-use Rattle.std.proofs.lemmas.List.{append-nil, length-map}
+use Rattle.std.proofs.lemmas.List.{append-nil, append_assoc, length-append, length-map}
+use Rattle.std.proofs.Math.Seq.{get_or-append_right, take-append_seam}
 use Rattle.lisp_graph.specs.Effect.{list_from, pair_of}
 use Rattle.lisp_graph.specs.declared.object.Value.{Value}
+use Rattle.lisp_graph.specs.declared.object.Object.{Object}
+use Rattle.world_text.specs.declared.fault.WorldStep.{WorldStep}
+use Rattle.world_text.specs.declared.fault.WorldStep.TheVariants.{Next}
 use Rattle.world_text.specs.declared.reading.reason.Reason.{Reason}
 use Rattle.world_text.specs.declared.reading.reason.Reason.TheVariants.{NoArea}
 use Rattle.world_text.specs.declared.reading.reader.Section.TheVariants.{Objects}
 use Rattle.world_text.specs.declared.reading.reader.WorldReader.{WorldReader}
-use Rattle.world_text.specs.reading.Words.{is_word}
+use Rattle.world_text.specs.reading.Words.{is_well_formed, is_word}
 use Rattle.world_text.specs.reading.Next.{◌>>=◌, a_number, a_value, an_area, found, next}
 use Rattle.world_text.specs.reading.Numbers.{area_of}
 use Rattle.world_text.specs.reading.Reader.{Said, bad}
 use Rattle.world_text.specs.reading.Objects.{added, block_line, block_with, cons_line, run_line}
 use Rattle.world_text.specs.reading.Line.{line_at, line_in, object_lines}
-use Rattle.world_text.specs.reading.Fast.{AreSpaced, BeginsBlock, BeginsRun, SaysCons}
+use Rattle.world_text.specs.reading.Fast.{AreSpaced, BeginsBlock, BeginsRun, IsLineBeforeFeed, LeadsCons}
+use Rattle.world_text.specs.reading.Limits.{IsReached}
 use Rattle.world_text.specs.writing.Spelling.{IsWritten, line_of, spaced, value_text}
 use Rattle.world_text.proofs.reading_laws.NumberLaws.{decimal_word, numbers}
 use Rattle.world_text.proofs.reading_laws.ReadLaws.{all_words, bad_back, each_back, next_reads, step_goes}
+use Rattle.world_text.proofs.reading_laws.ObjectLaws.{added_only}
+use Rattle.world_text.proofs.reading_laws.PlaceInvariant.{judged_reached}
 use Rattle.world_text.proofs.reading_laws.Rows.{line_formed}
 use Rattle.world_text.proofs.reading_laws.ValueLaws.{values_spell}
 
@@ -57,16 +64,74 @@ cons_words_say place area car cdr name is first second =
 cons_text : (name car cdr : List ℕ) → codes "cons " ++ (name ++ (32 ∷ car ++ 32 ∷ cdr)) ≡ line_of (codes "cons" ∷ name ∷ car ∷ cdr ∷ [])
 cons_text name car cdr = simp append-nil
 
-pub cons_says : (place : WorldReader) (line : List ℕ) (area : ℕ) (car cdr : Value) → place.part ≡ Objects → SaysCons place.world.areas line area car cdr
-    → line_at place line ≡ added place area 2 (pair_of area car cdr ∷ [])
+cons_rest : (name car cdr rest : List ℕ) → codes "cons " ++ (name ++ (32 ∷ car ++ (32 ∷ cdr ++ rest))) ≡ codes "cons " ++ (name ++ (32 ∷ car ++ 32 ∷ cdr)) ++ rest
+cons_rest name car cdr rest = simp append_assoc
+
+-- a line with which a text begins, and what it means
+pub record LineLeads (place : WorldReader) (text rest : List ℕ) (said : Said) : Type 0 where
+  pub line : List ℕ
+  pub is : text ≡ line ++ rest
+  pub formed : is_well_formed line ≡ true
+  pub says : line_at place line ≡ said
+
+pub cons_leads : (place : WorldReader) (text : List ℕ) (area : ℕ) (car cdr : Value) (rest : List ℕ) → place.part ≡ Objects → LeadsCons place.world.areas text area car cdr rest
+    → LineLeads place text rest (added place area 2 (pair_of area car cdr ∷ []))
 unfolding object_lines
-cons_says place line area car cdr part s =
+cons_leads place text area car cdr rest part s =
     let words : List (List ℕ) = s.name.name ∷ value_text car ∷ value_text cdr ∷ [] in
-    let good : list_all is_word (codes "cons" ∷ words) ≡ true = rw (s.name.word, values_spell.words car s.first, values_spell.words cdr s.second) refl in
-    let named : s.named ≡ s.name.name ++ (32 ∷ value_text car ++ 32 ∷ value_text cdr) = s.name.is ∙ ap (λ rest. s.name.name ++ rest) s.is in
-    let whole : line ≡ codes "cons " ++ (s.name.name ++ (32 ∷ value_text car ++ 32 ∷ value_text cdr)) = s.head ∙ ap (λ rest. codes "cons " ++ rest) named in
-    ap (line_at place) (whole ∙ cons_text s.name.name (value_text car) (value_text cdr)) ∙ objects_say place (codes "cons") words part good
-    ∙ cons_words_say place area car cdr s.name.name s.name.found s.first s.second
+    let good : list_all is_word (codes "cons" ∷ words) ≡ true = rw (s.name.word, values_spell.words car s.first.1, values_spell.words cdr s.second.1) refl in
+    let values : s.values ≡ 32 ∷ value_text car ++ (32 ∷ value_text cdr ++ rest) = s.first.0 ∙ ap (λ last. 32 ∷ value_text car ++ last) s.second.0 in
+    let named : s.named ≡ s.name.name ++ (32 ∷ value_text car ++ (32 ∷ value_text cdr ++ rest)) = s.name.is ∙ ap (λ values. s.name.name ++ values) values in
+    let whole : text ≡ codes "cons " ++ (s.name.name ++ (32 ∷ value_text car ++ (32 ∷ value_text cdr ++ rest))) = s.head ∙ ap (λ named. codes "cons " ++ named) named in
+    let line : List ℕ = line_of (codes "cons" ∷ words) in
+    record {
+      line = line;
+      is = whole ∙ cons_rest s.name.name (value_text car) (value_text cdr) rest ∙ ap (λ front. front ++ rest) (cons_text s.name.name (value_text car) (value_text cdr));
+      formed = (line_formed (codes "cons") words good).0;
+      says = objects_say place (codes "cons") words part good ∙ cons_words_say place area car cdr s.name.name s.name.found s.first.1 s.second.1;
+    }
+
+-- the whole text is the line
+pub line_says : (place : WorldReader) (text rest : List ℕ) (said : Said) → LineLeads place text rest said → length rest ≡ 0 → line_at place text ≡ said
+line_says place text rest said leads none = ap (line_at place) (leads.is ∙ no_rest leads.line rest none) ∙ leads.says
+  where
+    no_rest : (line rest : List ℕ) → length rest ≡ 0 → line ++ rest ≡ line
+    no_rest line [] none = append-nil line
+    no_rest line (byte ∷ bytes) none = absurd (omega arith)
+
+-- a line feed follows the line
+pub line_fed : (place : WorldReader) (text rest : List ℕ) (said : Said) → LineLeads place text rest said → 0 < length rest → get_or rest 0 0 ≡ 10 → (size : ℕ) → size + length rest ≡ length text
+    → IsLineBeforeFeed text size × (line_at place (take size text) ≡ said)
+line_fed place text rest said leads some feed size sized =
+    let long : size ≡ length leads.line = omega (arith, sized, ap length leads.is, length-append leads.line rest) in
+    let front : take size text ≡ leads.line = ap (λ k. take k text) long ∙ ap (λ bytes. take (length leads.line) bytes) leads.is ∙ take-append_seam leads.line rest in (
+      record {
+        within = omega (arith, sized, some);
+        feed = ap (λ bytes. get_or bytes size 0) leads.is ∙ get_or-append_right leads.line rest size 0 (omega (arith, long)) ∙ ap (λ i. get_or rest i 0) (omega (arith, long)) ∙ feed;
+        formed = ap is_well_formed front ∙ leads.formed;
+      },
+      ap (line_at place) front ∙ leads.says,
+    )
+
+-- what objects that were added lead to
+added_next : (old new : WorldReader) (area wanted : ℕ) (objects : List Object) (step : WorldStep) → added old area wanted objects ≡ Ok (step, new) → (step ≡ Next) × (new.part ≡ Objects)
+added_next old new area wanted objects step is =
+    let brings = (added_only old area wanted objects (step, new) is).1 in
+    (sym (ap (λ (y : WorldStep × WorldReader). y.0) brings), sym (ap (λ (y : WorldStep × WorldReader). y.1.part) brings))
+
+-- a cons line that a line feed ends, and that was taken
+pub cons_fed : (old new : WorldReader) (text : List ℕ) (area : ℕ) (car cdr : Value) (rest : List ℕ) (step : WorldStep) → old.part ≡ Objects → LeadsCons old.world.areas text area car cdr rest → 0 < length rest → get_or rest 0 0 ≡ 10
+    → added old area 2 (pair_of area car cdr ∷ []) ≡ Ok (step, new)
+    → IsLineBeforeFeed text (length text - length rest) × (line_at old (take (length text - length rest) text) ≡ Ok (Next, new)) × (new.part ≡ Objects)
+cons_fed old new text area car cdr rest step part s some feed is =
+    let leads = cons_leads old text area car cdr rest part s in
+    let fed = line_fed old text rest (added old area 2 (pair_of area car cdr ∷ [])) leads some feed (length text - length rest) (omega (arith, ap length leads.is, length-append leads.line rest)) in
+    let next = added_next old new area 2 (pair_of area car cdr ∷ []) step is in
+    (fed.0, fed.1 ∙ is ∙ ap (λ (s : WorldStep). Ok (s, new)) next.0, next.1)
+
+pub fed_reached : (old new : WorldReader) (text : List ℕ) (result : Option ℕ) → IsReached old → IfSome result (λ size. line_at old (take size text) ≡ Ok (Next, new)) → (result ≡ None → new ≡ old) → IsReached new
+fed_reached old new text (Some size) reached judged same = judged_reached old new (take size text) (Ok Next) reached judged
+fed_reached old new text None reached judged same = subst IsReached (sym (same refl)) reached
 
 -- Blocks
 

@@ -1,10 +1,14 @@
 //! Reading a world line by line.
-ghost use Rattle.std.specs.Prelude.{◌≡◌, true, false, IfErr, IfOk};
+ghost use Rattle.std.specs.Prelude.{◌≡◌, true, false, None, Ok, IfErr, IfOk, IfSome, take};
+ghost use Rattle.world_text.specs.declared.fault.WorldStep.TheVariants.{Next};
+ghost use Rattle.world_text.specs.declared.reading.reader.Section.TheVariants.{Objects as AtObjects};
 ghost use Rattle.world_text.specs.reading.Reader.{IsReader, Judged, NamesArea, is_closed, opening_place, step_to};
 ghost use Rattle.world_text.specs.reading.Line.{line_at};
+ghost use Rattle.world_text.specs.reading.Fast.{IsLineBeforeFeed};
 ghost use Rattle.world_text.specs.reading.Limits.{IsAccepted, IsReached};
 ghost use Rattle.world_text.specs.reading.Accepts.{AcceptsSpellings};
 
+use crate::reading::fast::cons_before_feed;
 use crate::reading::line::line_at;
 use crate::{Section, WorldFault, WorldReader, WorldStep};
 use lisp_graph::{Areas, Fields, Objects, World};
@@ -82,6 +86,18 @@ impl WorldBuilder {
         ensures area { IfErr result (NamesArea self.new.world.areas) }
     {
         line_at(self.alloc, &mut self.place, line)
+    }
+
+    /// Takes the line at the front of a text, if it is `cons AREA V V`, a line feed follows it, and it is accepted. Returns how many bytes
+    /// precede the line feed. If the result is None, the builder is unchanged, and `line` judges the line.
+    #[inline(always)]
+    pub fn cons_before_feed(&mut self, text: &[u8]) -> Option<usize>
+        ensures found { IfSome result (IsLineBeforeFeed text.now) }
+        ensures judged { IfSome result (λ size. line_at self.old (take size text.now) ≡ Ok (Next, self.new)) }
+        ensures place { IfSome result (λ _. (self.old.part ≡ AtObjects) × (self.new.part ≡ AtObjects)) }
+        ensures none { result ≡ None → self.new ≡ self.old }
+    {
+        cons_before_feed(&mut self.place, text)
     }
 
     /// The world that the lines so far mean: the whole world once they are closed.

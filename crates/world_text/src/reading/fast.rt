@@ -1,15 +1,16 @@
 //! Reads object lines with one look at each byte. A line for which this returns None is read by `objects`, which accepts it or
 //! gives the reason for its refusal.
-ghost use Rattle.std.specs.Prelude.{◌≡◌, ◌<◌, ◌≤◌, ◌++◌, ◌∷◌, None, true, decimal, length, IfOk, IfSome};
+ghost use Rattle.std.specs.Prelude.{◌≡◌, ◌<◌, ◌≤◌, ◌++◌, ◌∷◌, None, Ok, true, decimal, length, take, IfOk, IfSome};
+ghost use Rattle.world_text.specs.declared.fault.WorldStep.TheVariants.{Next};
 ghost use Rattle.world_text.specs.declared.reading.reader.Section.TheVariants.{Objects as AtObjects};
 ghost use Rattle.world_text.specs.reading.Reader.{IsReader, Judged};
 ghost use Rattle.world_text.specs.reading.Line.{line_at};
-ghost use Rattle.world_text.specs.reading.Fast.{AreSpaced, BeginsBlock, BeginsRun, SaysCons};
+ghost use Rattle.world_text.specs.reading.Fast.{AreSpaced, BeginsBlock, BeginsRun, IsLineBeforeFeed, LeadsCons};
 ghost use Rattle.world_text.specs.writing.Spelling.{IsWritten, value_text};
 
 use crate::reading::leading::{behind, behind_space, leading_area, leading_number, leading_value};
 use crate::reading::objects::{add_object, add_run};
-use crate::{WorldFault, WorldReader, WorldStep};
+use crate::{Section, WorldFault, WorldReader, WorldStep};
 use lisp_graph::{Areas, Body, Fields, Object, Value};
 use std::alloc::Global;
 use store_word::NoMemory;
@@ -21,15 +22,6 @@ fn spaced_value(text: &[u8]) -> Option<(Value, &[u8])>
 {
     let word = behind_space(text)?;
     leading_value(word)
-}
-
-/// A space and a value, and no more.
-#[inline(always)]
-fn last_value(text: &[u8]) -> Option<Value>
-    ensures { IfSome result (λ value. (text.now ≡ 32 ∷ value_text value) × IsWritten value) }
-{
-    let (value, rest) = spaced_value(text)?;
-    if rest.is_empty() { Some(value) } else { None }
 }
 
 /// The whole text as at most `most` values, with a space before each.
@@ -51,17 +43,19 @@ fn spaced_values(alloc: Global, most: u64, text: &[u8]) -> Result<Option<Fields>
     Ok(Some(values))
 }
 
-/// The area and the values of `cons AREA V V`
+/// The area and the values of `cons AREA V V` at the front, and the text after them.
 #[inline(always)]
-fn cons_words(areas: &Areas, line: &[u8]) -> Option<(usize, Value, Value)>
-    ensures value { IfSome result (λ x. SaysCons areas.now line.now x.0 x.1 x.2) }
+fn leading_cons<'a>(areas: &Areas, text: &'a [u8]) -> Option<(usize, Value, Value, &'a [u8])>
+    ensures value { IfSome result (λ x. LeadsCons areas.now text.now x.0 x.1 x.2 x.3.now) }
     ensures in_range { IfSome result (λ x. x.0 < length areas.now) }
 {
-    let text = behind(b"cons ", line)?;
-    let (area, values) = leading_area(areas, text)?;
+    let [b'c', b'o', b'n', b's', b' ', named @ ..] = text else {
+        return None;
+    };
+    let (area, values) = leading_area(areas, named)?;
     let (car, last) = spaced_value(values)?;
-    let cdr = last_value(last)?;
-    Some((area, car, cdr))
+    let (cdr, rest) = spaced_value(last)?;
+    Some((area, car, cdr, rest))
 }
 
 /// `cons AREA V V`
@@ -72,13 +66,45 @@ fn cons_at(place: &mut WorldReader, line: &[u8]) -> Option<Result<WorldStep, Wor
     ensures none { result ≡ None → place.new ≡ place.old }
     ensures stays_sound { IsReader place.new }
 {
-    let (area, car, cdr) = cons_words(&place.world.areas, line)?;
+    let (area, car, cdr, rest) = leading_cons(&place.world.areas, line)?;
+    if !rest.is_empty() {
+        return None;
+    }
     let object = Object {
         area: area as u8,
         charge: 2,
         body: Body::Cons { car, cdr },
     };
     Some(add_object(place, area, object))
+}
+
+/// Takes the line at the front of a text, if it is `cons AREA V V`, a line feed follows it, and it is accepted. Returns how many bytes precede the
+/// line feed.
+#[inline(always)]
+pub fn cons_before_feed(place: &mut WorldReader, text: &[u8]) -> Option<usize>
+    requires { IsReader place.old }
+    ensures found { IfSome result (IsLineBeforeFeed text.now) }
+    ensures judged { IfSome result (λ size. line_at place.old (take size text.now) ≡ Ok (Next, place.new)) }
+    ensures place { IfSome result (λ _. (place.old.part ≡ AtObjects) × (place.new.part ≡ AtObjects)) }
+    ensures none { result ≡ None → place.new ≡ place.old }
+    ensures stays_sound { IsReader place.new }
+{
+    if place.part != Section::Objects {
+        return None;
+    }
+    let (area, car, cdr, rest) = leading_cons(&place.world.areas, text)?;
+    if rest.is_empty() || rest[0] != b'\n' {
+        return None;
+    }
+    let object = Object {
+        area: area as u8,
+        charge: 2,
+        body: Body::Cons { car, cdr },
+    };
+    match add_object(place, area, object) {
+        Ok(_) => Some(text.len() - rest.len()),
+        Err(_) => None,
+    }
 }
 
 /// A space and a code, and the text after them.

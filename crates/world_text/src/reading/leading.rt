@@ -52,9 +52,34 @@ fn leading_digits(text: &[u8]) -> (u64, usize)
     (value, most)
 }
 
-/// A number of 32 bits at the front, and the text after it.
+/// A number of at most eight digits at the front, and the text after it, if the text has nine bytes.
 #[inline(always)]
-pub fn leading_number(text: &[u8]) -> Option<(u32, &[u8])>
+fn leading_short(text: &[u8]) -> Option<(u32, &[u8])>
+    ensures { IfSome result (λ x. text.now ≡ decimal x.0 ++ x.1.now) }
+{
+    if text.len() < 9 {
+        return None;
+    }
+    let mut value = 0u32;
+    for at in 0..9 {
+        let byte = text[at];
+        if !byte.is_ascii_digit() {
+            if at == 0 {
+                return None;
+            }
+            if at > 1 && text[0] == b'0' {
+                return None;
+            }
+            return Some((value, &text[at..]));
+        }
+        value = value * 10 + u32::from(byte - b'0');
+    }
+    None
+}
+
+/// A number of 32 bits at the front, and the text after it.
+#[inline(never)]
+fn leading_any(text: &[u8]) -> Option<(u32, &[u8])>
     ensures { IfSome result (λ x. text.now ≡ decimal x.0 ++ x.1.now) }
 {
     let (value, count) = leading_digits(text);
@@ -68,6 +93,17 @@ pub fn leading_number(text: &[u8]) -> Option<(u32, &[u8])>
         return None;
     }
     Some((value as u32, &text[count..]))
+}
+
+/// A number of 32 bits at the front, and the text after it.
+#[inline(always)]
+pub fn leading_number(text: &[u8]) -> Option<(u32, &[u8])>
+    ensures { IfSome result (λ x. text.now ≡ decimal x.0 ++ x.1.now) }
+{
+    match leading_short(text) {
+        Some(found) => Some(found),
+        None => leading_any(text),
+    }
 }
 
 fn is_graphic(byte: u8) -> bool

@@ -1,8 +1,8 @@
 use Rattle.std.proofs.Common.{◌≡◌, ◌++◌, get_or, drop, decimal, sym, ap, ◌∙◌, arith}
 use Rattle.std.proofs.lemmas.List.{take_rest}
 use Rattle.world_text.proofs.TextPrefixes.{digits_lead}
-use Rattle.world_text.proofs.reading.leading.leading_number.Goals as goal
-use Rattle.world_text.proofs.reading.leading.leading_number.Goals.{else-count-gt1-via-then-count-gt1+else-text-eq48, else-count-gt1-via-else-count-gt1}
+use Rattle.world_text.proofs.reading.leading.leading_any.Goals as goal
+use Rattle.world_text.proofs.reading.leading.leading_any.Goals.{else-count-gt1-via-then-count-gt1+else-text-eq48, else-count-gt1-via-else-count-gt1}
 
 pub returns : goal.returns
 returns c =
