@@ -1,6 +1,7 @@
 pub mod ModeAnswers
 pub mod ObjectCounts
 pub mod WorldFiles
+mod BufferedConses
 mod DumpFiles
 mod WorldReferences
 mod TextPrefixes
