@@ -22,6 +22,7 @@ use transporter::settle;
 /// Whatever it returns, the ground and the registers represent the same states, and at most
 /// 2,048 words are placed. If no swap error occurs, it takes at most 46 memory accesses and 4 for each word
 /// placed. A swap error is returned only if the count of swap errors rose.
+#[inline(always)]
 pub fn settle_register<M: Memory, L: Ledger>(
     ground: &mut Ground<M>,
     registers: &mut [Word],
@@ -66,6 +67,7 @@ pub fn settle_register<M: Memory, L: Ledger>(
 /// Whatever it returns, the ground and the registers represent the same states, and at most
 /// 2,048 words are placed for each register of the list. If no swap error occurs, it takes at most 46
 /// memory accesses for each, and 4 for each word placed. A swap error is returned only if the count of swap errors rose.
+#[inline(always)]
 pub fn settle_items<M: Memory, L: Ledger>(
     ground: &mut Ground<M>,
     registers: &mut [Word],

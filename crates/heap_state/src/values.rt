@@ -2,6 +2,8 @@
 ghost use Rattle.std.specs.Prelude.{◌≡◌, ◌≢◌, ◌+◌, ◌<◌, ◌≤◌, IfOk, OnOk, OnErr, length, slice_set};
 ghost use Rattle.mem_port.specs.View.{AccountsForFaults, AccountsForFaultsIf, shown};
 ghost use Rattle.mem_port.specs.Store.{StoresNothing};
+ghost use Rattle.store_word.specs.declared.word.Content.TheVariants.{Struct as StructAt};
+ghost use Rattle.obj_layout.specs.Forwards.{HasFinal};
 ghost use Rattle.heap_state.specs.Reads.{is_fault, reply_of};
 ghost use Rattle.heap_state.specs.Words.{CanShow, Shows, header_reply};
 
@@ -22,8 +24,28 @@ fn header_reply(header: Word) -> Reply
     }
 }
 
-// The reply that shows a word's value. For a reference to a block it reads the header, at its final
+// The reply that shows the block to which a reference has this address. It reads the header, at the block's final
 // address, once. It takes at most 13 memory accesses. On a swap error nothing is stored, and the count of swap errors rises.
+#[inline(never)]
+fn show_block<M: Memory, L: Ledger>(
+    mem: &mut M,
+    at: u32,
+    steps: &mut Steps<L>,
+) -> Result<Reply, SwapFault>
+    requires { HasFinal (M.seen mem.old).words at }
+    ensures value { IfOk result (Shows (M.seen mem.old).words (StructAt at)) }
+    ensures succeeds { IfOk result (λ reply. reply ≢ Reply.Fault) }
+    ensures unchanged { StoresNothing (M.seen mem.old) (M.seen mem.new) }
+    ensures accounted { AccountsForFaults (shown M.Memory mem.old) (shown M.Memory mem.new) steps.old steps.new result }
+    ensures cost { steps.new ≤ steps.old + 13 }
+{
+    let block = resolve_first(mem, at, steps)?;
+    let header = first_word(mem, block, steps)?;
+    Ok(header_reply(header))
+}
+
+// The reply that shows a word's value. Only for a reference to a block does it read memory, as `show_block` says.
+#[inline]
 fn show<M: Memory, L: Ledger>(
     mem: &mut M,
     word: Word,
@@ -39,17 +61,14 @@ fn show<M: Memory, L: Ledger>(
     match word.content() {
         Content::Fixnum(number) => Ok(Reply::Number(number)),
         Content::List(_) => Ok(Reply::Cons),
-        Content::Struct(at) => {
-            let block = resolve_first(mem, at, steps)?;
-            let header = first_word(mem, block, steps)?;
-            Ok(header_reply(header))
-        }
+        Content::Struct(at) => show_block(mem, at, steps),
         _ => Ok(Reply::Nil),
     }
 }
 
 /// Writes a word to a register, and returns the reply that shows it. On a swap error the registers are unchanged,
 /// and the count of swap errors rises. It takes at most 13 memory accesses, and stores nothing.
+#[inline(always)]
 pub fn show_into<M: Memory, L: Ledger>(
     mem: &mut M,
     registers: &mut [Word],
