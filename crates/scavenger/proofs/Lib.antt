@@ -19,3 +19,6 @@ mod ScanSequences
 mod MovedWords
 mod ScanOrder
 mod DistinctUnits
+mod QuietWords
+mod ReadScans
+mod Sweeps

@@ -52,8 +52,8 @@ pub scanned-still : (m m' : Store) (t t' : Table) (scan scan' : Scan) (registers
 scanned-still m m' t t' scan scan' registers registers' (register r x) = x.still
 scanned-still m m' t t' scan scan' registers registers' (word a x) = x.still
 
-pub turn-cost : (s0 s1 s2 p0 p1 p2 i : ℕ) → p0 ≤ p1 → p1 ≤ p2 → s1 ≤ s0 + 4 * (p1 - p0) + 48 * i → s2 ≤ s1 + 4 * (p2 - p1) + 48 → s2 ≤ s0 + 4 * (p2 - p0) + 48 * (i + 1)
-turn-cost s0 s1 s2 p0 p1 p2 i a b c d = omega arith
+pub turn-cost : (s0 s1 s2 s3 p0 p1 p2 i n : ℕ) → p0 ≤ p1 → p1 ≤ p2 → s1 ≤ s0 + 4 * (p1 - p0) + 48 * i → s2 ≤ s1 + n + 1 → s3 ≤ s2 + 4 * (p2 - p1) + 47 → s3 ≤ s0 + 4 * (p2 - p0) + 48 * (i + (n + 1))
+turn-cost s0 s1 s2 s3 p0 p1 p2 i n a b c d e = omega arith
 
 -- the number of units that was counted
 pub still-up-to : {m m' : Store} {t t' : Table} {scan scan' : Scan} {registers registers' : List Parts} (n : ℕ) → n ≡ scan'.done - scan.done → StillCollects m t scan registers m' t' scan' registers' n → StillCollects m t scan registers m' t' scan' registers' (scan'.done - scan.done)
