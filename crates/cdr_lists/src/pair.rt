@@ -1,5 +1,5 @@
 //! A new cons, as a pair in its class.
-ghost use Rattle.std.specs.Prelude.{◌≡◌, ◌+◌, ◌/◌, ◌<◌, ◌≤◌, ◌^◌, length, slice_get, Some, IfOk, OnOk, OnErr};
+ghost use Rattle.std.specs.Prelude.{◌≡◌, ◌+◌, ◌<◌, ◌≤◌, ◌^◌, length, slice_get, Some, IfOk, OnOk, OnErr};
 ghost use Rattle.mem_port.specs.View.{AccountsForFaults, shown};
 ghost use Rattle.area_space.specs.View.{view};
 ghost use Rattle.transporter.specs.WrittenMarks.{MarksByWords};
@@ -23,31 +23,8 @@ use store_word::{CdrCode, Steps, SwapFault, Word};
 /// The charge of a pair that `cons` makes, in words. They are its two words.
 pub const PAIR: u32 = 2;
 
-// Holds the pages of two consecutive words. They are usually one page, which is
-// held once.
-fn hold_both<M: Memory, L: Ledger>(
-    mem: &mut M,
-    at: u32,
-    steps: &mut Steps<L>,
-) -> Result<(), SwapFault>
-    requires in_range { at + 1 < length (M.seen mem.old).words }
-    requires at_most { length (M.seen mem.old).words ≤ 4194304 }
-    ensures first { OnOk result (M.held mem.new (at / 256)) }
-    ensures second { OnOk result (M.held mem.new ((at + 1) / 256)) }
-    ensures unchanged { StoresNothing (M.seen mem.old) (M.seen mem.new) }
-    ensures accounted { AccountsForFaults (shown M.Memory mem.old) (shown M.Memory mem.new) steps.old steps.new result }
-    ensures cost { steps.new ≤ steps.old + 2 }
-{
-    let page = at / 256;
-    let next = (at + 1) / 256;
-    if page == next {
-        mem.hold(&[page], steps)
-    } else {
-        mem.hold(&[page, next], steps)
-    }
-}
-
-// Writes both words of a pair, or none: their pages are held first.
+// Writes both words of a pair, or none: by one use of their page or, if they are on two, with both pages held first.
+#[inline]
 fn write_pair<M: Memory, L: Ledger>(
     mem: &mut M,
     at: u32,
@@ -64,7 +41,11 @@ fn write_pair<M: Memory, L: Ledger>(
     ensures accounted { AccountsForFaults (shown M.Memory mem.old) (shown M.Memory mem.new) steps.old steps.new result }
     ensures cost { steps.new ≤ steps.old + 4 }
 {
-    hold_both(mem, at, steps)?;
+    if at % 256 < 255 {
+        return mem.write_two(at, first, second, steps);
+    }
+    let page = at / 256;
+    mem.hold(&[page, page + 1], steps)?;
     mem.write(at, first, steps)?;
     mem.write(at + 1, second, steps)
 }
@@ -120,6 +101,7 @@ pub fn make_pair<M: Memory, L: Ledger>(
 }
 
 /// The same for a pair whose charge is 2 or 3 words.
+#[inline]
 pub fn make_pair_of<M: Memory, L: Ledger>(
     ground: &mut Ground<M>,
     area: u8,

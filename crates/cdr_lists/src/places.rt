@@ -47,6 +47,7 @@ pub(crate) fn find_first<M: Memory, L: Ledger>(
 }
 
 // The cons to which a word refers. It takes at most 13 memory accesses.
+#[inline]
 pub(crate) fn read_cons<M: Memory, L: Ledger>(
     mem: &mut M,
     of: Word,
