@@ -163,10 +163,10 @@ pub fn read_fast<'a>(
         return None;
     }
     match text[0] {
-        b's' if text.len() > 1 && text[1] == b'i' => size(space, text, command),
-        b's' => set(space, text, command),
-        b'g' if text.len() > 1 && text[1] == b'r' => grow(space, text, command),
-        b'g' => get(space, text, command),
+        b's' if text.len() > 1 && text[1] == b'e' => set(space, text, command),
+        b's' => size(space, text, command),
+        b'g' if text.len() > 1 && text[1] == b'e' => get(space, text, command),
+        b'g' => grow(space, text, command),
         b'p' => put(space, text, command),
         b'l' => list(space, areas, text, command),
         b'c' if text.len() > 1 && text[1] == b'o' => cons(space, areas, text, command),

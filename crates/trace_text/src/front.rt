@@ -53,15 +53,55 @@ pub fn leading_register(registers: u32, text: &[u8]) -> Option<(u8, &[u8])>
     }
 }
 
+/// A number of one or two digits and a space, and the text after them. Most registers are such numbers.
+#[inline(always)]
+fn short_and_space(text: &[u8]) -> Option<(u32, &[u8])>
+    ensures { IfSome result (λ x. text.now ≡ decimal x.0 ++ 32 ∷ x.1.now) }
+{
+    let [first, second, third, rest @ ..] = text else {
+        return None;
+    };
+    if !first.is_ascii_digit() {
+        return None;
+    }
+    let tens = u32::from(*first - b'0');
+    if *second == b' ' {
+        return Some((tens, &text[2..]));
+    }
+    if tens == 0 || *third != b' ' {
+        return None;
+    }
+    if !second.is_ascii_digit() {
+        return None;
+    }
+    Some((10 * tens + u32::from(*second - b'0'), rest))
+}
+
+/// A number and a space, and the text after them.
+#[inline(always)]
+pub fn number_and_space(text: &[u8]) -> Option<(u32, &[u8])>
+    ensures { IfSome result (λ x. text.now ≡ decimal x.0 ++ 32 ∷ x.1.now) }
+{
+    if let Some(found) = short_and_space(text) {
+        return Some(found);
+    }
+    let (number, rest) = leading_number(text)?;
+    let behind = behind_space(rest)?;
+    Some((number, behind))
+}
+
 /// A register and a space, and the text after them.
 #[inline(always)]
 pub fn register_and_space(registers: u32, text: &[u8]) -> Option<(u8, &[u8])>
     requires { registers ≤ 256 }
     ensures { IfSome result (λ x. (x.0 < registers) × (text.now ≡ decimal x.0 ++ 32 ∷ x.1.now)) }
 {
-    let (register, rest) = leading_register(registers, text)?;
-    let behind = behind_space(rest)?;
-    Some((register, behind))
+    let (number, rest) = number_and_space(text)?;
+    if number < registers {
+        Some((number as u8, rest))
+    } else {
+        None
+    }
 }
 
 /// Two registers, and the text after them.
@@ -73,16 +113,6 @@ pub fn two_registers(registers: u32, text: &[u8]) -> Option<(u8, u8, &[u8])>
     let (first, last) = register_and_space(registers, text)?;
     let (second, rest) = leading_register(registers, last)?;
     Some((first, second, rest))
-}
-
-/// A number and a space, and the text after them.
-#[inline(always)]
-pub fn number_and_space(text: &[u8]) -> Option<(u32, &[u8])>
-    ensures { IfSome result (λ x. text.now ≡ decimal x.0 ++ 32 ∷ x.1.now) }
-{
-    let (number, rest) = leading_any(text)?;
-    let behind = behind_space(rest)?;
-    Some((number, behind))
 }
 
 /// A space and a register, and the text after them.

@@ -1,26 +1,6 @@
-use Rattle.std.proofs.Common.{◌≡◌, ℕ, ◌+◌, ◌-◌, ◌*◌, ◌≤◌, List, [], ◌∷◌, ◌++◌, length, get_or, take, drop, ap, arith, decimal}
-use Rattle.std.proofs.lemmas.List.{take_rest}
-use Rattle.std.proofs.lemmas.Fmt.{decimal_digit}
-use Rattle.itoa.proofs.Decimal.{decimal_two}
+use Rattle.std.proofs.Common.{arith}
+use Rattle.trace_text.proofs.Digits.{one_lead, two_lead}
 use Rattle.trace_text.proofs.front.leading_short.Goals as goal
-
-one_digit : (first : ℕ) (rest : List ℕ) → 48 ≤ first → first ≤ 57 → first ∷ rest ≡ decimal (first - 48) ++ rest
-one_digit first rest low high = let e : first ≡ 48 + (first - 48) = omega arith in rw (decimal_digit (first - 48) (omega arith)) (ap (λ d. d ∷ rest) e)
-
-two_digits : (first second n : ℕ) (rest : List ℕ) → 49 ≤ first → first ≤ 57 → 48 ≤ second → second ≤ 57 → n ≡ 10 * (first - 48) + (second - 48) → first ∷ second ∷ rest ≡ decimal n ++ rest
-two_digits first second n rest low high low' high' is = rw (decimal_two n (omega arith) (omega arith)) (two (omega arith) (omega arith))
-  where
-    two : {a b : ℕ} → first ≡ a → second ≡ b → first ∷ second ∷ rest ≡ a ∷ b ∷ rest
-    two e f = cc
-
-one_lead : (text : List ℕ) (n : ℕ) → 1 ≤ length text → 48 ≤ get_or text 0 0 → get_or text 0 0 ≤ 57 → n ≡ get_or text 0 0 - 48 → text ≡ decimal n ++ take (length text - 1) (drop 1 text)
-one_lead [] n some low high is = absurd (omega arith)
-one_lead (first ∷ rest) n some low high is = rw (take_rest (first ∷ rest) 1, is) (one_digit first rest low high)
-
-two_lead : (text : List ℕ) (n : ℕ) → 2 ≤ length text → 49 ≤ get_or text 0 0 → get_or text 0 0 ≤ 57 → 48 ≤ get_or text 1 0 → get_or text 1 0 ≤ 57 → n ≡ 10 * (get_or text 0 0 - 48) + (get_or text 1 0 - 48) → text ≡ decimal n ++ take (length text - 2) (drop 2 text)
-two_lead [] n some low high low' high' is = absurd (omega arith)
-two_lead (first ∷ []) n some low high low' high' is = absurd (omega arith)
-two_lead (first ∷ second ∷ rest) n some low high low' high' is = rw (take_rest (first ∷ second ∷ rest) 2) (two_digits first second n rest low high low' high' is)
 
 pub returns-then-not-is_ascii_digit-2 : goal.returns-then-not-is_ascii_digit-2
 returns-then-not-is_ascii_digit-2 c =
