@@ -3,5 +3,5 @@ pub mod Visits
 pub mod Numbers
 pub mod Entries
 pub mod Walks
-pub mod GroupLaws
 pub mod FileLaws
+pub mod WaitingLaws

@@ -5,7 +5,6 @@ pub use Rattle.world_text.specs.reading.Numbers
 pub use Rattle.world_text.specs.reading.Next
 pub use Rattle.world_text.specs.reading.Leading
 pub use Rattle.world_text.specs.reading.Reader
-pub use Rattle.world_text.specs.writing.Tails
 pub use Rattle.world_text.specs.reading.Header
 pub use Rattle.world_text.specs.reading.Objects
 pub use Rattle.world_text.specs.reading.Closing

@@ -1,7 +1,7 @@
 -- How a world is written.
-pub mod Tails
 pub mod Spelling
 pub mod File
+pub mod Waiting
 pub mod NumberTable
 pub mod Numbering
 pub mod Dump

@@ -8,12 +8,12 @@ mod file_lines;
 mod groups;
 mod number_table;
 mod numbering;
+mod object_writer;
 mod text;
 mod visit;
 
 pub use dump::dump_text;
 pub use dumped::numbering_of;
-pub use file::file_text;
 pub use file_lines::{push_areas, push_capacity, push_space};
 pub use numbering::{KeyNumbers, Numbering};
 pub use text::{kind_text, name_of, push_number, push_spaced, push_value};

@@ -1,5 +1,5 @@
 -- What is kept of a walk.
-use Rattle.std.proofs.Common.{◌≡◌, ℕ, zero, suc, ◌+◌, ◌<◌, ◌≤◌, List, [], ◌∷◌, ◌++◌, length, take, get_or, Bool, true, false, map, Some, refl, ap, sym, ◌∙◌, subst, inl, inr, arith}
+use Rattle.std.proofs.Common.{◌≡◌, ℕ, zero, suc, ◌+◌, ◌<◌, ◌≤◌, ◌^◌, List, [], ◌∷◌, ◌++◌, length, take, get_or, Bool, true, false, map, Some, refl, ap, sym, ◌∙◌, subst, inl, inr, arith}
 use Rattle.std.specs.Prelude.{slice_get, if◌then◌else◌}
 use Rattle.std.specs.List.{All}
 use Rattle.std.proofs.lemmas.List.{map-append, length-map, take-append-le, take_all, take_more}
@@ -17,7 +17,11 @@ use Rattle.lisp_graph.specs.declared.walk.Seen.{Seen}
 use Rattle.lisp_graph.specs.declared.walk.Seen.TheVariants.{Cons, Block}
 use Rattle.lisp_graph.specs.declared.walk.SeenCons.{SeenCons}
 use Rattle.world_text.specs.declared.writing.visit.VisitedObjects.{VisitedObjects}
-use Rattle.world_text.specs.writing.Dump.{dumped_body, dumped_object, dumped_value, reference}
+use Rattle.store_word.specs.declared.space.Space.{Space}
+use Rattle.lisp_graph.specs.declared.world.AreaRule.{AreaRule}
+use Rattle.world_text.specs.declared.writing.numbering.Numbering.{Numbering}
+use Rattle.world_text.specs.writing.File.{file_text}
+use Rattle.world_text.specs.writing.Dump.{IsDump, dumped_body, dumped_object, dumped_value, reference}
 use Rattle.world_text.specs.writing.Numbering.{AllVisited, Chained, Visited, Walked, done, fields_from, fields_of, is_numbered, more, none, seen_as, step}
 use Rattle.world_text.specs.writing.Visits.{AreDumped, AreVisited, AreVisits, Grows, IsDumped, IsVisit, IsWalk, ShowsParts, kept_of, no_cons}
 use Rattle.world_text.proofs.reading_laws.AreaLaws.{get_front}
@@ -263,8 +267,7 @@ dumped_long {graph} {old} {new} dumped = ap length dumped.is ∙ length-map new.
 -- The registers are visited, and then the objects
 
 pub is_walk : (walked graph : KeyedGraph) (empty middle last : VisitedObjects) (registers : List Value) (objects : List Object) → walked ≡ graph → empty.numbering.keys ≡ []
-    → AreVisited graph graph.registers empty middle registers → AreDumped walked middle last objects
-    → IsWalk graph (record { numbering = last.numbering; objects = objects; registers = registers })
+    → AreVisited graph graph.registers empty middle registers → AreDumped walked middle last objects → IsWalk graph last.numbering objects registers
 is_walk walked graph empty middle last registers objects same none_yet visited dumped =
     let now = subst (λ (g : KeyedGraph). AreDumped g middle last objects) same dumped in record {
       numbering = record {
@@ -273,8 +276,19 @@ is_walk walked graph empty middle last registers objects same none_yet visited d
         objects = now.visited;
       };
       known = now.visits.known;
-      objects = now.is;
-      registers = visited.is last.numbering.keys (walk_grows now.visited);
+      objects_are = now.is;
+      registers_are = visited.is last.numbering.keys (walk_grows now.visited);
       fields_shown = now.shown;
       registers_shown = visited.shown;
     }
+
+pub is_dump : (graph : KeyedGraph) (space : Space) (areas : List AreaRule) (numbering : Numbering) (objects : List Object) (registers : List Value) (text : List ℕ) → length numbering.keys < 2 ^ 32
+    → IsWalk graph numbering objects registers → text ≡ file_text space areas objects registers → IsDump graph space areas text
+is_dump graph space areas numbering objects registers text few walk is = record {
+  keys = numbering.keys;
+  numbering = walk.numbering;
+  shown = record { objects = walk.known.all; registers = walk.registers_shown; fields = walk.fields_shown };
+  few = few;
+  is = is ∙ ap (λ (o : List Object). file_text space areas o registers) walk.objects_are
+      ∙ ap (file_text space areas (map (dumped_object graph numbering.keys) numbering.keys)) walk.registers_are;
+}

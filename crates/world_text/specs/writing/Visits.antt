@@ -8,7 +8,9 @@ use Rattle.lisp_graph.specs.declared.walk.Seen.{Seen}
 use Rattle.lisp_graph.specs.declared.walk.Seen.TheVariants.{Nil}
 use Rattle.lisp_graph.specs.declared.walk.SeenCons.{SeenCons}
 use Rattle.world_text.specs.declared.writing.visit.VisitedObjects.{VisitedObjects}
-use Rattle.world_text.specs.declared.writing.dumped.DumpContents.{DumpContents}
+use Rattle.world_text.specs.declared.writing.numbering.Numbering.{Numbering}
+use Rattle.lisp_graph.specs.declared.world.AreaRule.{AreaRule}
+use Rattle.world_text.specs.writing.File.{object_lines_of, text_of}
 use Rattle.world_text.specs.writing.Numbering.{AllVisited, IsKnown, IsNumbering, Visited, Walked, fields_of}
 use Rattle.world_text.specs.writing.Dump.{dumped_object, dumped_value}
 
@@ -66,11 +68,17 @@ pub record AreDumped (graph : KeyedGraph) (old new : VisitedObjects) (objects : 
 abbrev pub AreAllDumped : KeyedGraph → VisitedObjects → VisitedObjects → Type 0
 AreAllDumped graph old new = (objects : List Object) × AreDumped graph old new objects
 
--- what a dump writes of the graph: its objects in the order of their numbers, and its registers
-pub record IsWalk (graph : KeyedGraph) (contents : DumpContents) : Type 0 where
-  pub numbering : IsNumbering graph contents.numbering.keys
-  pub known : IsKnown graph contents.numbering
-  pub objects : contents.objects ≡ map (dumped_object graph contents.numbering.keys) contents.numbering.keys
-  pub registers : contents.registers ≡ map (dumped_value contents.numbering.keys) graph.registers
-  pub fields_shown : All (λ key. All (Shows graph) (fields_of graph key)) contents.numbering.keys
+-- the objects that have numbers are visited, until all that are reached have one, and their lines are written after this text
+pub record WritesObjects (graph : KeyedGraph) (areas : List AreaRule) (old new : VisitedObjects) (before after : List ℕ) : Type 0 where
+  pub objects : List Object
+  pub dumped : AreDumped graph old new objects
+  pub text : after ≡ before ++ text_of areas (object_lines_of 0 0 objects)
+
+-- the objects in the order of their numbers, and the registers, as a dump writes them
+pub record IsWalk (graph : KeyedGraph) (known_as : Numbering) (objects : List Object) (registers : List Value) : Type 0 where
+  pub numbering : IsNumbering graph known_as.keys
+  pub known : IsKnown graph known_as
+  pub objects_are : objects ≡ map (dumped_object graph known_as.keys) known_as.keys
+  pub registers_are : registers ≡ map (dumped_value known_as.keys) graph.registers
+  pub fields_shown : All (λ key. All (Shows graph) (fields_of graph key)) known_as.keys
   pub registers_shown : All (Shows graph) graph.registers

@@ -3,15 +3,18 @@ ghost use Rattle.std.specs.Prelude.{◌≡◌, ◌≤◌, IfOk};
 ghost use Rattle.world_text.specs.writing.Dump.{HasSwapCause, IsDump};
 
 use crate::DumpFault;
-use crate::writing::dumped::{DumpContents, contents_of};
-use crate::writing::file::file_text;
+use crate::writing::dumped::{dumped_registers, write_objects};
+use crate::writing::file::{head_text, push_end};
+use crate::writing::object_writer::ObjectWriter;
+use crate::writing::visit::VisitedObjects;
 use lisp_graph::{AreaRule, Text, Walk};
 use std::alloc::Global;
 use store_word::Space;
 
 /// The text of the world file that a machine dumps: the space and the areas as they are given, the objects that the registers
 /// reach, and the registers. It fails if memory runs out, if more than 2^32 - 1 objects are reached, or if a page call of the swap
-/// device fails. It changes nothing that the walk shows.
+/// device fails. It changes nothing that the walk shows. Each
+/// register and each reachable cons is read once; of each block, the form and each field are read once.
 pub fn dump_text<W: Walk>(
     alloc: Global,
     walk: &mut W,
@@ -23,18 +26,12 @@ pub fn dump_text<W: Walk>(
     ensures unchanged { W.graph walk.new ≡ W.graph walk.old }
     ensures cause { HasSwapCause (W.faults walk.old) (W.faults walk.new) result }
 {
-    // The numbering isn't kept, so that its memory is free for the text.
-    let DumpContents {
-        numbering: _,
-        objects,
-        registers,
-    } = contents_of(alloc, walk)?;
-    let text = file_text(
-        alloc,
-        space,
-        areas,
-        objects.as_slice(),
-        registers.as_slice(),
-    )?;
+    let mut visits = VisitedObjects::new(alloc);
+    let registers = dumped_registers(alloc, walk, &mut visits)?;
+    let head = head_text(alloc, space, areas)?;
+    let mut writer = ObjectWriter::new(alloc, head);
+    write_objects(alloc, walk, &mut visits, areas, &mut writer)?;
+    let mut text = writer.text;
+    push_end(&mut text, registers.as_slice())?;
     Ok(text)
 }

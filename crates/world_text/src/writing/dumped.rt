@@ -1,22 +1,15 @@
-//! The objects and the registers of a dump; the objects get their numbers in the walk that shows them.
-ghost use Rattle.std.specs.Prelude.{◌≡◌, ◌<◌, ◌^◌, Some, true, false, length, slice_get, IfOk, OnOk};
+//! The walk of a dump: it visits the registers, and then the objects in the order of their numbers.
+ghost use Rattle.std.specs.Prelude.{◌≡◌, ◌<◌, ◌^◌, [], Some, true, false, length, slice_get, IfOk, OnOk};
 ghost use Rattle.world_text.specs.writing.Numbering.{IsKnown, IsNumbering, fields_of};
 ghost use Rattle.world_text.specs.writing.Dump.{HasSwapCause};
-ghost use Rattle.world_text.specs.writing.Visits.{AreAllDumped, AreDumped, AreVisited, AreVisits, IsDumped, IsWalk};
+ghost use Rattle.world_text.specs.writing.Visits.{AreAllDumped, AreVisited, AreVisits, IsDumped, WritesObjects};
 
 use crate::DumpFault;
 use crate::writing::numbering::Numbering;
+use crate::writing::object_writer::ObjectWriter;
 use crate::writing::visit::{VisitedObjects, visit};
-use lisp_graph::{Body, Fields, Object, Objects, Walk};
+use lisp_graph::{AreaRule, Body, Fields, Object, Walk};
 use std::alloc::Global;
-
-/// What a dump writes of a walk: the objects that the registers reach, in the order of their numbers, and the registers.
-#[derive(Drop)]
-pub struct DumpContents {
-    pub numbering: Numbering,
-    pub objects: Objects,
-    pub registers: Fields,
-}
 
 /// Visits the fields of an object with this many.
 fn dumped_fields<W: Walk>(
@@ -115,26 +108,31 @@ fn dumped_object<W: Walk>(
     }
 }
 
-/// Visits the objects that have numbers, in the order of these, until none remains; further ones get numbers meanwhile.
-fn dumped_objects<W: Walk>(
+/// Visits the objects that have numbers, in the order of these, until none remains, and writes their lines; further ones get
+/// numbers meanwhile.
+pub fn write_objects<W: Walk>(
     alloc: Global,
     walk: &mut W,
     visits: &mut VisitedObjects,
-) -> Result<Objects, DumpFault>
-    requires { AreVisits (W.graph walk.old) visits.old }
-    ensures value { IfOk result (λ objects. AreDumped (W.graph walk.old) visits.old visits.new objects) }
-    ensures at_most { IfOk result (λ objects. length objects < 2 ^ 32) }
+    areas: &[AreaRule],
+    writer: &mut ObjectWriter,
+) -> Result<(), DumpFault>
+    requires visits { AreVisits (W.graph walk.old) visits.old }
+    requires fresh { writer.old.first ≡ 0 }
+    requires empty { writer.old.cars.items ≡ [] }
+    ensures value { OnOk result (WritesObjects (W.graph walk.old) areas.now visits.old visits.new writer.old.text writer.new.text) }
+    ensures at_most { OnOk result (length visits.new.numbering.keys < 2 ^ 32) }
     ensures unchanged { W.graph walk.new ≡ W.graph walk.old }
     ensures cause { HasSwapCause (W.faults walk.old) (W.faults walk.new) result }
 {
-    let mut objects = Objects::new(alloc);
     let mut number = 0;
     while let Some(key) = visits.numbering.keys.key(number) {
         let object = dumped_object(alloc, walk, visits, number, key)?;
-        objects.push(object)?;
+        writer.add(areas, &object)?;
         number += 1;
     }
-    Ok(objects)
+    writer.write_all(areas)?;
+    Ok(())
 }
 
 /// Visits the objects that have numbers, in the order of these, until none remains, and keeps nothing that they contain.
@@ -157,7 +155,7 @@ fn visited_objects<W: Walk>(
 }
 
 /// Visits the registers.
-fn dumped_registers<W: Walk>(
+pub fn dumped_registers<W: Walk>(
     alloc: Global,
     walk: &mut W,
     visits: &mut VisitedObjects,
@@ -178,25 +176,6 @@ fn dumped_registers<W: Walk>(
         register += 1;
     }
     Ok(registers)
-}
-
-/// What a dump writes of a walk. Each register and each reachable cons is read once; of each block, the form and each field
-/// are read once. It fails if memory runs out, if 2^32 objects or more are reached, or if a page call of the swap device fails.
-pub fn contents_of<W: Walk>(alloc: Global, walk: &mut W) -> Result<DumpContents, DumpFault>
-    ensures value { IfOk result (IsWalk (W.graph walk.old)) }
-    ensures at_most { IfOk result (λ contents. length contents.objects < 2 ^ 32) }
-    ensures registers { IfOk result (λ contents. length contents.registers < 2 ^ 32) }
-    ensures unchanged { W.graph walk.new ≡ W.graph walk.old }
-    ensures cause { HasSwapCause (W.faults walk.old) (W.faults walk.new) result }
-{
-    let mut visits = VisitedObjects::new(alloc);
-    let registers = dumped_registers(alloc, walk, &mut visits)?;
-    let objects = dumped_objects(alloc, walk, &mut visits)?;
-    Ok(DumpContents {
-        numbering: visits.numbering,
-        objects,
-        registers,
-    })
 }
 
 /// The objects that the registers reach, in the order of their numbers. It fails if memory runs out, if 2^32 objects

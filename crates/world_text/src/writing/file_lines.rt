@@ -1,7 +1,7 @@
 //! The lines of a world file, each with its line feed. If memory runs out, a call may have added a part of what it writes.
 ghost use Rattle.std.specs.Prelude.{◌≡◌, ◌≤◌, ◌++◌, [], ◌∷◌, true, take, map, OnOk};
-ghost use Rattle.world_text.specs.writing.Spelling.{AreaLine, BlockLine, CapacityLine, ConsLine, FormatLine, RootLine, RunLine, SpaceLine, spaced, value_text};
-ghost use Rattle.world_text.specs.writing.File.{car_of, object_line, text_of};
+ghost use Rattle.world_text.specs.writing.Spelling.{AreaLine, BlockLine, CapacityLine, ConsLine, FormatLine, RootLine, SpaceLine};
+ghost use Rattle.world_text.specs.writing.File.{object_line, text_of};
 
 use crate::writing::backward_line::BackwardLine;
 use crate::writing::text::{
@@ -120,42 +120,6 @@ pub fn push_object(text: &mut Text, areas: &[AreaRule], object: &Object) -> Resu
             push_block(text, areas, object.area, *code, fields.as_slice())
         }
     }
-}
-
-fn car_of(body: &Body) -> Value
-    ensures { result ≡ car_of body.now }
-{
-    match body {
-        Body::Cons { car, .. } => *car,
-        Body::Block { .. } => Value::Nil,
-    }
-}
-
-/// The cars of conses, each after a space.
-#[tactic(auto, using(std::proofs::Common::append_assoc))]
-fn push_cars(text: &mut Text, objects: &[Object]) -> Result<(), NoMemory>
-    ensures { OnOk result (text.new ≡ text.old ++ spaced (map value_text (map (λ one. car_of one.body) objects.now))) }
-{
-    for object in objects {
-        push_spaced_value(text, car_of(&object.body))?;
-    }
-    Ok(())
-}
-
-/// The line of a group of conses of an area.
-#[tactic(auto, using(std::proofs::Common::append_assoc))]
-pub fn push_run(
-    text: &mut Text,
-    areas: &[AreaRule],
-    area: u8,
-    objects: &[Object],
-) -> Result<(), NoMemory>
-    ensures { OnOk result (text.new ≡ text.old ++ text_of areas.now (RunLine area (map (λ one. car_of one.body) objects.now) ∷ [])) }
-{
-    text.push_all(b"run ")?;
-    text.push_all(name_of(areas, area))?;
-    push_cars(text, objects)?;
-    text.push_all(b"\n")
 }
 
 /// The line of a register.

@@ -1,12 +1,11 @@
-//! Groups of conses that are written in one line.
-ghost use Rattle.std.specs.Prelude.{◌≡◌, ◌<◌, ◌^◌, ◌+◌, Some, None, length, drop, IfOk};
+//! Which conses can be in a group: those of charge 3 that end a list or whose cdr is the next object.
+ghost use Rattle.std.specs.Prelude.{◌≡◌, false, IfNone, IfSome};
 ghost use Rattle.lisp_graph.specs.Graph.{is_ref};
-ghost use Rattle.lisp_graph.specs.Groups.{group_size, is_cell, is_nil, sizes_of};
-ghost use Rattle.world_text.specs.writing.Tails.{HasTail, counted};
+ghost use Rattle.lisp_graph.specs.Groups.{is_cell, is_nil};
+ghost use Rattle.lisp_graph.specs.declared.object.Value.TheVariants.{Nil as nil_value, Ref as a_ref};
+ghost use Rattle.lisp_graph.specs.declared.object.Body.TheVariants.{Cons as a_cons};
 
-use lisp_graph::{Body, Object, Sequence, Value};
-use std::alloc::Global;
-use store_word::NoMemory;
+use lisp_graph::{Body, Object, Value};
 
 pub fn is_nil(value: Value) -> bool
     ensures { result ≡ is_nil value }
@@ -17,103 +16,36 @@ pub fn is_nil(value: Value) -> bool
     }
 }
 
-fn is_ref(number: u64, value: Value) -> bool
-    ensures { result ≡ is_ref number value }
-{
-    match value {
-        Value::Ref(other) => other == number,
-        Value::Nil | Value::Fix(_) => false,
-    }
-}
-
-/// Whether this is a cons of charge 3 whose cdr ends a list.
-fn is_tail(object: &Object) -> bool
-    ensures { result ≡ is_cell object.now.area is_nil object.now }
+/// The car of a cons of charge 3 that ends a list.
+pub fn tail_car(object: &Object) -> Option<Value>
+    ensures some { IfSome result (λ car. object.now ≡ record { area = object.now.area; charge = 3; body = a_cons car nil_value }) }
+    ensures none { IfNone result (is_cell object.now.area is_nil object.now ≡ false) }
 {
     if object.charge != 3 {
-        return false;
-    }
-    match &object.body {
-        Body::Cons { car: _, cdr } => is_nil(*cdr),
-        Body::Block { .. } => false,
-    }
-}
-
-/// Whether this is a cons of charge 3 whose cdr refers to this number.
-fn is_link(object: &Object, next: u64) -> bool
-    ensures { result ≡ is_cell object.now.area (is_ref next) object.now }
-{
-    if object.charge != 3 {
-        return false;
-    }
-    match &object.body {
-        Body::Cons { car: _, cdr } => is_ref(next, *cdr),
-        Body::Block { .. } => false,
-    }
-}
-
-/// A tail: a cons that ends a list, or conses that lead to such a cons, each to the next object; their area and number.
-#[derive(Clone, Copy)]
-pub struct ListEnd {
-    pub area: u8,
-    pub count: u32,
-}
-
-/// How many conses of the area precede the end of the tail, if the tail is in this area.
-fn counted(tail: Option<ListEnd>, area: u8) -> Option<u32>
-    ensures { result ≡ counted tail area }
-{
-    match tail {
-        Some(tail) if tail.area == area => Some(tail.count),
-        _ => None,
-    }
-}
-
-/// The tail that the objects from this index on begin with, given the tail that the next begin with.
-fn tail_at(objects: &[Object], index: usize, next: Option<ListEnd>) -> Option<ListEnd>
-    requires in_range { index < length objects.now }
-    requires at_most { length objects.now < 2 ^ 32 }
-    requires agrees { HasTail (index + 1) (drop (index + 1) objects.now) next }
-    ensures { HasTail index (drop index objects.now) result }
-{
-    let object = &objects[index];
-    let area = object.area;
-    if is_tail(object) {
-        return Some(ListEnd { area, count: 1 });
-    }
-    if !is_link(object, index as u64 + 1) {
         return None;
     }
-    let count = counted(next, area)?;
-    Some(ListEnd {
-        area,
-        count: count + 1,
-    })
-}
-
-/// How many objects are in the group that begins with these.
-fn group_size(count: Option<u32>) -> u32
-    ensures { result ≡ group_size count }
-{
-    match count {
-        Some(count) if count <= 1024 => count,
-        _ => 0,
+    match &object.body {
+        Body::Cons { car, cdr } => match cdr {
+            Value::Nil => Some(*car),
+            Value::Fix(_) | Value::Ref(_) => None,
+        },
+        Body::Block { .. } => None,
     }
 }
 
-/// The size of the group that begins at each object, or 0. The objects are read once, from the last to the first.
-pub fn sizes_of(alloc: Global, objects: &[Object]) -> Result<Sequence<u32>, NoMemory>
-    requires { length objects.now < 2 ^ 32 }
-    ensures { IfOk result (λ sizes. sizes ≡ sizes_of 0 objects.now) }
+/// The car of a cons of charge 3 whose cdr refers to the object with this number.
+pub fn link_car(object: &Object, next: u64) -> Option<Value>
+    ensures some { IfSome result (λ car. object.now ≡ record { area = object.now.area; charge = 3; body = a_cons car (a_ref next) }) }
+    ensures none { IfNone result (is_cell object.now.area (is_ref next) object.now ≡ false) }
 {
-    let mut sizes = Sequence::new(alloc);
-    sizes.pad(objects.len(), 0)?;
-    let mut tail = None;
-    let mut index = objects.len();
-    while index > 0 {
-        index -= 1;
-        tail = tail_at(objects, index, tail);
-        sizes.set(index, group_size(counted(tail, objects[index].area)));
+    if object.charge != 3 {
+        return None;
     }
-    Ok(sizes)
+    match &object.body {
+        Body::Cons { car, cdr } => match cdr {
+            Value::Ref(other) => if *other == next { Some(*car) } else { None },
+            Value::Fix(_) | Value::Nil => None,
+        },
+        Body::Block { .. } => None,
+    }
 }

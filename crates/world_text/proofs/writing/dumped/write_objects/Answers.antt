@@ -1,0 +1,66 @@
+use Rattle.std.proofs.Common.{◌++◌, [], ◌∷◌, List, refl, ◌∙◌, sym, arith, length-append}
+use Rattle.lisp_graph.specs.declared.object.Object.{Object}
+use Rattle.world_text.proofs.writing_laws.Walks.{first_next, first_none, first_whole}
+use Rattle.world_text.proofs.writing_laws.WaitingLaws.{written_more, written_none, written_whole}
+use Rattle.world_text.proofs.writing.dumped.write_objects.Goals as goal
+
+pub loop-key-init : goal.loop-key-init
+loop-key-init g c = (
+  refl,
+  refl,
+  omega arith,
+  ([], first_none (g.W.Walk.graph c.args.walk.now) c.args.visits.now c.requires.visits, written_none c.args.areas.now c.args.writer.now c.requires.fresh c.requires.empty, refl),
+)
+
+pub add-requires : goal.add-requires
+add-requires g c =
+    let before = c.loop-key.invariant.3 in
+    record { sound = record { waiting = before.2.waiting; few = omega (arith, before.2.next, before.3, c.loop-key.invariant.2) }; few = omega (arith, before.2.next, before.3, c.in-Some.ensures.in_range) }
+
+pub write_all-requires : goal.write_all-requires
+write_all-requires g c =
+    let before = c.loop-key.invariant.3 in
+    record { waiting = before.2.waiting; few = omega (arith, before.2.next, before.3, c.loop-key.invariant.2) }
+
+pub loop-key-preserved : goal.loop-key-preserved
+loop-key-preserved g c =
+    let first = c.loop-key.invariant.0 in
+    let before = c.loop-key.invariant.3 in
+    let objects : List Object = before.0 ++ c.in_ok-object.object ∷ [] in (
+      c.dumped_object.ensures.unchanged ∙ first,
+      omega (arith, c.in_ok-object.ensures.cause.quiet, c.loop-key.invariant.1),
+      omega (arith, c.in-Some.ensures.in_range),
+      (
+        objects,
+        first_next (g.W.Walk.graph c.loop-key.walk) (g.W.Walk.graph c.args.walk.now) c.args.visits.now c.loop-key.visits c.dumped_object.new.visits c.loop-key.number c.in-Some.key before.0 objects c.in_ok-object.object
+            first (sym c.key.ensures.value ∙ c.in-Some.is) before.1 c.in_ok-object.ensures.value refl,
+        written_more c.args.areas.now c.args.writer.now.text before.0 objects c.in_ok-object.object c.loop-key.writer c.add.new.self before.2 c.in_ok-add.ensures refl,
+        omega (arith, length-append before.0 (c.in_ok-object.object ∷ []), before.3),
+      ),
+    )
+
+pub loop-key-preserved-in_ok-add : goal.loop-key-preserved-in_ok-add
+loop-key-preserved-in_ok-add g c =
+    let first = c.loop-key.invariant.0 in
+    let before = c.loop-key.invariant.3 in
+    let objects : List Object = before.0 ++ c.in_ok-object.object ∷ [] in (
+      c.dumped_object.ensures.unchanged ∙ first,
+      omega (arith, c.in_ok-object.ensures.cause.quiet, c.loop-key.invariant.1),
+      omega (arith, c.in-Some.ensures.in_range),
+      (
+        objects,
+        first_next (g.W.Walk.graph c.loop-key.walk) (g.W.Walk.graph c.args.walk.now) c.args.visits.now c.loop-key.visits c.dumped_object.new.visits c.loop-key.number c.in-Some.key before.0 objects c.in_ok-object.object
+            first (sym c.key.ensures.value ∙ c.in-Some.is) before.1 c.in_ok-object.ensures.value refl,
+        written_more c.args.areas.now c.args.writer.now.text before.0 objects c.in_ok-object.object c.loop-key.writer c.add.new.self before.2 c.in_ok-add.ensures refl,
+        omega (arith, length-append before.0 (c.in_ok-object.object ∷ []), before.3),
+      ),
+    )
+
+pub returns-clause-value : goal.returns-clause-value
+returns-clause-value g c =
+    let before = c.loop-key.invariant.3 in
+    record {
+      objects = before.0;
+      dumped = first_whole (g.W.Walk.graph c.args.walk.now) c.args.visits.now c.loop-key.visits c.loop-key.number before.0 c.in_default.ensures.none before.1;
+      text = written_whole c.args.areas.now c.args.writer.now.text before.0 c.loop-key.writer c.write_all.new.self before.2 c.in_ok-write_all.ensures;
+    }
