@@ -4,6 +4,7 @@ pub mod Writes
 pub mod TaskLaws
 pub mod Steps
 pub mod FormStarts
+pub mod ListConses
 pub mod RootLines
 pub mod SharedObjects
 pub mod WholePrint

@@ -1,6 +1,6 @@
 -- The labels of printed objects.
-use Rattle.std.proofs.Common.{◌≡◌, ℕ, suc, ◌+◌, ◌<◌, Bool, true, false, refl, sym, ◌∙◌, ap, subst, arith, List, [], ◌∷◌, ◌++◌, length, take, cond, Option, Some, None, length-append}
-use Rattle.std.specs.Prelude.{count_by, slice_set, slice_index_or, ◌==◌, ◌||◌, if◌then◌else◌, not}
+use Rattle.std.proofs.Common.{◌≡◌, ℕ, zero, suc, ◌+◌, ◌<◌, Bool, true, false, refl, sym, ◌∙◌, ap, subst, arith, List, [], ◌∷◌, ◌++◌, length, take, cond, Some, None, length-append}
+use Rattle.std.specs.Prelude.{count_by, slice_set, slice_index, ◌==◌, ◌||◌, if◌then◌else◌, not}
 use Rattle.std.specs.List.{list_any, position_or_len}
 use Rattle.std.proofs.lemmas.Bool.{eqb-true, eq-eqb}
 use Rattle.std.proofs.lemmas.List.{length-set, get_or-set_same, get_or-set_other}
@@ -8,7 +8,7 @@ use Rattle.std.proofs.lemmas.List.Sums.{sum_by-set}
 use Rattle.sexpr_print.specs.Places.{is_among}
 use Rattle.sexpr_print.specs.Printing.{label_of}
 use Rattle.sexpr_print.specs.declared.sharing.References.{References}
-use Rattle.sexpr_print.specs.Marks.{AreLabelled, Marks, is_unmarked, label_in, marks_of, shared_in}
+use Rattle.sexpr_print.specs.Marks.{AreLabelled, Marks, entry_label, is_unmarked, label_in, marks_of, shared_in}
 use Rattle.sexpr_print.proofs.ReferenceCounts.{count_push}
 
 -- Names after others
@@ -93,47 +93,48 @@ given_old counts names name other false differs among =
 
 -- The marks with one more
 
-given_next : (counts : List References) (names : List ℕ) (labels : List (Option ℕ)) (label name other : ℕ) → AreLabelled (marks_of counts names) labels label → is_among names name ≡ false → name < length labels → other < length labels
-    → (b : Bool) → (other == name) ≡ b → slice_index_or (slice_set labels name (Some label)) other None ≡ label_in (marks_of counts (names ++ name ∷ [])) other
-given_next counts names labels label name other are fresh within below true same =
+given_next : (counts : List References) (names entries : List ℕ) (label name other : ℕ) → AreLabelled (marks_of counts names) entries label → is_among names name ≡ false → name < length entries → other < length entries
+    → (b : Bool) → (other == name) ≡ b → entry_label (slice_index (slice_set entries name (suc label)) other) ≡ label_in (marks_of counts (names ++ name ∷ [])) other
+given_next counts names entries label name other are fresh within below true same =
     let e : other ≡ name = eqb-true other name same in
-    let P : ℕ → Type 0 = λ n. slice_index_or (slice_set labels name (Some label)) n None ≡ label_in (marks_of counts (names ++ name ∷ [])) n in
-    subst P (sym e) (get_or-set_same labels name (Some label) None within ∙ ap Some are.next ∙ sym (given_new counts names name fresh))
-given_next counts names labels label name other are fresh within below false differs =
-    get_or-set_other labels name other (Some label) None (λ e. absurd (let h : (other == name) ≡ true = eq-eqb other name e in cc))
+    let P : ℕ → Type 0 = λ n. entry_label (slice_index (slice_set entries name (suc label)) n) ≡ label_in (marks_of counts (names ++ name ∷ [])) n in
+    subst P (sym e) (ap entry_label (get_or-set_same entries name (suc label) 0 within) ∙ ap Some are.next ∙ sym (given_new counts names name fresh))
+given_next counts names entries label name other are fresh within below false differs =
+    ap entry_label (get_or-set_other entries name other (suc label) 0 (λ e. absurd (let h : (other == name) ≡ true = eq-eqb other name e in cc)))
     ∙ are.given other below
     ∙ sym (given_old counts names name other (is_among names other) differs refl)
 
-unmarked : (l : Option ℕ) → l ≡ None → is_unmarked l ≡ true
-unmarked None e = refl
-unmarked (Some n) e = absurd cc
+unmarked : (entry : ℕ) → entry_label entry ≡ None → is_unmarked entry ≡ true
+unmarked zero e = refl
+unmarked (suc label) e = absurd cc
 
-room_next : (labels : List (Option ℕ)) (name label : ℕ) → name < length labels → slice_index_or labels name None ≡ None → count_by is_unmarked (slice_set labels name (Some label)) + 1 ≡ count_by is_unmarked labels
-room_next labels name label within free =
-    let e : count_by is_unmarked (slice_set labels name (Some label)) + cond (is_unmarked (slice_index_or labels name None)) 1 0 ≡ count_by is_unmarked labels + 0 = sum_by-set (λ l. cond (is_unmarked l) 1 0) labels name (Some label) None within in
-    let u = ap (λ (b : Bool). cond {A = ℕ} b 1 0) (unmarked (slice_index_or labels name None) free) in
+room_next : (entries : List ℕ) (name label : ℕ) → name < length entries → entry_label (slice_index entries name) ≡ None → count_by is_unmarked (slice_set entries name (suc label)) + 1 ≡ count_by is_unmarked entries
+room_next entries name label within free =
+    let e : count_by is_unmarked (slice_set entries name (suc label)) + cond (is_unmarked (slice_index entries name)) 1 0 ≡ count_by is_unmarked entries + 0 = sum_by-set (λ entry. cond (is_unmarked entry) 1 0) entries name (suc label) 0 within in
+    let u = ap (λ (b : Bool). cond {A = ℕ} b 1 0) (unmarked (slice_index entries name) free) in
     omega (arith, e, u)
 
-labelled_next : (counts : List References) (names : List ℕ) (labels : List (Option ℕ)) (label name : ℕ) → AreLabelled (marks_of counts names) labels label → name < length counts → label_in (marks_of counts names) name ≡ None
-    → AreLabelled (marks_of counts (names ++ name ∷ [])) (slice_set labels name (Some label)) (label + cond (shared_in counts name) 1 0)
-labelled_next counts names labels label name are within first =
+labelled_next : (counts : List References) (names entries : List ℕ) (label name : ℕ) → AreLabelled (marks_of counts names) entries label → name < length counts → label_in (marks_of counts names) name ≡ None
+    → AreLabelled (marks_of counts (names ++ name ∷ [])) (slice_set entries name (suc label)) (label + cond (shared_in counts name) 1 0)
+labelled_next counts names entries label name are within first =
     let fresh = not_among (marks_of counts names) name first in
-    let below : name < length labels = omega (arith, are.size) in
-    let size : length (slice_set labels name (Some label)) ≡ length labels = length-set labels name (Some label) in
-    let less = room_next labels name label below (are.given name below ∙ first) in
+    let below : name < length entries = omega (arith, are.size) in
+    let size : length (slice_set entries name (suc label)) ≡ length entries = length-set entries name (suc label) in
+    let less = room_next entries name label below (are.given name below ∙ first) in
     let more : length (names ++ name ∷ []) ≡ length names + 1 = length-append names (name ∷ []) in
     record {
       size = size ∙ are.size;
-      given = λ other inside. given_next counts names labels label name other are fresh below (omega (arith, size)) (other == name) refl;
+      given = λ other inside. given_next counts names entries label name other are fresh below (omega (arith, size)) (other == name) refl;
       next = ap (λ n. n + cond (shared_in counts name) 1 0) are.next ∙ sym (count_push (shared_in counts) names name (shared_in counts name) refl);
       room = omega (arith, more, less, are.room);
     }
 
-pub labelled_more : (counts : List References) (names new_names : List ℕ) (labels new_labels : List (Option ℕ)) (label next name : ℕ) → AreLabelled (marks_of counts names) labels label → name < length counts
-    → label_in (marks_of counts names) name ≡ None → new_names ≡ names ++ name ∷ [] → new_labels ≡ slice_set labels name (Some label) → next ≡ label + cond (shared_in counts name) 1 0 → AreLabelled (marks_of counts new_names) new_labels next
-labelled_more counts names new_names labels new_labels label next name are within first named set stepped =
-    let P : List ℕ → List (Option ℕ) → ℕ → Type 0 = λ ns ls n. AreLabelled (marks_of counts ns) ls n in
-    let Q : List ℕ → Type 0 = λ ns. P ns new_labels next in
-    let R : List (Option ℕ) → Type 0 = λ ls. P (names ++ name ∷ []) ls next in
-    let S : ℕ → Type 0 = λ n. P (names ++ name ∷ []) (slice_set labels name (Some label)) n in
-    subst Q (sym named) (subst R (sym set) (subst S (sym stepped) (labelled_next counts names labels label name are within first)))
+pub labelled_more : (counts : List References) (names new_names entries new_entries : List ℕ) (label entry next name : ℕ) → AreLabelled (marks_of counts names) entries label → name < length counts
+    → label_in (marks_of counts names) name ≡ None → new_names ≡ names ++ name ∷ [] → entry ≡ suc label → new_entries ≡ slice_set entries name entry → next ≡ label + cond (shared_in counts name) 1 0
+    → AreLabelled (marks_of counts new_names) new_entries next
+labelled_more counts names new_names entries new_entries label entry next name are within first named more set stepped =
+    let P : List ℕ → List ℕ → ℕ → Type 0 = λ ns es n. AreLabelled (marks_of counts ns) es n in
+    let Q : List ℕ → Type 0 = λ ns. P ns new_entries next in
+    let R : List ℕ → Type 0 = λ es. P (names ++ name ∷ []) es next in
+    let S : ℕ → Type 0 = λ n. P (names ++ name ∷ []) (slice_set entries name (suc label)) n in
+    subst Q (sym named) (subst R (sym (set ∙ ap (slice_set entries name) more)) (subst S (sym stepped) (labelled_next counts names entries label name are within first)))

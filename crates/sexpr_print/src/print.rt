@@ -9,8 +9,7 @@ ghost use Rattle.sexpr_print.specs.Spelling.{IsPrint, header_text, lines_text};
 
 use crate::printed::Printed;
 use crate::printer::{Printer, is_nil};
-use crate::reaching::reached;
-use crate::sharing::references_of;
+use crate::sharing::reached_references;
 use crate::token_text::{TokenText, number_token};
 use lisp_graph::{NoMemory, Text, Value, World};
 use sexpr_text::Token;
@@ -90,8 +89,7 @@ pub fn print_sexpr(alloc: Global, world: &World) -> Result<Text, NoMemory>
     requires { IsWorld world.now }
     ensures value { IfOk result (λ text. IsPrint world.now text) }
 {
-    let numbering = reached(alloc, world)?;
-    let counts = references_of(alloc, world, &numbering.keys)?;
+    let counts = reached_references(alloc, world)?;
     let mut printer = Printer {
         printed: Printed::new(alloc, counts)?,
         text: header(alloc, world)?,

@@ -1,15 +1,29 @@
 //! The objects that were printed.
+ghost use Rattle.std.specs.Prelude.{◌≡◌};
+ghost use Rattle.sexpr_print.specs.Marks.{entry_label};
+
 use crate::sharing::{References, is_many};
 use lisp_graph::{NoMemory, Sequence};
 use std::alloc::Global;
 use std::marker::Model;
+
+/// The label that an entry of the table means.
+fn entry_label(entry: u32) -> Option<u32>
+    ensures { result ≡ entry_label entry }
+{
+    if entry == 0 {
+        return None;
+    }
+    Some(entry - 1)
+}
 
 /// Which objects were printed, and the label of each. An object is looked up by its name in constant time.
 #[derive(Drop)]
 pub struct Printed {
     counts: Sequence<References>,
     names: Sequence<u64>,
-    labels: Sequence<Option<u32>>,
+    /// For each object 0 if it wasn't printed, or else its label plus 1.
+    entries: Sequence<u32>,
     /// The label of the next shared object.
     next: u32,
 }
@@ -21,7 +35,7 @@ impl Model for Printed {
 
     ghost view = { λ p. marks_of p.counts p.names };
 
-    ghost invariant = { λ p. AreLabelled (marks_of p.counts p.names) p.labels p.next };
+    ghost invariant = { λ p. AreLabelled (marks_of p.counts p.names) p.entries p.next };
 }
 
 impl Printed {
@@ -33,12 +47,12 @@ impl Printed {
         ensures value { IfOk result (λ printed. printed.counts ≡ counts) }
         ensures empty { IfOk result (λ printed. printed.names ≡ []) }
     {
-        let mut labels = Sequence::new(alloc);
-        labels.pad(counts.len() as usize, None)?;
+        let mut entries = Sequence::new(alloc);
+        entries.pad(counts.len() as usize, 0)?;
         Ok(Printed {
             counts,
             names: Sequence::new(alloc),
-            labels,
+            entries,
             next: 0,
         })
     }
@@ -56,7 +70,7 @@ impl Printed {
         requires { name < length self.now.counts }
         ensures { result ≡ label_in self.now name }
     {
-        self.labels.as_slice()[name as usize]
+        entry_label(self.entries.as_slice()[name as usize])
     }
 
     /// Adds an object that is printed for the first time. The result is its label; None if it isn't shared.
@@ -69,13 +83,13 @@ impl Printed {
         ensures room { OnOk result (length self.new.names ≤ length self.new.counts) }
     {
         let label = self.next;
-        let shared = self.is_shared(name);
-        let Some(next) = label.checked_add(u32::from(shared)) else {
+        let Some(entry) = label.checked_add(1) else {
             return Err(NoMemory);
         };
+        let shared = self.is_shared(name);
         self.names.push(name)?;
-        self.labels.set(name as usize, Some(label));
-        self.next = next;
+        self.entries.set(name as usize, entry);
+        self.next = label + u32::from(shared);
         Ok(shared.then_some(label))
     }
 }

@@ -189,11 +189,10 @@ impl Printer {
         Ok(())
     }
 
-    /// Prints what follows the car of a cons, up to the next value.
-    fn rest(&mut self, world: &World, area: u8, charge: u32, cdr: Value) -> Result<(), NoMemory>
-        requires graph { IsGraph (opening world.now) }
-        requires size { length self.old.printed.counts ≡ length world.now.objects }
+    /// Prints what follows the car of a cons whose cdr doesn't continue the list form.
+    fn last(&mut self, world: &World, area: u8, charge: u32, cdr: Value) -> Result<(), NoMemory>
         requires refers { RefersBelow (length world.now.objects) cdr }
+        requires none { next_of world.now.objects (shared_in self.old.printed.counts) self.old.printed.names area charge cdr ≡ None }
         ensures { OnOk result (Steps world.now (a_rest area charge cdr) self.old.tasks.items self.old self.new) }
     {
         let areas = world.areas.as_slice();
@@ -201,12 +200,27 @@ impl Printer {
         if is_nil(cdr) {
             return self.text.add(areas, Token::Close(bracket));
         }
-        let objects = world.objects.as_slice();
-        let Some(next) = next_of(objects, &self.printed, area, charge, cdr) else {
-            return self.dotted(areas, bracket, cdr);
-        };
-        self.printed.add(next.name)?;
-        self.cons(area, charge, next.car, next.cdr)
+        self.dotted(areas, bracket, cdr)
+    }
+
+    /// Prints what follows the car of a cons, up to the next value that is a reference or to the end of the list form.
+    fn rest(&mut self, world: &World, area: u8, charge: u32, cdr: Value) -> Result<(), NoMemory>
+        requires graph { IsGraph (opening world.now) }
+        requires size { length self.old.printed.counts ≡ length world.now.objects }
+        requires refers { RefersBelow (length world.now.objects) cdr }
+        ensures { OnOk result (Steps world.now (a_rest area charge cdr) self.old.tasks.items self.old self.new) }
+    {
+        let mut cdr = cdr;
+        while let Some(next) = next_of(world.objects.as_slice(), &self.printed, area, charge, cdr) {
+            self.printed.add(next.name)?;
+            if let Value::Ref(_) = next.car {
+                return self.cons(area, charge, next.car, next.cdr);
+            }
+            let element = Token::Atom(next.car);
+            self.text.add(world.areas.as_slice(), element)?;
+            cdr = next.cdr;
+        }
+        self.last(world, area, charge, cdr)
     }
 
     /// Prints the fields of a block from an index on, up to the next value.

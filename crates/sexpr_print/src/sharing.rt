@@ -3,9 +3,11 @@ ghost use Rattle.std.specs.Prelude.{◌≡◌, ◌<◌, ◌∷◌, [], length, f
 ghost use Rattle.std.specs.List.{All};
 ghost use Rattle.lisp_graph.specs.Graph.{IsGraph, IsObject, PartsReferBelow, RefersBelow, object_at};
 ghost use Rattle.lisp_graph.specs.World.{opening};
+ghost use Rattle.sexpr_print.specs.Marks.{CountsReached};
 ghost use Rattle.sexpr_print.specs.Places.{held, parts};
 ghost use Rattle.sexpr_print.specs.Sharing.{AreCounted, Counts, is_many, one_more};
 
+use crate::reaching::reached;
 use lisp_graph::{Body, NoMemory, Object, Sequence, Value, World, object_at};
 use std::alloc::Global;
 use world_text::KeyNumbers;
@@ -85,7 +87,7 @@ fn count_objects(counts: &mut Sequence<References>, objects: &[Object], names: &
 }
 
 /// How many registers, and places in the objects with these names, refer to each object.
-pub fn references_of(
+fn references_of(
     alloc: Global,
     world: &World,
     names: &KeyNumbers,
@@ -100,5 +102,17 @@ pub fn references_of(
     counts.pad(objects.len(), References::No)?;
     count_all(&mut counts, world.roots.as_slice());
     count_objects(&mut counts, objects, names);
+    Ok(counts)
+}
+
+/// How many registers, and places in the objects that the registers reach, refer to each object. What the registers reach is
+/// kept only until these are counted.
+pub fn reached_references(alloc: Global, world: &World) -> Result<Sequence<References>, NoMemory>
+    requires graph { IsGraph (opening world.now) }
+    requires size { length world.now.roots ≡ world.now.space.registers }
+    ensures { IfOk result (CountsReached world.now) }
+{
+    let numbering = reached(alloc, world)?;
+    let counts = references_of(alloc, world, &numbering.keys)?;
     Ok(counts)
 }

@@ -34,7 +34,7 @@ fn closing(bracket: Bracket) -> u8
 fn push_label(text: &mut Text, label: u32, end: u8) -> Result<(), NoMemory>
     ensures { OnOk result (text.new ≡ text.old ++ (codes "#" ++ decimal label ++ end ∷ [])) }
 {
-    text.push_all(b"#")?;
+    text.push(b'#')?;
     push_number(text, u64::from(label))?;
     text.push(end)
 }
@@ -47,7 +47,7 @@ fn push_token(text: &mut Text, areas: &[AreaRule], token: Token) -> Result<(), N
     match token {
         Token::Root => text.push_all(b"root"),
         Token::EndSexpr => text.push_all(b"end-sexpr"),
-        Token::Dot => text.push_all(b"."),
+        Token::Dot => text.push(b'.'),
         Token::Atom(value) => push_value(text, value),
         Token::Label(label) => push_label(text, label, b'='),
         Token::Again(label) => push_label(text, label, b'#'),
@@ -102,7 +102,7 @@ impl TokenText {
         ensures { OnOk result (Adds areas.now (token ∷ []) self.old self.new) }
     {
         if !self.joined && !is_close(token) {
-            self.text.push_all(b" ")?;
+            self.text.push(b' ')?;
         }
         push_token(&mut self.text, areas, token)?;
         self.joined = binds(token);
@@ -124,7 +124,7 @@ impl TokenText {
         ensures text { OnOk result (self.new.text ≡ self.old.text ++ 10 ∷ []) }
         ensures after { OnOk result (self.new.joined ≡ true) }
     {
-        self.text.push_all(b"\n")?;
+        self.text.push(b'\n')?;
         self.joined = true;
         Ok(())
     }
