@@ -35,7 +35,7 @@ use Rattle.file_modes.proofs.dump_laws.HeaderLines.{AreRules, head_read}
 use Rattle.file_modes.proofs.dump_laws.LineLengths.{IsShort, head_few, text_cons}
 use Rattle.file_modes.proofs.dump_laws.PrintableLines.{IsPrintable, is_printable, lines_printable}
 use Rattle.sexpr_laws.specs.ReadBack.{IsHeaderReadBack, bare_world, header_behind, headed, line_behind, said_with}
-use Rattle.sexpr_laws.proofs.Cuts.{NonePass, first_place, none_from}
+use Rattle.file_modes.proofs.sexpr_text.Cuts.{NonePass, first_place, none_from}
 
 -- Lines of a text
 

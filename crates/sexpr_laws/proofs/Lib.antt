@@ -14,8 +14,6 @@ pub mod Totals
 pub mod RoundTrip
 pub mod Files
 pub mod AcceptedFiles
-pub mod Cuts
-pub mod Bytes
 pub mod TokenTexts
 pub mod TokenPieces
 pub mod Tokens

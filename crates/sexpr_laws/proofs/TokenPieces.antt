@@ -1,5 +1,5 @@
 -- The text of a token is one piece.
-use Rattle.std.proofs.Common.{◌≡◌, ℕ, ◌+◌, ◌<◌, ◌≤◌, ◌^◌, List, [], ◌∷◌, ◌++◌, length, Bool, true, false, Some, None, refl, ap, sym, subst, ◌∙◌, arith, decimal, codes, append_assoc, length-append}
+use Rattle.std.proofs.Common.{◌≡◌, ℕ, ◌+◌, ◌<◌, ◌≤◌, ◌^◌, List, [], ◌∷◌, ◌++◌, length, Bool, true, false, Some, None, refl, ap, sym, ◌∙◌, arith, decimal, codes, append_assoc, length-append}
 use Rattle.std.specs.Prelude.{◌==◌, ◌||◌, not, nat_lt, if◌then◌else◌, is_some, slice_index}
 use Rattle.std.specs.Fmt.{signed_decimal}
 use Rattle.std.specs.List.{list_all}
@@ -18,27 +18,9 @@ use Rattle.file_modes.specs.sexpr_text.Brackets.{closed_by, closing, opening}
 use Rattle.file_modes.specs.sexpr_text.Pieces.{is_edge, is_last, is_white, piece_end, piece_length}
 use Rattle.file_modes.specs.sexpr_print.Spelling.{binds, token_text}
 use Rattle.sexpr_laws.specs.Spellable.{CanSpell}
-use Rattle.sexpr_laws.proofs.Cuts.{NonePass, byte_at, first_byte, first_found, none_from}
-use Rattle.sexpr_laws.proofs.Bytes.{IsStop, closing_stops, decimal_name, name_edge, opening_last, signed_name}
-use Rattle.sexpr_laws.proofs.TokenTexts.{signed_some}
-
--- followed by this rest, the text is one piece
-pub record IsPiece (text rest : List ℕ) : Type 0 where
-  pub some : 0 < length text
-  pub black : is_white (slice_index text 0) ≡ false
-  pub size : length text ≡ piece_length (text ++ rest)
-
-white_first : (text : List ℕ) → 0 < length text → NonePass is_edge text → is_white (slice_index text 0) ≡ false
-white_first [] some none = absurd (omega arith)
-white_first (byte ∷ bytes) some none = of_parts (is_white byte) (is_some (closed_by byte)) (is_last byte) (both (not (is_edge byte)) (list_all (λ byte. not (is_edge byte)) bytes) none).0
-  where
-    of_parts : (white closes ends : Bool) → not (white || closes || ends) ≡ true → white ≡ false
-    of_parts true closes ends none = absurd (cc (none))
-    of_parts false closes ends none = refl
-
--- the piece ends before its first edge
-end_before : (place : ℕ) (last : Bool) → 0 < place → last ≡ false → (if place == 0 || last then place + 1 else place) ≡ place
-end_before place last some is = let first : (place == 0) ≡ false = grind (arith, nat_tests) in rw (first, is) refl
+use Rattle.file_modes.proofs.sexpr_text.Cuts.{NonePass, byte_at, first_byte, first_found, none_from}
+use Rattle.file_modes.proofs.sexpr_text.Bytes.{closing_stops, decimal_name, name_edge, opening_last, signed_name}
+use Rattle.file_modes.proofs.sexpr_text.IntegerPieces.{IsPiece, Stops, signed_some, stopped_by, white_first}
 
 end_behind : (place : ℕ) (last : Bool) → last ≡ true → (if place == 0 || last then place + 1 else place) ≡ place + 1
 end_behind place last is = of_test (place == 0) last is
@@ -46,17 +28,6 @@ end_behind place last is = of_test (place == 0) last is
     of_test : (first last : Bool) → last ≡ true → (if first || last then place + 1 else place) ≡ place + 1
     of_test true last is = refl
     of_test false last is = rw is refl
-
--- a text that ends as a piece because of the byte after it
-stopped : (text : List ℕ) (byte : ℕ) (rest : List ℕ) → 0 < length text → NonePass is_edge text → IsStop byte → IsPiece text (byte ∷ rest)
-stopped text byte rest some none stop =
-    let whole : List ℕ = text ++ byte ∷ rest in
-    record {
-      some = some;
-      black = white_first text some none;
-      size = sym (ap (piece_end whole) (first_found is_edge text byte rest none stop.edge)
-          ∙ end_before (length text) (is_last (slice_index whole (length text))) some (ap is_last (byte_at text byte rest) ∙ stop.behind));
-    }
 
 last_edge : (byte : ℕ) → is_last byte ≡ true → is_edge byte ≡ true
 last_edge byte is = of_parts (is_white byte) (is_some (closed_by byte)) (is_last byte) is
@@ -89,16 +60,6 @@ closed bracket rest = record {
     black_closing Round = refl
     black_closing Square = refl
     black_closing Curly = refl
-
--- a text whose first byte ends the piece before it
-pub record Stops (text : List ℕ) : Type 0 where
-  pub byte : ℕ
-  pub others : List ℕ
-  pub is : text ≡ byte ∷ others
-  pub stop : IsStop byte
-
-stopped_by : (text rest : List ℕ) → 0 < length text → NonePass is_edge text → Stops rest → IsPiece text rest
-stopped_by text rest some none stops = subst (IsPiece text) (sym stops.is) (stopped text stops.byte stops.others some none stops.stop)
 
 -- Names
 

@@ -1,31 +1,26 @@
 -- A token is what its text spells.
-use Rattle.std.proofs.Common.{◌≡◌, ℕ, ◌-◌, ◌<◌, ◌^◌, ℤ, pos, negsuc, List, [], ◌∷◌, ◌++◌, length, get_or, take, Bool, true, false, Option, Some, None, refl, ap, ◌∙◌, arith, decimal, codes}
-use Rattle.std.specs.Prelude.{◌==◌, if◌then◌else◌, bytes_eq, slice_index}
+use Rattle.std.proofs.Common.{◌≡◌, ℕ, ◌-◌, ◌<◌, ◌^◌, List, [], ◌∷◌, ◌++◌, length, take, Bool, false, Option, Some, None, refl, ap, ◌∙◌, arith, decimal}
+use Rattle.std.specs.Prelude.{◌==◌, if◌then◌else◌, slice_index}
 use Rattle.std.specs.Fmt.{signed_decimal}
-use Rattle.std.specs.List.{list_all}
 use Rattle.std.proofs.lemmas.Bool.Decides.{nat_tests}
-use Rattle.std.proofs.lemmas.Fmt.{decimal_nonempty}
 use Rattle.std.proofs.lemmas.List.{take_at}
-use Rattle.file_modes.specs.lisp_graph.Name.{is_name_byte}
-use Rattle.file_modes.specs.lisp_graph.declared.object.Value.{Value}
 use Rattle.file_modes.specs.lisp_graph.declared.object.Value.TheVariants.{Fix, Nil, Ref}
 use Rattle.file_modes.specs.lisp_graph.declared.world.AreaRule.{AreaRule}
-use Rattle.file_modes.specs.world_text.declared.reading.reason.Reason.TheVariants.{BadValue}
-use Rattle.file_modes.specs.world_text.Numbers.{area_of, value_of}
+use Rattle.file_modes.specs.world_text.Numbers.{area_of}
 use Rattle.file_modes.specs.world_text.Limits.{AreNamed}
-use Rattle.file_modes.specs.world_text.Spelling.{IsWritten, name_of}
-use Rattle.file_modes.proofs.world_text.reading_laws.NumberLaws.{decimal_first, found_is, number_reads}
-use Rattle.file_modes.proofs.world_text.reading_laws.ValueLaws.{other_bytes, values_spell}
+use Rattle.file_modes.specs.world_text.Spelling.{name_of}
+use Rattle.file_modes.proofs.world_text.reading_laws.NumberLaws.{number_reads}
 use Rattle.file_modes.specs.sexpr_text.declared.bracket.Bracket.{Bracket}
 use Rattle.file_modes.specs.sexpr_text.declared.bracket.Bracket.TheVariants.{Round, Square, Curly}
 use Rattle.file_modes.specs.sexpr_text.declared.token.Token.{Token}
 use Rattle.file_modes.specs.sexpr_text.declared.token.Token.TheVariants.{Root, EndSexpr, Dot, Atom, Label, Again, Open, Close, Unknown, End}
 use Rattle.file_modes.specs.sexpr_text.Brackets.{closed_by, opened_by, opening}
-use Rattle.file_modes.specs.sexpr_text.Tokens.{atom_of, label_in, label_token, plain_token, token_by_bracket, token_of}
+use Rattle.file_modes.specs.sexpr_text.Tokens.{label_in, label_token, token_by_bracket, token_of}
 use Rattle.file_modes.specs.sexpr_print.Spelling.{token_text}
 use Rattle.sexpr_laws.specs.Spellable.{CanSpell}
-use Rattle.sexpr_laws.proofs.Cuts.{byte_at, last_passes, size_before}
-use Rattle.sexpr_laws.proofs.Bytes.{name_plain, opening_opens, signed_name}
+use Rattle.file_modes.proofs.sexpr_text.Cuts.{byte_at, size_before}
+use Rattle.file_modes.proofs.sexpr_text.Bytes.{opening_opens, signed_name}
+use Rattle.file_modes.proofs.sexpr_text.IntegerPieces.{plain_integer, signed_some, token_plain}
 
 -- By the last byte
 
@@ -37,47 +32,6 @@ token_last areas front last =
     ap (λ n. by (take n piece) (slice_index piece n)) (size_before front last)
     ∙ ap (λ first. by first (slice_index piece (length front))) (take_at front (last ∷ []) (length front) refl)
     ∙ ap (by front) (byte_at front last [])
-
--- a text of bytes of names
-pub token_plain : (areas : List AreaRule) (text : List ℕ) → 0 < length text → list_all is_name_byte text ≡ true → token_of areas text ≡ plain_token text
-token_plain areas text some good =
-    let front : List ℕ = take (length text - 1) text in
-    let last : ℕ = slice_index text (length text - 1) in
-    let plain = name_plain last (last_passes is_name_byte text some good) in
-    ap (λ (opened : Option Bracket). token_by_bracket areas text front last opened (closed_by last)) plain.opens
-    ∙ ap (λ (closed : Option Bracket). token_by_bracket areas text front last None closed) plain.closes
-    ∙ by_mark (last == 61) (last == 35) (label_token Label (label_in front)) (label_token Again (label_in front)) (plain_token text) plain.equals plain.hash
-  where
-    by_mark : (equals hash : Bool) (one two three : Token) → equals ≡ false → hash ≡ false → (if equals then one else if hash then two else three) ≡ three
-    by_mark equals hash one two three a b = rw (a, b) refl
-
--- Integers
-
-other_first : (text : List ℕ) (byte : ℕ) (bytes : List ℕ) → (get_or text 0 0 ≡ byte → ⊥) → bytes_eq text (byte ∷ bytes) ≡ false
-other_first text byte bytes other = other_bytes text (byte ∷ bytes) (λ same. other (ap (λ (b : List ℕ). get_or b 0 0) same))
-
-atom_plain : (text : List ℕ) (value : Value) → bytes_eq text (codes "root") ≡ false → bytes_eq text (codes "end-sexpr") ≡ false → bytes_eq text (codes ".") ≡ false → value_of text ≡ Some value → plain_token text ≡ atom_of (Some value)
-atom_plain text value a b c is = of_tests (bytes_eq text (codes "root")) (bytes_eq text (codes "end-sexpr")) (bytes_eq text (codes ".")) (value_of text) a b c is
-  where
-    of_tests : (root end dot : Bool) (read : Option Value) → root ≡ false → end ≡ false → dot ≡ false → read ≡ Some value → (if root then Root else if end then EndSexpr else if dot then Dot else atom_of read) ≡ atom_of (Some value)
-    of_tests root end dot read a b c is = rw (a, b, c, is) refl
-
-value_read : (number : ℤ) → IsWritten (Fix number) → value_of (signed_decimal number) ≡ Some (Fix number)
-value_read number small = found_is BadValue (value_of (signed_decimal number)) (Fix number) (values_spell.accepts (Fix number) small)
-
-plain_integer : (number : ℤ) → IsWritten (Fix number) → plain_token (signed_decimal number) ≡ Atom (Fix number)
-plain_integer (pos number) small =
-    let first = decimal_first number (omega arith) in
-    atom_plain (decimal number) (Fix (pos number))
-    (other_first (decimal number) 114 _ (λ is. omega (arith, first, is)))
-    (other_first (decimal number) 101 _ (λ is. omega (arith, first, is)))
-    (other_first (decimal number) 46 _ (λ is. omega (arith, first, is)))
-    (value_read (pos number) small)
-plain_integer (negsuc number) small = atom_plain (signed_decimal (negsuc number)) (Fix (negsuc number)) refl refl refl (value_read (negsuc number) small)
-
-pub signed_some : (number : ℤ) → IsWritten (Fix number) → 0 < length (signed_decimal number)
-signed_some (pos number) small = decimal_nonempty number (omega arith)
-signed_some (negsuc number) small = omega arith
 
 -- Labels
 

@@ -16,10 +16,11 @@ use Rattle.file_modes.proofs.sexpr_text.Scans.{pieces_first}
 use Rattle.file_modes.specs.sexpr_print.Spelling.{binds, gap, is_close, lines_text, token_text, tokens_text}
 use Rattle.sexpr_laws.specs.Spellable.{AreSpellable, CanSpell}
 use Rattle.sexpr_laws.specs.ReadBack.{in_order, tokens_of}
-use Rattle.sexpr_laws.proofs.Cuts.{first_byte}
-use Rattle.sexpr_laws.proofs.Bytes.{closing_stops}
+use Rattle.file_modes.proofs.sexpr_text.Cuts.{first_byte}
+use Rattle.file_modes.proofs.sexpr_text.Bytes.{closing_stops}
 use Rattle.sexpr_laws.proofs.TokenTexts.{token_spelled}
-use Rattle.sexpr_laws.proofs.TokenPieces.{IsPiece, Stops, token_piece}
+use Rattle.file_modes.proofs.sexpr_text.IntegerPieces.{IsPiece, Stops}
+use Rattle.sexpr_laws.proofs.TokenPieces.{token_piece}
 
 -- One piece
 

@@ -4,3 +4,6 @@ pub mod ReaderResults
 pub mod StepLaws
 pub mod RootLaws
 pub mod HeaderLines
+pub mod Cuts
+pub mod Bytes
+pub mod IntegerPieces

@@ -1,9 +1,32 @@
 //! Reading a text piece by piece.
-use crate::pieces::{line_past, piece_length, skip_white};
+ghost use Rattle.std.specs.Prelude.{◌≡◌, ◌≤◌, ℕ, List, length, IfSome};
+ghost use Rattle.lisp_graph.specs.declared.world.AreaRule.{AreaRule};
+ghost use Rattle.sexpr_text.specs.Pieces.{pieces_from, pieces_left};
+
+use crate::pieces::{is_stop, line_past, piece_length, skip_white};
 use crate::token::token_of;
 use crate::{Piece, Token};
-use lisp_graph::Areas;
+use lisp_graph::{Areas, Value};
 use std::marker::Model;
+use world_text::leading_value;
+
+/// The first piece of a text that begins with an integer, and the text after it. If the piece is more than an integer, or the text
+/// ends with it, the result is None.
+#[inline(always)]
+fn integer_piece(text: &[u8]) -> Option<(Token, &[u8])>
+    ensures value { IfSome result (λ x. (areas : List AreaRule) (past line : ℕ)
+        → pieces_left (record { line = line; token = x.0 }) areas past line x.1.now ≡ pieces_from areas past 0 line text.now) }
+    ensures at_most { IfSome result (λ x. length x.1.now ≤ length text.now) }
+{
+    let (value, rest) = leading_value(text)?;
+    if rest.is_empty() || !is_stop(rest[0]) {
+        return None;
+    }
+    match value {
+        Value::Fix(_) => Some((Token::Atom(value), rest)),
+        Value::Nil | Value::Ref(_) => None,
+    }
+}
 
 /// Shows one piece of a text after another. Contracts see the pieces that remain; the last one is the end of the text.
 #[derive(Drop)]
@@ -40,6 +63,15 @@ impl<'a> PieceReader<'a> {
         ensures { result ≡ pieces_from areas.now past 0 line text.now }
     {
         let (line, text) = skip_white(line, text);
+        if let Some((token, rest)) = integer_piece(text) {
+            return PieceReader {
+                areas,
+                piece: Piece { line, token },
+                rest,
+                line,
+                past,
+            };
+        }
         if text.is_empty() {
             let piece = Piece {
                 line: past,

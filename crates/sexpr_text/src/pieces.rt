@@ -1,5 +1,5 @@
 //! The length of a piece, the white space before it, and line numbers.
-ghost use Rattle.std.specs.Prelude.{◌≡◌, ℕ, ◌+◌, ◌<◌, ◌≤◌, ◌^◌, List, false, length, position, IfSome, slice_index};
+ghost use Rattle.std.specs.Prelude.{◌≡◌, ℕ, ◌+◌, ◌<◌, ◌≤◌, ◌^◌, ◌&&◌, not, List, false, length, position, IfSome, slice_index};
 ghost use Rattle.lisp_graph.specs.declared.world.AreaRule.{AreaRule};
 ghost use Rattle.sexpr_text.specs.Pieces.{is_edge, is_feed, is_last, is_unfinished, is_white, line_past, piece_length, pieces_from};
 
@@ -22,6 +22,13 @@ fn is_edge(byte: u8) -> bool
     ensures { result ≡ is_edge byte }
 {
     byte == b' ' || is_feed(byte) || closed_by(byte).is_some() || is_last(byte)
+}
+
+/// Whether a piece ends before this byte.
+pub fn is_stop(byte: u8) -> bool
+    ensures { result ≡ (is_edge byte && not (is_last byte)) }
+{
+    is_edge(byte) && !is_last(byte)
 }
 
 fn first_edge(text: &[u8]) -> Option<usize>

@@ -17,3 +17,7 @@ returns c =
     pieces_at c.args.areas.now c.args.past c.skip_white-line.result.0 size text (take size text) _ c.token_of-token.result some (c.skip_white-line.ensures.end some)
     c.piece_length-size.ensures.value c.piece_length-size.ensures.some refl (take_rest text size) c.token_of-token.ensures
     ∙ c.skip_white-line.ensures.unchanged c.args.areas.now c.args.past
+
+pub returns-in-Some : goal.returns-in-Some
+returns-in-Some c =
+    c.in-Some.ensures.value c.args.areas.now c.args.past c.skip_white-line.result.0 ∙ c.skip_white-line.ensures.unchanged c.args.areas.now c.args.past

@@ -6,15 +6,15 @@ use Rattle.std.specs.List.{fold, list_all}
 use Rattle.std.proofs.lemmas.Bool.Decides.{nat_tests}
 use Rattle.std.proofs.lemmas.Fmt.{digits_decimal}
 use Rattle.std.proofs.lemmas.Str.Parse.{IsNumeralModel, numerals_by_fold}
-use Rattle.file_modes.specs.lisp_graph.Name.{is_digit, is_name_byte}
-use Rattle.file_modes.specs.lisp_graph.declared.object.Value.TheVariants.{Fix}
-use Rattle.file_modes.specs.world_text.Numbers.{are_digits}
-use Rattle.file_modes.specs.world_text.Spelling.{IsWritten}
-use Rattle.file_modes.proofs.world_text.reading_laws.Rows.{both}
-use Rattle.file_modes.specs.sexpr_text.declared.bracket.Bracket.{Bracket}
-use Rattle.file_modes.specs.sexpr_text.declared.bracket.Bracket.TheVariants.{Round, Square, Curly}
-use Rattle.file_modes.specs.sexpr_text.Brackets.{closed_by, closing, opened_by, opening}
-use Rattle.file_modes.specs.sexpr_text.Pieces.{is_edge, is_last, is_white}
+use Rattle.lisp_graph.specs.Name.{is_digit, is_name_byte}
+use Rattle.lisp_graph.specs.declared.object.Value.TheVariants.{Fix}
+use Rattle.world_text.specs.Numbers.{are_digits}
+use Rattle.world_text.specs.Spelling.{IsWritten}
+use Rattle.world_text.proofs.reading_laws.Rows.{both}
+use Rattle.sexpr_text.specs.declared.bracket.Bracket.{Bracket}
+use Rattle.sexpr_text.specs.declared.bracket.Bracket.TheVariants.{Round, Square, Curly}
+use Rattle.sexpr_text.specs.Brackets.{closed_by, closing, opened_by, opening}
+use Rattle.sexpr_text.specs.Pieces.{is_edge, is_last, is_white}
 
 -- Edges
 

@@ -5,7 +5,7 @@ use Rattle.std.specs.List.{list_all, position_or_len}
 use Rattle.std.proofs.lemmas.Bool.Decides.{nat_tests}
 use Rattle.std.proofs.lemmas.List.{get_or_at, get_or_append_left}
 use Rattle.std.proofs.lemmas.List.Sums.{AllPass-from_list_all}
-use Rattle.file_modes.proofs.world_text.reading_laws.Rows.{both}
+use Rattle.world_text.proofs.reading_laws.Rows.{both}
 
 -- none of these bytes passes the test
 abbrev pub NonePass : (ℕ → Bool) → List ℕ → Type 0
