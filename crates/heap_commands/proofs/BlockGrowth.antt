@@ -41,6 +41,8 @@ use Rattle.block_store.specs.transporter.Marking.{IsForward, IsPlaced, MarksFoll
 use Rattle.block_store.specs.transporter.Preserving.{NoOldAddresses, PreservesScanned}
 use Rattle.block_store.specs.transporter.Transports.{WordsUnchanged}
 use Rattle.block_store.specs.Headers.{TellsArea, TellsLength}
+use Rattle.block_store.specs.declared.fault.BlockFault.{BlockFault}
+use Rattle.block_store.specs.declared.fault.BlockFault.TheVariants.{NotABlock, NoField, Swap}
 use Rattle.block_store.specs.Growing.{CanGrow, GrowsBlock, GrowsWithin, IsHusk, LaidOn, PlacesGrown}
 use Rattle.block_store.specs.Marks.{MarksGrown}
 use Rattle.block_store.proofs.BlockGrowth.{husked-extends}
@@ -51,12 +53,14 @@ use Rattle.block_store.proofs.LiveFields.{live_word, place_fresh}
 use Rattle.heap_state.specs.Represents.{Represents}
 use Rattle.heap_state.specs.RepresentsLater.{RepresentsLater}
 use Rattle.heap_state.specs.Performs.{AnswersOn, Performs}
+use Rattle.heap_state.specs.Reads.{reply_of}
 use Rattle.heap_state.specs.Settled.{IsSettled}
 use Rattle.heap_state.proofs.StateChanges.{later_means}
 use Rattle.heap_state.proofs.SettledRegister.{aims_grown, registers_same, settled_on, stays_represented}
 use Rattle.heap_state.proofs.CommandEffects.{Leaves, performs_after, performs_fault, performs_refused}
 use Rattle.heap_commands.specs.declared.blocks.growing.Growing.{Growing}
 use Rattle.heap_commands.specs.declared.blocks.growing.Growing.TheVariants.{Answered, Wants}
+use Rattle.heap_commands.specs.Refusals.{reply_to}
 use Rattle.heap_commands.specs.Growth.{CanGrowIn, Finds, IsAnswered, IsBlock, IsGrowing, PlacesGrowth, WantsGrowth}
 use Rattle.heap_state.proofs.Allocations.{allocation_answers, fits_quota, quota_left}
 use Rattle.heap_commands.specs.NewMarks.{GivesMarks, MarksGrowth, MarksMade}
@@ -126,7 +130,7 @@ module _ (m m' : Store) (t t' : Table) (registers : List Parts) (r wanted : ℕ)
   effect_there : (k : RoleMap) (s : State) (x : IsBlock s (value_at s.registers r)) → effect (graph_of s) (C.Grow r wanted) ≡ Some (grown (graph_of s) x.name x.code x.fields wanted)
   effect_there k s x = ap (λ (e : Effect). Some e) (with_block s.store.objects (value_at s.registers r) x.name x.code x.fields x.value x.body (λ n code fields. grown (graph_of s) n code fields wanted) (answered R.WrongType (graph_of s)))
 
-  pub found_other : tag_of word.content ≢ StructTag → IsAnswered m t registers m' t' registers r wanted R.WrongType
+  found_other : tag_of word.content ≢ StructTag → IsAnswered m t registers m' t' registers r wanted R.WrongType
   found_other tag = record {
     performs = performs_refused m m' t t' registers registers (C.Grow r wanted) effect_is (leaves_there m m' t t' registers stays same);
     unwanted = λ sure k s b reach. ap wanted_by (effect_is k s b);
@@ -135,6 +139,11 @@ module _ (m m' : Store) (t t' : Table) (registers : List Parts) (r wanted : ℕ)
       effect_is : (k : RoleMap) (s : State) → Represents m t registers k s → effect (graph_of s) (C.Grow r wanted) ≡ Some (answered R.WrongType (graph_of s))
       effect_is k s b =
           ap (λ (e : Effect). Some e) (other_word m t k s registers b word.content (value_at s.registers r) (register_means m t k s registers b r word is low) tag (λ n code fields. grown (graph_of s) n code fields wanted) (answered R.WrongType (graph_of s)))
+
+  pub found_failed : (fault : BlockFault) → (fault ≡ NotABlock → tag_of word.content ≢ StructTag) → ((count : ℕ) → fault ≢ NoField count) → IsAnswered m t registers m' t' registers r wanted (reply_of (reply_to fault))
+  found_failed NotABlock other some = found_other (other refl)
+  found_failed (NoField count) other some = absurd (some count refl)
+  found_failed (Swap swap) other some = fault_answered m m' t t' registers registers r wanted (leaves_there m m' t t' registers stays same)
 
   module _ (struct : tag_of word.content ≢ StructTag → ⊥) (count : ℕ) (tells : TellsLength m t word.content count) (settled : IsSettled t registers r) where
     block_there : (k : RoleMap) (s : State) → Represents m t registers k s → IsBlock s (value_at s.registers r)

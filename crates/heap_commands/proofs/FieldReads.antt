@@ -19,17 +19,20 @@ use Rattle.block_store.specs.transporter.Settling.{RefersToOld}
 use Rattle.block_store.specs.transporter.Marking.{MarksFollow}
 use Rattle.block_store.specs.transporter.Preserving.{NoOldAddresses, PreservesScanned}
 use Rattle.block_store.specs.Headers.{TellsLength}
+use Rattle.block_store.specs.declared.fault.BlockFault.{BlockFault}
+use Rattle.block_store.specs.declared.fault.BlockFault.TheVariants.{NotABlock, NoField, Swap}
 use Rattle.block_store.specs.Fields.{CanRead, IsReadable, KeepsBlock, ReadsField}
 use Rattle.heap_state.specs.Consistent.{RepresentsState}
 use Rattle.heap_state.specs.Represents.{Represents}
 use Rattle.heap_state.specs.Performs.{Performs}
-use Rattle.heap_state.specs.Reads.{reads}
+use Rattle.heap_state.specs.Reads.{reads, reply_of}
 use Rattle.heap_state.specs.Settled.{IsSettled}
 use Rattle.heap_state.proofs.StateChanges.{kept_register}
 use Rattle.heap_state.proofs.SettledRegister.{registers_same}
 use Rattle.heap_state.proofs.CommandEffects.{Leaves, later_represented, performs_fault, performs_refused}
 use Rattle.heap_state.proofs.FetchedValues.{FetchesAll}
 use Rattle.heap_commands.proofs.NoAllocation.{performs_same}
+use Rattle.heap_commands.specs.Refusals.{reply_to}
 use Rattle.heap_commands.specs.Growth.{IsBlock}
 use Rattle.heap_commands.proofs.RegisterReferences.{other_word, register_means, struct_block, with_block}
 use Rattle.heap_commands.proofs.Sizes.{told_length}
@@ -88,14 +91,14 @@ module _ (m : Store) (t : Table) (registers : List Parts) (from : ℕ) (of : Par
         marks = marks;
       }
 
-      pub get_faulted : Performs m t registers m' t' registers (C.Get to from index) R.Fault
+      get_faulted : Performs m t registers m' t' registers (C.Get to from index) R.Fault
       get_faulted = performs_fault m m' t t' registers registers (C.Get to from index) refl left
 
-      pub get_refused : tag_of of.content ≢ StructTag → Performs m t registers m' t' registers (C.Get to from index) R.WrongType
+      get_refused : tag_of of.content ≢ StructTag → Performs m t registers m' t' registers (C.Get to from index) R.WrongType
       get_refused tag = performs_refused m m' t t' registers registers (C.Get to from index) (λ k s b.
           ap (λ (e : Effect). Some e) (other_word m t k s registers b of.content (value_at s.registers from) (register_means m t k s registers b from of is from_in) tag (λ n code fields. when_field (graph_of s) fields index (fetched (graph_of s) to (value_at fields index))) (answered R.WrongType (graph_of s)))) left
 
-      pub get_lacks : (tag_of of.content ≢ StructTag → ⊥) → (count : ℕ) → TellsLength m t of.content count → count ≤ index → Performs m t registers m' t' registers (C.Get to from index) (R.NoField count)
+      get_lacks : (tag_of of.content ≢ StructTag → ⊥) → (count : ℕ) → TellsLength m t of.content count → count ≤ index → Performs m t registers m' t' registers (C.Get to from index) (R.NoField count)
       get_lacks struct count tells past = performs_same m m' t t' registers registers (C.Get to from index) (R.NoField count) effect_is (λ e. cc) (λ done. absurd done) left
         where
           effect_is : (k : RoleMap) (s : State) → Represents m t registers k s → effect (graph_of s) (C.Get to from index) ≡ Some (answered (R.NoField count) (graph_of s))
@@ -103,6 +106,12 @@ module _ (m : Store) (t : Table) (registers : List Parts) (from : ℕ) (of : Par
               let x = block_there struct k s b in
               let size = told_length m t registers k s b from count of is from_in tells x in
               effect_there k s x ∙ ap (λ (e : Effect). Some e) (field_lacks (graph_of s) x.fields index (fetched (graph_of s) to (value_at x.fields index)) (omega arith)) ∙ ap (λ (n : ℕ). Some (answered (R.NoField n) (graph_of s))) (sym size)
+
+      pub get_failed : (fault : BlockFault) → (fault ≡ NotABlock → tag_of of.content ≢ StructTag) → (tag_of of.content ≢ StructTag → fault ≡ NotABlock) → ((count : ℕ) → fault ≡ NoField count → TellsLength m t of.content count × (count ≤ index))
+          → Performs m t registers m' t' registers (C.Get to from index) (reply_of (reply_to fault))
+      get_failed NotABlock other same lacks = get_refused (other refl)
+      get_failed (NoField count) other same lacks = get_lacks (λ ne. let e = same ne in cc) count (lacks count refl).0 (lacks count refl).1
+      get_failed (Swap swap) other same lacks = get_faulted
 
 -- a command that reads one register reads that
 pub only_from : (to from index i : ℕ) → IsTrue (reads (C.Get to from index) i) → i ≡ from

@@ -19,17 +19,20 @@ use Rattle.block_store.specs.lisp_meaning.Flip.{graph_of}
 use Rattle.block_store.specs.lisp_meaning.Roles.{RoleMap}
 use Rattle.block_store.specs.transporter.Preserving.{NoOldAddresses, PreservesScanned}
 use Rattle.block_store.specs.Headers.{TellsLength}
+use Rattle.block_store.specs.declared.fault.BlockFault.{BlockFault}
+use Rattle.block_store.specs.declared.fault.BlockFault.TheVariants.{NotABlock, NoField, Swap}
 use Rattle.block_store.specs.Fields.{CanSet, SetsField}
 use Rattle.heap_state.specs.Consistent.{RepresentsState}
 use Rattle.heap_state.specs.Marks.{MarksByStoring}
 use Rattle.heap_state.specs.Represents.{Represents}
 use Rattle.heap_state.specs.RepresentsLater.{RepresentsLater}
 use Rattle.heap_state.specs.Performs.{AnswersOn, Performs}
-use Rattle.heap_state.specs.Reads.{reads}
+use Rattle.heap_state.specs.Reads.{reads, reply_of}
 use Rattle.heap_state.specs.Settled.{IsSettled}
 use Rattle.heap_state.proofs.SettledRegister.{registers_same}
 use Rattle.heap_state.proofs.CommandEffects.{Leaves, counted_represented, leaves_same, performs_fault, performs_refused}
 use Rattle.heap_commands.proofs.NoAllocation.{performs_same}
+use Rattle.heap_commands.specs.Refusals.{reply_to}
 use Rattle.heap_commands.specs.Growth.{IsBlock}
 use Rattle.heap_commands.proofs.RegisterReferences.{other_word, register_means, struct_block, with_block}
 use Rattle.heap_commands.proofs.Sizes.{told_length}
@@ -69,15 +72,15 @@ module _ (m m' : Store) (t t' : Table) (registers : List Parts) (target index fr
     left : Leaves m t registers m' t' registers
     left = subst (λ (u : Table). Leaves m t registers m' u registers) (sym same) (leaves_same m m' t registers stays)
 
-    pub put_faulted : Performs m t registers m' t' registers (C.Put target index from) R.Fault
+    put_faulted : Performs m t registers m' t' registers (C.Put target index from) R.Fault
     put_faulted = performs_fault m m' t t' registers registers (C.Put target index from) refl left
 
-    pub put_refused : tag_of block.content ≢ StructTag → Performs m t registers m' t' registers (C.Put target index from) R.WrongType
+    put_refused : tag_of block.content ≢ StructTag → Performs m t registers m' t' registers (C.Put target index from) R.WrongType
     put_refused tag = performs_refused m m' t t' registers registers (C.Put target index from) (λ k s b.
         ap (λ (e : Effect). Some e) (other_word m t k s registers b block.content (value_at s.registers target) (register_means m t k s registers b target block block_is target_low) tag
         (λ n code fields. when_field (graph_of s) fields index (stored (graph_of s) n (Block code (slice_set fields index (value_at s.registers from))))) (answered R.WrongType (graph_of s)))) left
 
-    pub put_lacks : (count : ℕ) → (tag_of block.content ≢ StructTag → ⊥) → TellsLength m t block.content count → count ≤ index → Performs m t registers m' t' registers (C.Put target index from) (R.NoField count)
+    put_lacks : (count : ℕ) → (tag_of block.content ≢ StructTag → ⊥) → TellsLength m t block.content count → count ≤ index → Performs m t registers m' t' registers (C.Put target index from) (R.NoField count)
     put_lacks count struct tells past = performs_same m m' t t' registers registers (C.Put target index from) (R.NoField count) effect_is (λ e. cc) (λ done. absurd done) left
       where
         effect_is : (k : RoleMap) (s : State) → Represents m t registers k s → effect (graph_of s) (C.Put target index from) ≡ Some (answered (R.NoField count) (graph_of s))
@@ -87,6 +90,12 @@ module _ (m m' : Store) (t t' : Table) (registers : List Parts) (target index fr
             effect_there k s b x
             ∙ ap (λ (e : Effect). Some e) (field_lacks (graph_of s) x.fields index (stored (graph_of s) x.name (Block x.code (slice_set x.fields index (value_at s.registers from)))) (omega arith))
             ∙ ap (λ (n : ℕ). Some (answered (R.NoField n) (graph_of s))) (sym size)
+
+    pub put_failed : (fault : BlockFault) → (fault ≡ NotABlock → tag_of block.content ≢ StructTag) → (tag_of block.content ≢ StructTag → fault ≡ NotABlock) → ((count : ℕ) → fault ≡ NoField count → TellsLength m t block.content count × (count ≤ index))
+        → Performs m t registers m' t' registers (C.Put target index from) (reply_of (reply_to fault))
+    put_failed NotABlock other same lacks = put_refused (other refl)
+    put_failed (NoField count) other same lacks = put_lacks count (λ ne. let e = same ne in cc) (lacks count refl).0 (lacks count refl).1
+    put_failed (Swap swap) other same lacks = put_faulted
 
   module _ (struct : tag_of block.content ≢ StructTag → ⊥) (count : ℕ) (tells : TellsLength m t block.content count) (low : index < count) (sets : SetsField m t m' block.content index word.content) (preserves : PreservesScanned m t m' t') (stays_fresh : NoOldAddresses m t → NoOldAddresses m' t') (marks : MarksByStoring R.Fine m t m' t')
       (target_settled : IsSettled t registers target) (from_settled : IsSettled t registers from) where

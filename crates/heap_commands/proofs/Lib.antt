@@ -5,6 +5,7 @@ pub mod ConsRegisters
 pub mod ConsStores
 pub mod RegisterReferences
 pub mod NoAllocation
+pub mod Refusals
 pub mod Sizes
 pub mod FieldStores
 pub mod FieldReads

@@ -52,7 +52,11 @@ module _ (m m' : Store) (t t' : Table) (registers : List Parts) (to area level c
   }))
 
   module _ (at : ℕ) (word : Parts) (is : word.content ≡ StructAt at) (low : to < length registers) (area_in : area < areas_of t) (level_in : level < levels_of t) (fits : account_of t area + (count + 1) ≤ quota_of t area) (makes : MakesBlock m t m' t' area level code count at)
-      (placed : PlacesNew t t' area level at (count + 1) (count + 1)) (sound : IsTable t') where
+      (placed : PlacesNew t t' area level at (count + 1) (count + 1)) where
+    -- the table is sound afterwards, since some state is represented
+    pub table_there : (k : RoleMap) (s : State) → Represents m t registers k s → IsTable t'
+    table_there k s b = (makes k s.space.levels s.areas s.store (aim_of s.phase) b.kept (quota_left m t registers k s area level (suc count) b area_in level_in (omega arith))).kept.table
+
     module _ (k : RoleMap) (s : State) (b : Represents m t registers k s) (level_is : level ≡ new_level (rule_of s.areas area).kind) where
       -- the objects with the new one
       abbrev after : M.Store
@@ -76,7 +80,7 @@ module _ (m m' : Store) (t t' : Table) (registers : List Parts) (to area level c
     make_performs k s b reach level_is = record {
       performed = inr (make_answers k s b level_is);
       preserves = preserves;
-      others = set_others t' registers to word low (subst (Rattle.block_store.specs.transporter.Preserving.FreshOn t') (sym is) (block_fresh t t' area level at (count + 1) (count + 1) sound placed));
+      others = set_others t' registers to word low (subst (Rattle.block_store.specs.transporter.Preserving.FreshOn t') (sym is) (block_fresh t t' area level at (count + 1) (count + 1) (table_there k s b) placed));
       stays_fresh = λ fresh words. stays_fresh words;
       marks = marks;
       settled = λ done i reads. absurd cc;

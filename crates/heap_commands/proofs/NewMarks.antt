@@ -1,5 +1,5 @@
 -- Which pages get marks by a command that makes an object.
-use Rattle.std.proofs.Common.{◌≡◌, ◌≢◌, ◌⊎◌, inl, inr, ℕ, zero, suc, refl, false, true, ◌+◌, ◌*◌, ◌/◌, ◌%◌, ◌<◌, ◌≤◌, sym, ◌∙◌, ap, subst, arith, List, length, Option, Some, None}
+use Rattle.std.proofs.Common.{◌≡◌, ◌⊎◌, inl, inr, ℕ, zero, suc, refl, false, true, ◌+◌, ◌*◌, ◌/◌, ◌%◌, ◌<◌, ◌≤◌, sym, ◌∙◌, ap, subst, arith, List, length, Option, Some, None}
 use Rattle.std.specs.Prelude.{IsSome}
 use Rattle.std.proofs.lemmas.Bool.{cases_eq, cases_lt}
 use Rattle.std.proofs.lemmas.List.{get_or_past}
@@ -18,7 +18,7 @@ use Rattle.block_store.specs.transporter.Marking.{IsForward, IsPlaced, MarksFoll
 use Rattle.block_store.specs.transporter.Settling.{RefersToOld, reference_of}
 use Rattle.block_store.proofs.transporter.UsedEnds.{new-extends}
 use Rattle.block_store.proofs.transporter.PageMarks.{plain-value, within-placed}
-use Rattle.block_store.specs.Making.{CanMake, MakesBlock, block_word}
+use Rattle.block_store.specs.Making.{block_word}
 use Rattle.cdr_lists.specs.Lists.{CanList, ListedOn, cell_word, item_word}
 use Rattle.heap_state.specs.transporter.WrittenMarks.{MarksByWords}
 use Rattle.cdr_lists.specs.Pairs.{CanPair, PairedOn, first_word}

@@ -17,11 +17,15 @@ use Rattle.block_store.specs.lisp_meaning.Flip.{graph_of}
 use Rattle.block_store.specs.lisp_meaning.Roles.{RoleMap, header_of}
 use Rattle.block_store.proofs.lisp_ground.invariant.Stores.{same_header_size}
 use Rattle.block_store.specs.Headers.{TellsLength}
+use Rattle.block_store.specs.declared.fault.BlockFault.{BlockFault}
+use Rattle.block_store.specs.declared.fault.BlockFault.TheVariants.{NotABlock, NoField, Swap}
 use Rattle.heap_state.specs.Represents.{Represents}
 use Rattle.heap_state.specs.Performs.{Performs}
+use Rattle.heap_state.specs.Reads.{reply_of}
 use Rattle.heap_state.specs.Settled.{IsSettled}
 use Rattle.heap_state.proofs.CommandEffects.{Leaves, leaves_same, performs_fault, performs_refused}
 use Rattle.heap_commands.proofs.NoAllocation.{performs_same}
+use Rattle.heap_commands.specs.Refusals.{reply_to}
 use Rattle.heap_commands.specs.Growth.{IsBlock}
 use Rattle.heap_commands.proofs.RegisterReferences.{other_word, register_means, struct_block, with_block}
 
@@ -35,12 +39,17 @@ module _ (m m' : Store) (t t' : Table) (registers : List Parts) (r : ℕ) (word 
   left : Leaves m t registers m' t' registers
   left = subst (λ (u : Table). Leaves m t registers m' u registers) (sym same) (leaves_same m m' t registers stays)
 
-  pub size_faulted : Performs m t registers m' t' registers (C.Size r) R.Fault
+  size_faulted : Performs m t registers m' t' registers (C.Size r) R.Fault
   size_faulted = performs_fault m m' t t' registers registers (C.Size r) refl left
 
-  pub size_refused : tag_of word.content ≢ StructTag → Performs m t registers m' t' registers (C.Size r) R.WrongType
+  size_refused : tag_of word.content ≢ StructTag → Performs m t registers m' t' registers (C.Size r) R.WrongType
   size_refused tag = performs_refused m m' t t' registers registers (C.Size r) (λ k s b.
       ap (λ (e : Effect). Some e) (other_word m t k s registers b word.content (value_at s.registers r) (register_means m t k s registers b r word is low) tag (λ n code fields. answered (R.Number (pos (length fields))) (graph_of s)) (answered R.WrongType (graph_of s)))) left
+
+  pub size_failed : (fault : BlockFault) → (fault ≡ NotABlock → tag_of word.content ≢ StructTag) → ((count : ℕ) → fault ≢ NoField count) → Performs m t registers m' t' registers (C.Size r) (reply_of (reply_to fault))
+  size_failed NotABlock other some = size_refused (other refl)
+  size_failed (NoField count) other some = absurd (some count refl)
+  size_failed (Swap fault) other some = size_faulted
 
   pub size_told : (count : ℕ) (reply : Reply) → reply ≡ R.Number (pos count) → (tag_of word.content ≢ StructTag → ⊥) → TellsLength m t word.content count → IsSettled t registers r → Performs m t registers m' t' registers (C.Size r) reply
   size_told count reply reply_is struct tells settled =

@@ -3,6 +3,7 @@
 mod growing;
 mod making;
 mod reading;
+mod refusal;
 mod writing;
 
 pub use growing::{Growing, find_growing, grow};

@@ -10,8 +10,9 @@ ghost use Rattle.block_store.specs.transporter.Views.{NoOldAddresses, MarksFollo
 ghost use Rattle.heap_state.specs.Settled.{IsSettled, NoOldAddressesInRegisters};
 ghost use Rattle.block_store.specs.transporter.Preserving.{RegistersPreserved};
 
+use crate::blocks::refusal::refusal;
 use area_space::Ground;
-use block_store::{BlockFault, block_size, grown_length};
+use block_store::{block_size, grown_length};
 use heap_state::settle_register;
 use lisp_graph::{Command, Reply};
 use mem_port::Memory;
@@ -66,9 +67,7 @@ pub fn find_growing<M: Memory, L: Ledger>(
             charge: grown_length(block.length, wanted) as u32 + 1,
         },
         Ok(_) => Growing::Answered(Reply::Fine),
-        Err(BlockFault::NotABlock) => Growing::Answered(Reply::WrongType),
-        Err(BlockFault::NoField { .. }) => unreachable!(),
-        Err(BlockFault::Swap(_)) => Growing::Answered(Reply::Fault),
+        Err(fault) => Growing::Answered(refusal(fault).unwrap_or(Reply::Fault)),
     }
 }
 
@@ -101,8 +100,6 @@ pub fn grow<M: Memory, L: Ledger>(
 {
     match block_store::grow(ground, registers[target as usize], wanted, steps) {
         Ok(_) => Ok(Reply::Fine),
-        Err(BlockFault::NotABlock) => unreachable!(),
-        Err(BlockFault::NoField { .. }) => unreachable!(),
-        Err(BlockFault::Swap(fault)) => Err(fault),
+        Err(fault) => refusal(fault),
     }
 }

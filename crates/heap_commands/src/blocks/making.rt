@@ -47,7 +47,6 @@ pub fn make<M: Memory, L: Ledger>(
     ensures cost { steps.new ≤ steps.old + length + 10 }
 {
     let at = make_block(ground, area, level, code, length, steps)?;
-    ground.table.assert_invariant();
     registers[to as usize] = Word::struct_at(at);
     Ok(Reply::Fine)
 }

@@ -6,8 +6,9 @@ ghost use Rattle.heap_commands.specs.Costs.{CommandCosts};
 ghost use Rattle.heap_state.specs.Reads.{reply_of};
 ghost use Rattle.heap_state.specs.Views.{RepresentsState, Performs};
 
+use crate::blocks::refusal::refusal;
 use area_space::Ground;
-use block_store::{BlockFault, field, length};
+use block_store::{field, length};
 use heap_state::{settle_register, show_into};
 use lisp_graph::{Command, Reply};
 use mem_port::Memory;
@@ -31,9 +32,7 @@ pub fn size<M: Memory, L: Ledger>(
     let block = settle_register(ground, registers, of, steps)?;
     match length(ground, block, steps) {
         Ok(count) => Ok(number(count)),
-        Err(BlockFault::NotABlock) => Ok(Reply::WrongType),
-        Err(BlockFault::NoField { .. }) => unreachable!(),
-        Err(BlockFault::Swap(fault)) => Err(fault),
+        Err(fault) => refusal(fault),
     }
 }
 
@@ -64,8 +63,6 @@ pub fn get<M: Memory, L: Ledger>(
     let block = settle_register(ground, registers, from, steps)?;
     match field(ground, block, index, steps) {
         Ok(word) => show_into(&mut ground.mem, registers, to, word, steps),
-        Err(BlockFault::NotABlock) => Ok(Reply::WrongType),
-        Err(BlockFault::NoField { length }) => Ok(Reply::NoField { length }),
-        Err(BlockFault::Swap(fault)) => Err(fault),
+        Err(fault) => refusal(fault),
     }
 }

@@ -6,8 +6,9 @@ ghost use Rattle.heap_commands.specs.Costs.{CommandCosts};
 ghost use Rattle.heap_state.specs.Reads.{reply_of};
 ghost use Rattle.heap_state.specs.Views.{RepresentsState, Performs};
 
+use crate::blocks::refusal::refusal;
 use area_space::Ground;
-use block_store::{BlockFault, set_field};
+use block_store::set_field;
 use heap_state::settle_items;
 use lisp_graph::{Command, Reply};
 use mem_port::Memory;
@@ -36,8 +37,6 @@ pub fn put<M: Memory, L: Ledger>(
     let value = registers[from as usize];
     match set_field(ground, block, index, value, steps) {
         Ok(()) => Ok(Reply::Fine),
-        Err(BlockFault::NotABlock) => Ok(Reply::WrongType),
-        Err(BlockFault::NoField { length }) => Ok(Reply::NoField { length }),
-        Err(BlockFault::Swap(fault)) => Err(fault),
+        Err(fault) => refusal(fault),
     }
 }

@@ -1,10 +1,13 @@
-use Rattle.std.proofs.Common.{ap, ◌∙◌, Err, suc, ◌+◌, ◌≡◌, arith}
+use Rattle.std.proofs.Common.{◌≡◌, suc, ◌+◌, Err, ap, arith}
 use Rattle.lisp_graph.specs.declared.reply.Reply.TheVariants as R
 use Rattle.lisp_graph.specs.Effect.{grown_length}
 use Rattle.heap_state.proofs.CommandEffects.{Leaves}
 use Rattle.heap_commands.specs.declared.blocks.growing.Growing.TheVariants.{Answered, Wants}
 use Rattle.heap_commands.proofs.NoAllocation.{leaves_still}
-use Rattle.heap_commands.proofs.BlockGrowth.{fault_answered, finds_after, found_other, found_wants, found_wide}
+use Rattle.mem_port.proofs.CallReports.{answered}
+use Rattle.block_store.specs.declared.header.BlockSize.{BlockSize}
+use Rattle.heap_commands.proofs.Refusals.{failed_tells, quiet-then, unwrapped}
+use Rattle.heap_commands.proofs.BlockGrowth.{fault_answered, finds_after, found_failed, found_wants, found_wide}
 use Rattle.heap_commands.proofs.RegisterReferences.{register_meaning}
 use Rattle.heap_commands.proofs.SettledRegisters.{SettlesOne, settles_one}
 use Rattle.heap_commands.proofs.blocks.growing.find_growing.Given.{Over}
@@ -48,15 +51,12 @@ returns-in-Ok-2-clause-finds g c =
     finds_after _ _ _ _ _ _ _ _ _ c.args.target c.args.wanted (Answered R.Fine) s.leaves
     (found_wide _ _ _ _ c.settle_register.new.registers c.args.target c.args.wanted c.in-Ok.word s.read (s.inside _ c.requires.target) told.costs.stays told.costs.table (λ ne. let e = told.costs.not_a_block.1 ne in cc) c.in-Ok-block_size.block.length told.size s.settled c.if-block-wanted.false)
 
-pub returns-in-Err-NotABlock-clause-finds : goal.returns-in-Err-NotABlock-clause-finds
-returns-in-Err-NotABlock-clause-finds g c =
-    let s = one g (goal.at.returns-in-Err-NotABlock-clause-finds g c).After-block_size in
-    let told = c.block_size.ensures in
-    finds_after _ _ _ _ _ _ _ _ _ c.args.target c.args.wanted (Answered R.WrongType) s.leaves
-    (found_other _ _ _ _ c.settle_register.new.registers c.args.target c.args.wanted c.in-Ok.word s.read (s.inside _ c.requires.target) told.costs.stays told.costs.table (told.costs.not_a_block.0 (c.in-Err-NotABlock.is ∙ ap Err c.in-Err-NotABlock.field-0-is)))
-
-pub returns-in-Err-Swap-clause-finds : goal.returns-in-Err-Swap-clause-finds
-returns-in-Err-Swap-clause-finds g c = fault_answered _ _ _ _ _ _ c.args.target c.args.wanted (left g (goal.at.returns-in-Err-Swap-clause-finds g c).After-block_size)
+pub returns-in-Err-clause-finds : goal.returns-in-Err-clause-finds
+returns-in-Err-clause-finds g c =
+    let s = one g (goal.at.returns-in-Err-clause-finds g c).After-block_size in
+    let told = c.in-Err.ensures.costs in
+    rw (c.unwrap_or.ensures, unwrapped c.refusal.result, c.refusal.ensures) (finds_after _ _ _ _ _ _ _ _ _ c.args.target c.args.wanted (Answered _) s.leaves
+    (found_failed _ _ _ _ c.settle_register.new.registers c.args.target c.args.wanted c.in-Ok.word s.read (s.inside _ c.requires.target) told.stays told.table c.in-Err.fault (λ is. told.not_a_block.0 (ap Err is)) (λ count is. told.every_field count (ap Err is))))
 
 pub returns-in-Ok-block_size-clause-represented : goal.returns-in-Ok-block_size-clause-represented
 returns-in-Ok-block_size-clause-represented g c = (left g (goal.at.returns-in-Ok-block_size-clause-represented g c).After-block_size).represented
@@ -82,26 +82,19 @@ returns-in-Ok-2-clause-stays_fresh g c = (left g (goal.at.returns-in-Ok-2-clause
 pub returns-in-Ok-2-clause-marks : goal.returns-in-Ok-2-clause-marks
 returns-in-Ok-2-clause-marks g c = (left g (goal.at.returns-in-Ok-2-clause-marks g c).After-block_size).marks
 
-pub returns-in-Err-NotABlock-clause-represented : goal.returns-in-Err-NotABlock-clause-represented
-returns-in-Err-NotABlock-clause-represented g c = (left g (goal.at.returns-in-Err-NotABlock-clause-represented g c).After-block_size).represented
+pub returns-in-Err-clause-represented : goal.returns-in-Err-clause-represented
+returns-in-Err-clause-represented g c = (left g (goal.at.returns-in-Err-clause-represented g c).After-block_size).represented
 
-pub returns-in-Err-NotABlock-clause-preserves : goal.returns-in-Err-NotABlock-clause-preserves
-returns-in-Err-NotABlock-clause-preserves g c = (left g (goal.at.returns-in-Err-NotABlock-clause-preserves g c).After-block_size).preserves
+pub returns-in-Err-clause-preserves : goal.returns-in-Err-clause-preserves
+returns-in-Err-clause-preserves g c = (left g (goal.at.returns-in-Err-clause-preserves g c).After-block_size).preserves
 
-pub returns-in-Err-NotABlock-clause-stays_fresh : goal.returns-in-Err-NotABlock-clause-stays_fresh
-returns-in-Err-NotABlock-clause-stays_fresh g c = (left g (goal.at.returns-in-Err-NotABlock-clause-stays_fresh g c).After-block_size).stays_fresh
+pub returns-in-Err-clause-stays_fresh : goal.returns-in-Err-clause-stays_fresh
+returns-in-Err-clause-stays_fresh g c = (left g (goal.at.returns-in-Err-clause-stays_fresh g c).After-block_size).stays_fresh
 
-pub returns-in-Err-NotABlock-clause-marks : goal.returns-in-Err-NotABlock-clause-marks
-returns-in-Err-NotABlock-clause-marks g c = (left g (goal.at.returns-in-Err-NotABlock-clause-marks g c).After-block_size).marks
+pub returns-in-Err-clause-marks : goal.returns-in-Err-clause-marks
+returns-in-Err-clause-marks g c = (left g (goal.at.returns-in-Err-clause-marks g c).After-block_size).marks
 
-pub returns-in-Err-Swap-clause-represented : goal.returns-in-Err-Swap-clause-represented
-returns-in-Err-Swap-clause-represented g c = (left g (goal.at.returns-in-Err-Swap-clause-represented g c).After-block_size).represented
-
-pub returns-in-Err-Swap-clause-preserves : goal.returns-in-Err-Swap-clause-preserves
-returns-in-Err-Swap-clause-preserves g c = (left g (goal.at.returns-in-Err-Swap-clause-preserves g c).After-block_size).preserves
-
-pub returns-in-Err-Swap-clause-stays_fresh : goal.returns-in-Err-Swap-clause-stays_fresh
-returns-in-Err-Swap-clause-stays_fresh g c = (left g (goal.at.returns-in-Err-Swap-clause-stays_fresh g c).After-block_size).stays_fresh
-
-pub returns-in-Err-Swap-clause-marks : goal.returns-in-Err-Swap-clause-marks
-returns-in-Err-Swap-clause-marks g c = (left g (goal.at.returns-in-Err-Swap-clause-marks g c).After-block_size).marks
+pub returns-in-Err-clause-accounted : goal.returns-in-Err-clause-accounted
+returns-in-Err-clause-accounted g c =
+    rw (c.unwrap_or.ensures, unwrapped c.refusal.result)
+    (quiet-then (answered _ c.in-Ok.ensures.accounted) (failed_tells BlockSize c.in-Err.fault c.refusal.result c.refusal.ensures c.in-Err.ensures.costs.tells))
