@@ -54,6 +54,7 @@ pub fn run_request<M: Memory, L: Ledger>(
         CommandHead::Scavenge { count } => heap.scavenge(*count, &mut steps),
         CommandHead::Reclaim => heap.reclaim(),
         CommandHead::PageOut { count } => heap.page_out(*count),
+        // `stats` and `dump` reply by texts, and the contract excludes them.
         _ => unreachable!(),
     }
 }

@@ -88,6 +88,7 @@ fn put<D: Swap>(place: &mut Option<MachineStage<D>>, stage: MachineStage<D>)
 {
     match mem::replace(place, Some(stage)) {
         None => {}
+        // The place is empty, as the contract requires.
         Some(_) => unreachable!(),
     }
 }
@@ -173,6 +174,7 @@ impl<D: Swap> Engine for Machine<D> {
                     Err(LoadFault::NoMemory)
                 }
             },
+            // A machine can be opened only while it is idle, and then it holds its swap alone.
             _ => unreachable!(),
         }
     }
@@ -185,6 +187,7 @@ impl<D: Swap> Engine for Machine<D> {
                 command,
                 Blank::new(1),
             ),
+            // Only a machine with a heap takes commands.
             _ => unreachable!(),
         }
     }
@@ -192,6 +195,7 @@ impl<D: Swap> Engine for Machine<D> {
     fn account(&self, area: u8) -> u32 {
         match &self.stage {
             Some(MachineStage::Heap(heap)) => heap.account(area),
+            // Only a machine with a heap represents a state.
             _ => unreachable!(),
         }
     }
@@ -203,6 +207,7 @@ impl<D: Swap> Engine for Machine<D> {
                 put(&mut self.stage, MachineStage::Heap(heap));
                 dump
             }
+            // Only a machine with a heap takes commands.
             _ => unreachable!(),
         }
     }
