@@ -1,10 +1,9 @@
 -- Conses stay in their places while more are made, and while parts are stored.
-use Rattle.std.proofs.Common.{◌≡◌, ℕ, suc, ◌+◌, ◌-◌, ◌*◌, ◌<◌, ◌≤◌, ◌⊎◌, inl, inr, refl, sym, ap, ◌∙◌, subst, arith, List, length, zero, false, Option, Some, None, length-set}
+use Rattle.std.proofs.Common.{◌≡◌, ℕ, suc, ◌+◌, ◌-◌, ◌*◌, ◌<◌, ◌≤◌, ◌⊎◌, inl, inr, refl, sym, ap, ◌∙◌, subst, arith, List, length, zero, Option, Some, None, length-set}
 use Rattle.std.specs.Prelude.{slice_set}
 use Rattle.std.proofs.lemmas.Bool.{cases_eq, cases_lt}
 use Rattle.std.proofs.lemmas.List.{get_or_past, get_or-set_same, get_or-set_other}
 use Rattle.store_word.specs.Words.{Parts, null_word}
-use Rattle.store_word.specs.declared.word.CdrCode.TheVariants.{Next}
 use Rattle.store_word.specs.declared.word.Content.{Content}
 use Rattle.store_word.specs.declared.word.Content.TheVariants.{Null, Nil as NilWord, List as ListAt, Struct as StructAt, Header, HeaderForward, GcForward, Fixnum}
 use Rattle.lisp_graph.specs.declared.object.Value.{Value}
@@ -30,8 +29,7 @@ use Rattle.cdr_lists.proofs.SettledCell.{final_itself}
 use Rattle.block_store.specs.Making.{block_word}
 use Rattle.block_store.proofs.BlockReferences.{head_role}
 use Rattle.block_store.proofs.LiveFields.{field_live, live_word}
-use Rattle.heap_load.specs.declared.places.Place.{Place}
-use Rattle.heap_load.specs.Places.{cell_place, place_at}
+use Rattle.heap_load.specs.Places.{PlaceView, block_place, cell_place, pair_place, place_at}
 use Rattle.heap_load.specs.Loading.{BlockStandsIn, Drafted, Laid, StandsIn, code_for, group_from}
 use Rattle.heap_load.specs.Drafts.{header_of}
 use Rattle.heap_load.proofs.NewDrafts.{store_with}
@@ -86,7 +84,7 @@ block_named k content at n is e = name_in (names_as AsBlock (k.role at)) n (sym 
 
 -- More objects are made
 
-module _ (m m' : Store) (t t' : Table) (world : World) (places places' : List Place) (n : ℕ) (x : Drafted m t world places n) (laid : Laid m.words places world.objects n)
+module _ (m m' : Store) (t t' : Table) (world : World) (places places' : List PlaceView) (n : ℕ) (x : Drafted m t world places n) (laid : Laid m.words places world.objects n)
     (same : LiveWordsUnchanged m t m' t') (table : IsTable t') (size : length m'.words ≡ 4096 * t'.regions) (before : (i : ℕ) → i < n → place_at places' i ≡ place_at places i) where
   laid_before : (more : ℕ) (i : ℕ) → i < n → (car cdr : Value) → (object_at world.objects i).body ≡ Cons car cdr → StandsIn m'.words places' world.objects (n + more) i
   laid_before more i low car cdr body =
@@ -96,12 +94,12 @@ module _ (m m' : Store) (t t' : Table) (world : World) (places places' : List Pl
       let word = same.words s.at live in
       record {
         at = s.at;
-        place_is = ap (λ (p : Place). p.word.content) (before i low) ∙ s.place_is;
+        place_is = ap (λ (p : PlaceView). p.word.content) (before i low) ∙ s.place_is;
         final = record { inside = live-inside m' table size (still-live same.table live); no_forward = ap (λ (p : Parts). forward_of p.content) word ∙ s.final.no_forward };
         code = ap (λ (p : Parts). p.cdr) word ∙ s.code;
-        next = λ two. (let more_of = s.next two in (omega (arith, more_of.0), ap (λ (p : Place). p.word.content) (before (suc i) more_of.0) ∙ more_of.1));
-        alone = λ is. s.alone (ap (λ (p : Place). p.cell) (sym (before i low)) ∙ is);
-        together = λ is. s.together (ap (λ (p : Place). p.cell) (sym (before i low)) ∙ is);
+        next = λ two. (let more_of = s.next two in (omega (arith, more_of.0), ap (λ (p : PlaceView). p.word.content) (before (suc i) more_of.0) ∙ more_of.1));
+        alone = λ is. s.alone (ap (λ (p : PlaceView). p.cell) (sym (before i low)) ∙ is);
+        together = λ is. s.together (ap (λ (p : PlaceView). p.cell) (sym (before i low)) ∙ is);
       }
 
   block_before : (i : ℕ) → i < n → (code : ℕ) (fields : List Value) → (object_at world.objects i).body ≡ Block code fields → BlockStandsIn m'.words places' (length fields) i
@@ -117,7 +115,7 @@ module _ (m m' : Store) (t t' : Table) (world : World) (places places' : List Pl
       let word = same.words s.at head in
       record {
         at = s.at;
-        place_is = ap (λ (p : Place). p.word.content) (before i low) ∙ s.place_is;
+        place_is = ap (λ (p : PlaceView). p.word.content) (before i low) ∙ s.place_is;
         final = record { inside = live-inside m' table size (still-live same.table head); no_forward = ap (λ (p : Parts). forward_of p.content) word ∙ s.final.no_forward };
         codes = λ j less. (
             let live = field_live m t map world.space.levels world.areas objects no_aim kept s.at i named code b.0 b.2 j (let count = b.1 in omega arith) (λ old. x.holds.aims.1 _ old) in
@@ -140,9 +138,9 @@ module _ (m m' : Store) (t t' : Table) (world : World) (places places' : List Pl
   }
 
   -- a block
-  pub laid_block : (code : ℕ) (fields : List Value) → (object_at world.objects n).body ≡ Block code fields → (at : ℕ) (word : Parts) → word ≡ record { cdr = Next; content = StructAt at } → place_at places' n ≡ record { word = word; cell = false }
+  pub laid_block : (code : ℕ) (fields : List Value) → (object_at world.objects n).body ≡ Block code fields → (at : ℕ) → place_at places' n ≡ block_place at
       → ((i : ℕ) → i < length fields + 1 → word_at m'.words (at + i) ≡ block_word code (length fields) i) → Laid m'.words places' world.objects (n + 1)
-  laid_block code fields body at word word_is place words = laid_one (λ car cdr is. (let both = sym is ∙ body in absurd (cc (both)))) (λ other rest is. stands rest (same_fields other rest (sym body ∙ is)))
+  laid_block code fields body at place words = laid_one (λ car cdr is. (let both = sym is ∙ body in absurd (cc (both)))) (λ other rest is. stands rest (same_fields other rest (sym body ∙ is)))
     where
       same_fields : (other : ℕ) (rest : List Value) → Block code fields ≡ Block other rest → fields ≡ rest
       same_fields other rest e = cc
@@ -150,22 +148,22 @@ module _ (m m' : Store) (t t' : Table) (world : World) (places places' : List Pl
       stands : (rest : List Value) → fields ≡ rest → BlockStandsIn m'.words places' (length rest) n
       stands rest e = subst (λ (l : List Value). BlockStandsIn m'.words places' (length l) n) e (record {
         at = at;
-        place_is = ap (λ (p : Place). p.word.content) place ∙ ap (λ (p : Parts). p.content) word_is;
+        place_is = ap (λ (p : PlaceView). p.word.content) place;
         final = (let first : at + 0 ≡ at = omega arith in header_final m'.words at code (length fields) (ap (word_at m'.words) (sym first) ∙ words 0 (omega arith)));
         codes = λ i low. (let next : suc at + i ≡ at + suc i = omega arith in ap (λ (a : ℕ). (word_at m'.words a).cdr) next ∙ ap (λ (p : Parts). p.cdr) (words (suc i) (omega arith)));
       })
 
   -- a pair
-  pub laid_pair : (first_part second_part : Value) → (object_at world.objects n).body ≡ Cons first_part second_part → (at : ℕ) (car word : Parts) (value : Value) → value_of x.holds.map.role car.content ≡ Some value → word_at m'.words at ≡ first_word car → word ≡ record { cdr = Next; content = ListAt at } → place_at places' n ≡ record { word = word; cell = false } → group_from world.objects n ≡ 0
+  pub laid_pair : (first_part second_part : Value) → (object_at world.objects n).body ≡ Cons first_part second_part → (at : ℕ) (car : Parts) (value : Value) → value_of x.holds.map.role car.content ≡ Some value → word_at m'.words at ≡ first_word car → place_at places' n ≡ pair_place at → group_from world.objects n ≡ 0
       → Laid m'.words places' world.objects (n + 1)
-  laid_pair first_part second_part body at car word value means first word_is place alone = laid_one (λ one two is. record {
+  laid_pair first_part second_part body at car value means first place alone = laid_one (λ one two is. record {
     at = at;
-    place_is = ap (λ (p : Place). p.word.content) place ∙ ap (λ (p : Parts). p.content) word_is;
+    place_is = ap (λ (p : PlaceView). p.word.content) place;
     final = value_final m'.words at (first_word car) x.holds.map.role value first means;
     code = ap (λ (p : Parts). p.cdr) first ∙ sym (ap code_for alone);
     next = λ two. absurd (let none = alone in omega (arith, two, none));
     alone = λ cell. alone;
-    together = λ cell. (let both = sym (ap (λ (p : Place). p.cell) place) ∙ cell in absurd (cc (both)));
+    together = λ cell. (let both = sym (ap (λ (p : PlaceView). p.cell) place) ∙ cell in absurd (cc (both)));
   }) (λ code fields is. (let both = sym is ∙ body in absurd (cc (both))))
 
   -- the conses of a group
@@ -176,14 +174,14 @@ module _ (m m' : Store) (t t' : Table) (world : World) (places places' : List Pl
         let left = group_along world.objects n count i group low in
         record {
           at = at + i;
-          place_is = ap (λ (p : Place). p.word.content) (cells i low);
+          place_is = ap (λ (p : PlaceView). p.word.content) (cells i low);
           final = nil_final m'.words (at + i) (record { cdr = cell_code count i; content = NilWord }) (words i low) refl;
           code = ap (λ (p : Parts). p.cdr) (words i low) ∙ code_left count i (group_from world.objects (n + i)) left low;
           next = λ two. (let more : suc i < count = further (group_from world.objects (n + i)) left two in
               let step : suc (n + i) ≡ n + suc i = omega arith in
               let there : at + suc i ≡ suc (at + i) = omega arith in
-              (omega arith, ap (λ (k : ℕ). (place_at places' k).word.content) step ∙ ap (λ (p : Place). p.word.content) (cells (suc i) more) ∙ ap (λ (a : ℕ). ListAt a) there));
-          alone = λ is. (let both = sym (ap (λ (p : Place). p.cell) (cells i low)) ∙ is in absurd (cc (both)));
+              (omega arith, ap (λ (k : ℕ). (place_at places' k).word.content) step ∙ ap (λ (p : PlaceView). p.word.content) (cells (suc i) more) ∙ ap (λ (a : ℕ). ListAt a) there));
+          alone = λ is. (let both = sym (ap (λ (p : PlaceView). p.cell) (cells i low)) ∙ is in absurd (cc (both)));
           together = λ is. some (group_from world.objects (n + i)) left;
         }
       where
@@ -219,7 +217,7 @@ module _ (m m' : Store) (t t' : Table) (world : World) (places places' : List Pl
 -- Parts are stored
 
 -- a word was stored, with the cdr code that was there, and it isn't a forward
-pub laid_stored : (m m' : Store) (places : List Place) (objects : List Object) (n x : ℕ) (w : Parts) → x < length m.words → Stores m m' x w → w.cdr ≡ (word_at m.words x).cdr → forward_of w.content ≡ None → Laid m.words places objects n → Laid m'.words places objects n
+pub laid_stored : (m m' : Store) (places : List PlaceView) (objects : List Object) (n x : ℕ) (w : Parts) → x < length m.words → Stores m m' x w → w.cdr ≡ (word_at m.words x).cdr → forward_of w.content ≡ None → Laid m.words places objects n → Laid m'.words places objects n
 laid_stored m m' places objects n x w x_inside stores code no_forward laid = record { each = again; blocks = block_again }
   where
     here : (a : ℕ) → a ≡ x → word_at m'.words a ≡ w

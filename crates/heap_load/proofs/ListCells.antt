@@ -32,8 +32,7 @@ use Rattle.block_store.proofs.lisp_ground.words.References.{references_lead}
 use Rattle.block_store.specs.transporter.LiveWordsUnchanged.{OnlyGrows}
 use Rattle.block_store.specs.transporter.Making.{HasQuota, MadeOn}
 use Rattle.cdr_lists.specs.Lists.{CanList, ListedOn, MeansValues, cell_code, cell_word, item_word}
-use Rattle.heap_load.specs.declared.places.Place.{Place}
-use Rattle.heap_load.specs.Places.{cell_place, place_at}
+use Rattle.heap_load.specs.Places.{PlaceView, cell_place, place_at}
 use Rattle.heap_load.specs.Loading.{Drafted, IsLoadable, IsPlace, tag_for}
 use Rattle.heap_load.proofs.NewDrafts.{drafted_more, nil_word, quota_for, store_with}
 
@@ -160,7 +159,7 @@ nils_mean role nil is count = record {
 }
 
 -- a list of `count` conses can be made
-module _ (m : Memory.Store) (t : Table) (world : World) (places : List Place) (number count : ℕ) (group : to_tail (object_at world.objects number).area number (drop number world.objects) ≡ Some count)
+module _ (m : Memory.Store) (t : Table) (world : World) (places : List PlaceView) (number count : ℕ) (group : to_tail (object_at world.objects number).area number (drop number world.objects) ≡ Some count)
     (w : IsLoadable world) (x : Drafted m t world places number) (low : number < length world.objects) where
   pub group_within : number + count ≤ length world.objects
   group_within =
@@ -264,7 +263,7 @@ module _ (m : Memory.Store) (t : Table) (world : World) (places : List Place) (n
         not_last j less = let ne : (suc j == count) ≡ false = grind (arith, nat_tests) in rw ne refl
 
     -- the group is made
-    pub drafted_group : (places' : List Place) → OnlyGrows t t' → ((i : ℕ) → i < number → place_at places' i ≡ place_at places i) → ((i : ℕ) → i < count → place_at places' (number + i) ≡ cell_place (at + i))
+    pub drafted_group : (places' : List PlaceView) → OnlyGrows t t' → ((i : ℕ) → i < number → place_at places' i ≡ place_at places i) → ((i : ℕ) → i < count → place_at places' (number + i) ≡ cell_place (at + i))
         → Drafted m' t' world places' (number + count)
     drafted_group places' g before cells =
         let size = nils_count world number count group in
@@ -273,10 +272,10 @@ module _ (m : Memory.Store) (t : Table) (world : World) (places : List Place) (n
         (λ j l. placed j (omega arith)) (λ j l. drafted j (omega arith)))
       where
         drafted : (j : ℕ) → j < count → IsDraft (number + j) (object_at world.objects (number + j)) (object_at list j) (place_at places' (number + j)).cell
-        drafted j l = subst (λ (p : Place). IsDraft (number + j) (object_at world.objects (number + j)) (object_at list j) p.cell) (sym (cells j l)) (group_drafts world number count group j l)
+        drafted j l = subst (λ (p : PlaceView). IsDraft (number + j) (object_at world.objects (number + j)) (object_at list j) p.cell) (sym (cells j l)) (group_drafts world number count group j l)
 
         placed : (j : ℕ) → j < count → IsPlace y.map (place_at places' (number + j)) (number + j) (object_at world.objects (number + j)).body
         placed j l =
             let c = group_conses world number count group j l in
-            subst (λ (p : Place). IsPlace y.map p (number + j) (object_at world.objects (number + j)).body) (sym (cells j l))
+            subst (λ (p : PlaceView). IsPlace y.map p (number + j) (object_at world.objects (number + j)).body) (sym (cells j l))
             (record { names = cells_named j l; tag = ap tag_for (sym c.2) })

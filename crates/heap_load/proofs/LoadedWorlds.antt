@@ -21,8 +21,7 @@ use Rattle.block_store.specs.lisp_ground.GroundInvariant.{GroundInvariant}
 use Rattle.block_store.proofs.lisp_ground.words.FinalAddresses.{final_is_place}
 use Rattle.cdr_lists.specs.Lists.{cell_code}
 use Rattle.cdr_lists.proofs.SettledCell.{final_itself}
-use Rattle.heap_load.specs.declared.places.Place.{Place}
-use Rattle.heap_load.specs.Places.{place_at, word_of}
+use Rattle.heap_load.specs.Places.{PlaceView, place_at, word_of}
 use Rattle.heap_load.specs.Loading.{RepresentsGroups, RepresentsSome, RepresentsWorld, Filled, HoldsSome, IsLoadable, Laid, code_for, emptied, group_from}
 use Rattle.heap_load.proofs.NewDrafts.{store_with}
 use Rattle.heap_load.proofs.ConsPlaces.{cons_named}
@@ -72,13 +71,13 @@ pub represents_some : (m : Store) (t : Table) (registers : List Parts) (world : 
 represents_some m t registers world x = record { objects = world.objects; roots = world.roots; represents = x }
 
 -- the word of a value has it
-pub root_means : (m : Store) (t : Table) (world : World) (places : List Place) (count : ℕ) (x : Filled m t world places count) (v : Value) → RefersBelow (length world.objects) v → value_of x.holds.map.role (word_of places v).content ≡ Some v
+pub root_means : (m : Store) (t : Table) (world : World) (places : List PlaceView) (count : ℕ) (x : Filled m t world places count) (v : Value) → RefersBelow (length world.objects) v → value_of x.holds.map.role (word_of places v).content ≡ Some v
 root_means m t world places count x (V.Fix i) below = refl
 root_means m t world places count x V.Nil below = refl
 root_means m t world places count x (V.Ref name) below = (x.places_are name below).names
 
 -- all objects have their parts, and the registers are the roots
-abbrev pub represents_loaded : (m : Store) (t : Table) (registers : List Parts) (world : World) (places : List Place) → IsLoadable world → Filled m t world places (length world.objects) → length registers ≡ length world.roots
+abbrev pub represents_loaded : (m : Store) (t : Table) (registers : List Parts) (world : World) (places : List PlaceView) → IsLoadable world → Filled m t world places (length world.objects) → length registers ≡ length world.roots
     → ((r : ℕ) → r < length world.roots → get_or registers r null_word ≡ word_of places (get_or world.roots r V.Nil)) → RepresentsWorld m t registers world
 represents_loaded m t registers world places w x size roots =
     let same : x.objects ≡ world.objects = ext_get_or no_object x.objects world.objects x.count_is (λ i low. x.filled i (let count = x.count_is in omega arith)) in
@@ -94,7 +93,7 @@ represents_loaded m t registers world places w x size roots =
 
 -- Groups
 
-module _ (m : Store) (t : Table) (world : World) (places : List Place) (x : Filled m t world places (length world.objects)) (laid : Laid m.words places world.objects (length world.objects)) where
+module _ (m : Store) (t : Table) (world : World) (places : List PlaceView) (x : Filled m t world places (length world.objects)) (laid : Laid m.words places world.objects (length world.objects)) where
   -- the address of a cons is that of its name
   cons_at : (i : ℕ) (low : i < length world.objects) (car cdr : Value) (body : (object_at world.objects i).body ≡ Cons car cdr) → (laid.each i low car cdr body).at ≡ x.holds.map.at i
   cons_at i low car cdr body =

@@ -7,7 +7,7 @@ use Rattle.std.proofs.lemmas.List.Sums.{sum_by-cons}
 use Rattle.std.proofs.lemmas.List.{get_or_default, get_or_append_left, get_or-append-add, get_or-set_same, get_or-set_other, length-replicate}
 use Rattle.store_word.specs.Words.{Parts, tag_of}
 use Rattle.store_word.specs.declared.word.CdrCode.TheVariants.{Next}
-use Rattle.store_word.specs.declared.word.Content.TheVariants.{Nil as NilWord, List as ListAt, Struct as StructAt}
+use Rattle.store_word.specs.declared.word.Content.TheVariants.{Nil as NilWord}
 use Rattle.lisp_graph.specs.declared.object.Value.{Value}
 use Rattle.lisp_graph.specs.declared.object.Value.TheVariants as V
 use Rattle.lisp_graph.specs.declared.object.Body.{Body}
@@ -36,8 +36,7 @@ use Rattle.block_store.specs.transporter.Transports.{WordsUnchanged}
 use Rattle.cdr_lists.specs.Pairs.{CanPair, PairedOn}
 use Rattle.block_store.specs.Making.{CanMake, MakesBlock}
 use Rattle.heap_state.proofs.SettledRegister.{aims_grown}
-use Rattle.heap_load.specs.declared.places.Place.{Place}
-use Rattle.heap_load.specs.Places.{no_place, place_at, word_of}
+use Rattle.heap_load.specs.Places.{PlaceView, block_place, no_place, pair_place, place_at, word_of}
 use Rattle.heap_load.specs.Loading.{Drafted, Holds, HoldsSome, IsLoadable, IsPlace, tag_for}
 
 -- the store of these objects
@@ -53,7 +52,7 @@ holds_more m m' t t' world objects made x kind at y g = record {
   aims = aims_grown t t' Idle g x.aims;
 }
 
-module _ (m m' : Store) (t t' : Table) (world : World) (places places' : List Place) (n : ℕ) (x : Drafted m t world places n) (made : List Object) (kind : Kind) (at : ℕ)
+module _ (m m' : Store) (t t' : Table) (world : World) (places places' : List PlaceView) (n : ℕ) (x : Drafted m t world places n) (made : List Object) (kind : Kind) (at : ℕ)
     (y : MadeOn m t m' t' x.holds.map world.space.levels world.areas (store_with world x.objects) (with_made (store_with world x.objects) made 0) no_aim kind at)
     (g : OnlyGrows t t') (before : (i : ℕ) → i < n → place_at places' i ≡ place_at places i)
     (placed : (j : ℕ) → j < length made → IsPlace y.map (place_at places' (n + j)) (n + j) (object_at world.objects (n + j)).body)
@@ -61,7 +60,7 @@ module _ (m m' : Store) (t t' : Table) (world : World) (places places' : List Pl
   place_before : (i : ℕ) → i < n → IsPlace y.map (place_at places' i) i (object_at world.objects i).body
   place_before i low =
       let was = x.places_are i low in
-      subst (λ (p : Place). IsPlace y.map p i (object_at world.objects i).body) (sym (before i low))
+      subst (λ (p : PlaceView). IsPlace y.map p i (object_at world.objects i).body) (sym (before i low))
       (record { names = refined x.holds.map.role y.map.role y.refines (place_at places i).word.content (V.Ref i) was.names; tag = was.tag })
 
   place_of : (i : ℕ) → i < n + length made → IsPlace y.map (place_at places' i) i (object_at world.objects i).body
@@ -77,8 +76,8 @@ module _ (m m' : Store) (t t' : Table) (world : World) (places places' : List Pl
   draft_before i low =
       let count = x.count_is in
       let same : object_at (x.objects ++ made) i ≡ object_at x.objects i = get_or_append_left x.objects made no_object i (omega arith) in
-      let P : Object → Place → Type 0 = λ o p. IsDraft i (object_at world.objects i) o p.cell in
-      subst (λ (p : Place). P (object_at (x.objects ++ made) i) p) (sym (before i low)) (subst (λ (o : Object). P o (place_at places i)) (sym same) (x.drafts i low))
+      let P : Object → PlaceView → Type 0 = λ o p. IsDraft i (object_at world.objects i) o p.cell in
+      subst (λ (p : PlaceView). P (object_at (x.objects ++ made) i) p) (sym (before i low)) (subst (λ (o : Object). P o (place_at places i)) (sym same) (x.drafts i low))
 
   made_at : (j : ℕ) → object_at (x.objects ++ made) (n + j) ≡ object_at made j
   made_at j = ap (λ (k : ℕ). object_at (x.objects ++ made) (k + j)) (sym x.count_is) ∙ get_or-append-add x.objects made j no_object
@@ -106,7 +105,7 @@ module _ (m m' : Store) (t t' : Table) (world : World) (places places' : List Pl
       }
 
 -- there is quota for more drafts
-module _ (m : Store) (t : Table) (world : World) (places : List Place) (n : ℕ) (w : IsLoadable world) (x : Drafted m t world places n) (made : List Object) (area : ℕ)
+module _ (m : Store) (t : Table) (world : World) (places : List PlaceView) (n : ℕ) (w : IsLoadable world) (x : Drafted m t world places n) (made : List Object) (area : ℕ)
     (few : n + length made ≤ length world.objects) (low : area < length world.areas)
     (same : (j : ℕ) → j < length made → ((object_at made j).area ≡ (object_at world.objects (n + j)).area) × ((object_at made j).charge ≡ (object_at world.objects (n + j)).charge)) where
   alike : (i : ℕ) → i < length (x.objects ++ made) → ((object_at (x.objects ++ made) i).area ≡ (object_at world.objects i).area) × ((object_at (x.objects ++ made) i).charge ≡ (object_at world.objects i).charge)
@@ -134,7 +133,7 @@ module _ (m : Store) (t : Table) (world : World) (places : List Place) (n : ℕ)
       record { area_in = low; level_in = omega arith; fits = omega arith }
 
 -- if nothing was made the ground represents the same objects
-pub drafted_left : (m m' : Store) (t t' : Table) (world : World) (places : List Place) (n : ℕ) → Drafted m t world places n → WordsUnchanged m t m' t' → OnlyGrows t t' → HoldsSome m' t' world
+pub drafted_left : (m m' : Store) (t t' : Table) (world : World) (places : List PlaceView) (n : ℕ) → Drafted m t world places n → WordsUnchanged m t m' t' → OnlyGrows t t' → HoldsSome m' t' world
 drafted_left m m' t t' world places n x stays g = record {
   objects = x.objects;
   holds = record { map = x.holds.map; kept = stays.kept x.holds.map world.space.levels world.areas (store_with world x.objects) no_aim x.holds.kept; aims = aims_grown t t' Idle g x.holds.aims };
@@ -160,7 +159,7 @@ charge_alone o =
     let none : charge_in o.area [] ≡ 0 = refl in
     omega (arith, s, one, none)
 
-module _ (m : Store) (t : Table) (world : World) (places : List Place) (n : ℕ) (w : IsLoadable world) (x : Drafted m t world places n) (low : n < length world.objects) (made : Object) (draft : IsDraft n (object_at world.objects n) made false) where
+module _ (m : Store) (t : Table) (world : World) (places : List PlaceView) (n : ℕ) (w : IsLoadable world) (x : Drafted m t world places n) (low : n < length world.objects) (made : Object) (draft : IsDraft n (object_at world.objects n) made false) where
   here_is : n + 0 ≡ n
   here_is = omega arith
 
@@ -180,12 +179,12 @@ module _ (m : Store) (t : Table) (world : World) (places : List Place) (n : ℕ)
       (λ i before. get_or-set_other places n i place no_place (λ e. omega arith))
       (below_one (λ j. IsPlace y.map (place_at (slice_set places n place) (n + j)) (n + j) (object_at world.objects (n + j)).body)
       (subst (λ (k : ℕ). IsPlace y.map (place_at (slice_set places n place) k) k (object_at world.objects k).body) (sym here_is)
-      (subst (λ (p : Place). IsPlace y.map p n (object_at world.objects n).body) (sym place_here) (record { names = named kind y.there is; tag = tag }))))
+      (subst (λ (p : PlaceView). IsPlace y.map p n (object_at world.objects n).body) (sym place_here) (record { names = named kind y.there is; tag = tag }))))
       (below_one (λ j. IsDraft (n + j) (object_at world.objects (n + j)) (object_at (made ∷ []) j) (place_at (slice_set places n place) (n + j)).cell)
       (subst (λ (k : ℕ). IsDraft k (object_at world.objects k) made (place_at (slice_set places n place) k).cell) (sym here_is)
-      (subst (λ (p : Place). IsDraft n (object_at world.objects n) made p.cell) (sym place_here) draft)))
+      (subst (λ (p : PlaceView). IsDraft n (object_at world.objects n) made p.cell) (sym place_here) draft)))
     where
-      place : Place
+      place : PlaceView
       place = record { word = word; cell = false }
 
       place_here : place_at (slice_set places n place) n ≡ place
@@ -206,7 +205,7 @@ part_given : (n : ℕ) (v : Value) → is_known n v ≡ true → known_part n v 
 part_given n v e = rw e refl
 
 -- its word means it
-pub given_means : (m : Store) (t : Table) (world : World) (places : List Place) (n : ℕ) (x : Drafted m t world places n) (v : Value) → value_of x.holds.map.role (word_of places (known_part n v)).content ≡ Some (known_part n v)
+pub given_means : (m : Store) (t : Table) (world : World) (places : List PlaceView) (n : ℕ) (x : Drafted m t world places n) (v : Value) → value_of x.holds.map.role (word_of places (known_part n v)).content ≡ Some (known_part n v)
 given_means m t world places n x (V.Fix i) = refl
 given_means m t world places n x V.Nil = refl
 given_means m t world places n x (V.Ref name) = go (cases_lt name n)
@@ -217,7 +216,7 @@ given_means m t world places n x (V.Ref name) = go (cases_lt name n)
 
 -- A cons
 
-module _ (m : Store) (t : Table) (world : World) (places : List Place) (n : ℕ) (w : IsLoadable world) (x : Drafted m t world places n) (low : n < length world.objects) (o : Object) (is : o ≡ object_at world.objects n) where
+module _ (m : Store) (t : Table) (world : World) (places : List PlaceView) (n : ℕ) (w : IsLoadable world) (x : Drafted m t world places n) (low : n < length world.objects) (o : Object) (is : o ≡ object_at world.objects n) where
   module _ (car cdr : Value) (body : o.body ≡ Cons car cdr) where
     pub whole_cons : (object_at world.objects n).body ≡ Cons car cdr
     whole_cons = ap (λ (p : Object). p.body) (sym is) ∙ body
@@ -257,10 +256,10 @@ module _ (m : Store) (t : Table) (world : World) (places : List Place) (n : ℕ)
     }
 
     pub pair_drafted : (m' : Store) (t' : Table) (first second : Parts) → first ≡ word_of places (known_part n car) → second ≡ word_of places (known_part n cdr) → (at : ℕ) → PairedOn m t m' t' o.area 0 o.charge first second at → OnlyGrows t t' → length places ≡ length world.objects
-        → (word : Parts) → word ≡ record { cdr = Next; content = ListAt at } → Drafted m' t' world (slice_set places n (record { word = word; cell = false })) (n + 1)
-    pair_drafted m' t' first second first_is second_is at made g size word word_is = drafted_alone m t world places n w x low pair_made pair_draft m' t' AsCons at
+        → Drafted m' t' world (slice_set places n (pair_place at)) (n + 1)
+    pair_drafted m' t' first second first_is second_is at made g size = drafted_alone m t world places n w x low pair_made pair_draft m' t' AsCons at
         (made x.holds.map world.space.levels world.areas (store_with world x.objects) no_aim (known_part n car) (known_part n cdr) x.holds.kept (quota_alone m t world places n w x low pair_made pair_draft) (part_means car first first_is) (part_means cdr second second_is))
-        g size word (ap (λ (p : Parts). p.content) word_is) (ap (λ (p : Parts). tag_of p.content) word_is ∙ sym (ap tag_for whole_cons))
+        g size (pair_place at).word refl (sym (ap tag_for whole_cons))
 
   -- A block
 
@@ -296,7 +295,7 @@ module _ (m : Store) (t : Table) (world : World) (places : List Place) (n : ℕ)
     }
 
     pub block_drafted : (m' : Store) (t' : Table) (at : ℕ) → MakesBlock m t m' t' o.area 0 code (length fields) at → OnlyGrows t t' → length places ≡ length world.objects
-        → (word : Parts) → word ≡ record { cdr = Next; content = StructAt at } → Drafted m' t' world (slice_set places n (record { word = word; cell = false })) (n + 1)
-    block_drafted m' t' at made g size word word_is = drafted_alone m t world places n w x low (block_of o.area code (length fields)) block_draft m' t' AsBlock at
+        → Drafted m' t' world (slice_set places n (block_place at)) (n + 1)
+    block_drafted m' t' at made g size = drafted_alone m t world places n w x low (block_of o.area code (length fields)) block_draft m' t' AsBlock at
         (made x.holds.map world.space.levels world.areas (store_with world x.objects) no_aim x.holds.kept (quota_alone m t world places n w x low (block_of o.area code (length fields)) block_draft))
-        g size word (ap (λ (p : Parts). p.content) word_is) (ap (λ (p : Parts). tag_of p.content) word_is ∙ sym (ap tag_for whole_block))
+        g size (block_place at).word refl (sym (ap tag_for whole_block))

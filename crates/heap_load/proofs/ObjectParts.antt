@@ -27,13 +27,12 @@ use Rattle.cdr_lists.specs.Parts.{CanSet, SetsCar, SetsCdr}
 use Rattle.cdr_lists.specs.Reading.{CanRead}
 use Rattle.heap_state.specs.PhaseAgrees.{PhaseAgrees}
 use Rattle.heap_state.proofs.SettledRegister.{aims_grown}
-use Rattle.heap_load.specs.declared.places.Place.{Place}
-use Rattle.heap_load.specs.Places.{no_place, place_at, word_of}
+use Rattle.heap_load.specs.Places.{PlaceView, no_place, place_at, word_of}
 use Rattle.heap_load.specs.Loading.{Drafted, Filled, Filling, Holds, HoldsSome, IsLoadable}
 use Rattle.heap_load.proofs.NewDrafts.{store_with}
 
 -- all drafts are made
-pub filled_none : (m : Store) (t : Table) (world : World) (places : List Place) → Drafted m t world places (length world.objects) → Filled m t world places 0
+pub filled_none : (m : Store) (t : Table) (world : World) (places : List PlaceView) → Drafted m t world places (length world.objects) → Filled m t world places 0
 filled_none m t world places x = record {
   objects = x.objects;
   holds = x.holds;
@@ -58,7 +57,7 @@ draft_block (Block other fields) code count e =
 
 -- One object gets its parts
 
-module _ (m : Store) (t : Table) (world : World) (places : List Place) (n : ℕ) where
+module _ (m : Store) (t : Table) (world : World) (places : List PlaceView) (n : ℕ) where
   pub filling_from : (x : Filled m t world places n) → n < length world.objects → Filling m t world places n (object_at x.objects n).body
   filling_from x low =
       let d = x.drafts n (omega arith) low in
@@ -117,7 +116,7 @@ module _ (m : Store) (t : Table) (world : World) (places : List Place) (n : ℕ)
 -- Words of values
 
 -- the word of a value has it
-pub word_means : (m : Store) (t : Table) (world : World) (places : List Place) (n : ℕ) (body : Body) (x : Filling m t world places n body) → length places ≡ length world.objects
+pub word_means : (m : Store) (t : Table) (world : World) (places : List PlaceView) (n : ℕ) (body : Body) (x : Filling m t world places n body) → length places ≡ length world.objects
     → (v : Value) → RefersBelow (length world.objects) v → value_of x.holds.map.role (word_of places v).content ≡ Some v
 word_means m t world places n body x same (V.Fix i) below = refl
 word_means m t world places n body x same V.Nil below = refl
@@ -125,7 +124,7 @@ word_means m t world places n body x same (V.Ref name) below = (x.places_are nam
 
 -- A cons
 
-module _ (m : Store) (t : Table) (world : World) (places : List Place) (n : ℕ) (body : Body) (x : Filling m t world places n body) (low : n < length world.objects) where
+module _ (m : Store) (t : Table) (world : World) (places : List PlaceView) (n : ℕ) (body : Body) (x : Filling m t world places n body) (low : n < length world.objects) where
   can_read : CanRead m t x.holds.map world.space.levels world.areas [] (store_with world x.objects) no_aim (place_at places n).word.content (V.Ref n)
   can_read = record { kept = x.holds.kept; value_is = (x.places_are n low).names; survives = λ region old. absurd (x.holds.aims.1 region old) }
 
@@ -177,7 +176,7 @@ module _ (m : Store) (t : Table) (world : World) (places : List Place) (n : ℕ)
 -- The fields of a block
 
 -- the next object is a block with its first fields
-pub record FieldsFilled (m : Store) (t : Table) (world : World) (places : List Place) (n : ℕ) (fields : List Value) (done : ℕ) : Type 0 where
+pub record FieldsFilled (m : Store) (t : Table) (world : World) (places : List PlaceView) (n : ℕ) (fields : List Value) (done : ℕ) : Type 0 where
   pub code : ℕ
   pub body : (object_at world.objects n).body ≡ Block code fields
   pub so_far : List Value
@@ -185,7 +184,7 @@ pub record FieldsFilled (m : Store) (t : Table) (world : World) (places : List P
   pub length_is : length so_far ≡ length fields
   pub first : (i : ℕ) → i < done → get_or so_far i V.Nil ≡ get_or fields i V.Nil
 
-pub fields_none : (m : Store) (t : Table) (world : World) (places : List Place) (n code : ℕ) (fields : List Value) → (object_at world.objects n).body ≡ Block code fields → n < length world.objects → Filled m t world places n → FieldsFilled m t world places n fields 0
+pub fields_none : (m : Store) (t : Table) (world : World) (places : List PlaceView) (n code : ℕ) (fields : List Value) → (object_at world.objects n).body ≡ Block code fields → n < length world.objects → Filled m t world places n → FieldsFilled m t world places n fields 0
 fields_none m t world places n code fields body low x =
     let d = x.drafts n (omega arith) low in
     let b = draft_block (object_at x.objects n).body code (length fields) (sym (d.header ∙ ap header_of body)) in
@@ -198,7 +197,7 @@ fields_none m t world places n code fields body low x =
       first = λ i before. absurd (omega arith);
     }
 
-pub fields_more : (m m' : Store) (t t' : Table) (world : World) (places : List Place) (n : ℕ) (fields : List Value) (done : ℕ) (x : FieldsFilled m t world places n fields done) → done < length fields
+pub fields_more : (m m' : Store) (t t' : Table) (world : World) (places : List PlaceView) (n : ℕ) (fields : List Value) (done : ℕ) (x : FieldsFilled m t world places n fields done) → done < length fields
     → Filling m' t' world places n (Block x.code (slice_set x.so_far done (get_or fields done V.Nil))) → FieldsFilled m' t' world places n fields (done + 1)
 fields_more m m' t t' world places n fields done x low filling = record {
   code = x.code;
@@ -214,7 +213,7 @@ fields_more m m' t t' world places n fields done x low filling = record {
   ];
 }
 
-pub fields_all : (m : Store) (t : Table) (world : World) (places : List Place) (n : ℕ) (fields : List Value) (done : ℕ) → FieldsFilled m t world places n fields done → length fields ≤ done → Filled m t world places (n + 1)
+pub fields_all : (m : Store) (t : Table) (world : World) (places : List PlaceView) (n : ℕ) (fields : List Value) (done : ℕ) → FieldsFilled m t world places n fields done → length fields ≤ done → Filled m t world places (n + 1)
 fields_all m t world places n fields done x past =
     let same : x.so_far ≡ fields = ext_get_or V.Nil x.so_far fields x.length_is (λ i low. x.first i (let size = x.length_is in omega arith)) in
     filled_next m t world places n (subst (Filling m t world places n) (ap (Block x.code) same ∙ sym x.body) x.filling)
@@ -222,7 +221,7 @@ fields_all m t world places n fields done x past =
 -- The parts of a cons
 
 -- the next object is a cons; a cell has the cdr of the world, and a pair the parts that were known when it was made
-pub record ConsFilling (m : Store) (t : Table) (world : World) (places : List Place) (n : ℕ) (car cdr : Value) : Type 0 where
+pub record ConsFilling (m : Store) (t : Table) (world : World) (places : List PlaceView) (n : ℕ) (car cdr : Value) : Type 0 where
   pub old : Value
   pub rest : Value
   pub filling : Filling m t world places n (Cons old rest)
@@ -230,7 +229,7 @@ pub record ConsFilling (m : Store) (t : Table) (world : World) (places : List Pl
   pub first : (place_at places n).cell ≡ false → is_known n car ≡ true → old ≡ car
   pub second : (place_at places n).cell ≡ false → is_known n cdr ≡ true → rest ≡ cdr
 
-pub cons_start : (m : Store) (t : Table) (world : World) (places : List Place) (n : ℕ) (car cdr : Value) → (object_at world.objects n).body ≡ Cons car cdr → n < length world.objects → Filled m t world places n → ConsFilling m t world places n car cdr
+pub cons_start : (m : Store) (t : Table) (world : World) (places : List PlaceView) (n : ℕ) (car cdr : Value) → (object_at world.objects n).body ≡ Cons car cdr → n < length world.objects → Filled m t world places n → ConsFilling m t world places n car cdr
 cons_start m t world places n car cdr body low x =
     let d = x.drafts n (omega arith) low in
     let b = draft_cons (object_at x.objects n).body (sym (d.header ∙ ap header_of body)) in
@@ -244,7 +243,7 @@ cons_start m t world places n car cdr body low x =
     }
 
 -- the place that is read
-pub place_there : (places : List Place) (n : ℕ) (read : Place) (objects : List Object) → length places ≡ length objects → n < length objects → get_or places n read ≡ place_at places n
+pub place_there : (places : List PlaceView) (n : ℕ) (read : PlaceView) (objects : List Object) → length places ≡ length objects → n < length objects → get_or places n read ≡ place_at places n
 place_there places n read objects same low = get_or_default places n read no_place (omega arith)
 
 -- each part refers to an object of the world

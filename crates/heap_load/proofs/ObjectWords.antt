@@ -31,9 +31,8 @@ use Rattle.cdr_lists.specs.Pairs.{second_code}
 use Rattle.cdr_lists.proofs.ConsAddresses.{CanSetAt, sets_car, sets_cdr, settable_at}
 use Rattle.cdr_lists.proofs.PartStores.{car_set, cdr_set, second_inside}
 use Rattle.cdr_lists.proofs.SettledCell.{final_itself, no_change}
-use Rattle.heap_load.specs.declared.places.Place.{Place}
 use Rattle.heap_load.specs.Drafts.{is_known}
-use Rattle.heap_load.specs.Places.{cell_code_of, place_at, word_of}
+use Rattle.heap_load.specs.Places.{PlaceView, cell_code_of, place_at, word_of}
 use Rattle.heap_load.specs.Loading.{BlockStandsIn, CarFilled, Filled, Filling, HoldsSome, IsLoadable, Laid, StandsIn, code_for}
 use Rattle.heap_load.proofs.NewDrafts.{store_with}
 use Rattle.heap_load.proofs.ObjectParts.{ConsFilling, FieldsFilled, body_here, can_set, car_filled, cdr_filled, cons_start, field_filled, fields_more, filled_next, filling_read, parts_below, word_means}
@@ -48,7 +47,7 @@ code_of_charge charge code (inr p) = p.1 ∙ ap second_code (sym p.0)
 same_place : (a b : ℕ) → ListAt a ≡ ListAt b → a ≡ b
 same_place a b e = cc
 
-module _ (m : Store) (t : Table) (world : World) (places : List Place) (n : ℕ) (first second : Value) (x : Filling m t world places n (Cons first second)) (low : n < length world.objects)
+module _ (m : Store) (t : Table) (world : World) (places : List PlaceView) (n : ℕ) (first second : Value) (x : Filling m t world places n (Cons first second)) (low : n < length world.objects)
     (laid : Laid m.words places world.objects (length world.objects)) (car cdr : Value) (body : (object_at world.objects n).body ≡ Cons car cdr) (at : ℕ) (is : (place_at places n).word.content ≡ ListAt at) where
   stands : StandsIn m.words places world.objects (length world.objects) n
   stands = laid.each n low car cdr body
@@ -113,7 +112,7 @@ module _ (m : Store) (t : Table) (world : World) (places : List Place) (n : ℕ)
 
 -- The parts of a cons get stored
 
-module _ (m : Store) (t : Table) (world : World) (places : List Place) (n : ℕ) (w : IsLoadable world) (size : length places ≡ length world.objects) (low : n < length world.objects)
+module _ (m : Store) (t : Table) (world : World) (places : List PlaceView) (n : ℕ) (w : IsLoadable world) (size : length places ≡ length world.objects) (low : n < length world.objects)
     (laid : Laid m.words places world.objects (length world.objects)) (car cdr : Value) (body : (object_at world.objects n).body ≡ Cons car cdr) where
   module _ (filled : Filled m t world places n) where
     start : ConsFilling m t world places n car cdr
@@ -189,7 +188,7 @@ module _ (m : Store) (t : Table) (world : World) (places : List Place) (n : ℕ)
 
 -- The fields of a block get stored
 
-module _ (m : Store) (t : Table) (world : World) (places : List Place) (n : ℕ) (w : IsLoadable world) (size : length places ≡ length world.objects) (low : n < length world.objects)
+module _ (m : Store) (t : Table) (world : World) (places : List PlaceView) (n : ℕ) (w : IsLoadable world) (size : length places ≡ length world.objects) (low : n < length world.objects)
     (laid : Laid m.words places world.objects (length world.objects)) (fields : List Value) (i : ℕ) (x : FieldsFilled m t world places n fields i) (less : i < length fields)
     (at : ℕ) (is : (place_at places n).word.content ≡ StructAt at) where
   block : BlockStandsIn m.words places (length fields) n

@@ -13,8 +13,8 @@ use Rattle.lisp_graph.specs.declared.object.Body.{Body}
 use Rattle.lisp_graph.specs.declared.object.Body.TheVariants.{Cons, Block}
 use Rattle.lisp_graph.specs.declared.object.Object.{Object}
 use Rattle.lisp_graph.specs.declared.world.World.{World}
-use Rattle.lisp_graph.specs.Graph.{object_at}
-use Rattle.lisp_graph.specs.Groups.{group_size, to_tail}
+use Rattle.lisp_graph.specs.Graph.{is_ref, object_at}
+use Rattle.lisp_graph.specs.Groups.{group_size, is_cell, to_tail}
 use Rattle.lisp_graph.specs.World.{IsWorld}
 use Rattle.mem_port.specs.Store.{Store}
 use Rattle.area_space.specs.Table.{Table}
@@ -28,8 +28,7 @@ use Rattle.block_store.specs.lisp_ground.GroundInvariant.{GroundInvariant}
 use Rattle.heap_state.specs.PhaseAgrees.{PhaseAgrees}
 use Rattle.heap_state.specs.Represents.{Represents}
 use Rattle.cdr_lists.specs.Lists.{cell_code}
-use Rattle.heap_load.specs.declared.places.Place.{Place}
-use Rattle.heap_load.specs.Places.{place_at}
+use Rattle.heap_load.specs.Places.{PlaceView, place_at}
 
 -- Worlds
 
@@ -49,6 +48,10 @@ emptied world = record world { objects = []; roots = replicate world.space.regis
 -- how many conses form a group from the object with this number on: at most 1,024, or 0 if there is none
 abbrev pub group_from : List Object → ℕ → ℕ
 group_from objects number = group_size (to_tail (object_at objects number).area number (drop number objects))
+
+-- the objects from this number up to another are conses of one area and of charge 3, and the cdr of each refers to the next object
+abbrev pub AreLinked : List Object → ℕ → ℕ → Type 0
+AreLinked objects number end = (i : ℕ) → number ≤ i → i < end → is_cell (object_at objects number).area (is_ref (i + 1)) (object_at objects i) ≡ true
 
 -- What is represented
 
@@ -82,12 +85,12 @@ tag_for (Cons car cdr) = ListTag
 tag_for (Block code fields) = StructTag
 
 -- a place has the reference to the object with this number, which has this body
-pub record IsPlace (k : RoleMap) (place : Place) (number : ℕ) (body : Body) : Type 0 where
+pub record IsPlace (k : RoleMap) (place : PlaceView) (number : ℕ) (body : Body) : Type 0 where
   pub names : value_of k.role place.word.content ≡ Some (V.Ref number)
   pub tag : tag_of place.word.content ≡ tag_for body
 
 -- the first `count` objects of a world are made as drafts, and have their places
-pub record Drafted (m : Store) (t : Table) (world : World) (places : List Place) (count : ℕ) : Type 0 where
+pub record Drafted (m : Store) (t : Table) (world : World) (places : List PlaceView) (count : ℕ) : Type 0 where
   pub objects : List Object
   pub holds : Holds m t world objects
   pub count_is : length objects ≡ count
@@ -95,7 +98,7 @@ pub record Drafted (m : Store) (t : Table) (world : World) (places : List Place)
   pub drafts : (i : ℕ) → i < count → IsDraft i (object_at world.objects i) (object_at objects i) (place_at places i).cell
 
 -- all objects are made and have their places; the first `count` have their parts, and the others are drafts
-pub record Filled (m : Store) (t : Table) (world : World) (places : List Place) (count : ℕ) : Type 0 where
+pub record Filled (m : Store) (t : Table) (world : World) (places : List PlaceView) (count : ℕ) : Type 0 where
   pub objects : List Object
   pub holds : Holds m t world objects
   pub count_is : length objects ≡ length world.objects
@@ -104,7 +107,7 @@ pub record Filled (m : Store) (t : Table) (world : World) (places : List Place) 
   pub drafts : (i : ℕ) → count ≤ i → i < length world.objects → IsDraft i (object_at world.objects i) (object_at objects i) (place_at places i).cell
 
 -- the same, and the next object has this body so far
-pub record Filling (m : Store) (t : Table) (world : World) (places : List Place) (count : ℕ) (body : Body) : Type 0 where
+pub record Filling (m : Store) (t : Table) (world : World) (places : List PlaceView) (count : ℕ) (body : Body) : Type 0 where
   pub objects : List Object
   pub holds : Holds m t world objects
   pub count_is : length objects ≡ length world.objects
@@ -114,7 +117,7 @@ pub record Filling (m : Store) (t : Table) (world : World) (places : List Place)
   pub drafts : (i : ℕ) → count < i → i < length world.objects → IsDraft i (object_at world.objects i) (object_at objects i) (place_at places i).cell
 
 -- the same, and the next object is a pair with this car, and with this cdr if that was known when the pair was made
-pub record CarFilled (m : Store) (t : Table) (world : World) (places : List Place) (count : ℕ) (car cdr : Value) : Type 0 where
+pub record CarFilled (m : Store) (t : Table) (world : World) (places : List PlaceView) (count : ℕ) (car cdr : Value) : Type 0 where
   pub rest : Value
   pub filling : Filling m t world places count (Cons car rest)
   pub known : is_known count cdr ≡ true → rest ≡ cdr
@@ -128,7 +131,7 @@ code_for (suc zero) = CdrNil
 code_for (suc (suc count)) = CdrNext
 
 -- the cons with this number, one of `count` that are made, is in its place, which holds no forward, with the cdr code of its group; the next cons of the group is made too, and lies in the next word
-pub record StandsIn (words : List Parts) (places : List Place) (objects : List Object) (count number : ℕ) : Type 0 where
+pub record StandsIn (words : List Parts) (places : List PlaceView) (objects : List Object) (count number : ℕ) : Type 0 where
   pub at : ℕ
   pub place_is : (place_at places number).word.content ≡ ListAt at
   pub final : IsFinal words at
@@ -138,14 +141,14 @@ pub record StandsIn (words : List Parts) (places : List Place) (objects : List O
   pub together : (place_at places number).cell ≡ true → 1 ≤ group_from objects number
 
 -- the block with this number and number of fields is in its place, which holds no forward; its fields have the cdr code of a register's word
-pub record BlockStandsIn (words : List Parts) (places : List Place) (fields number : ℕ) : Type 0 where
+pub record BlockStandsIn (words : List Parts) (places : List PlaceView) (fields number : ℕ) : Type 0 where
   pub at : ℕ
   pub place_is : (place_at places number).word.content ≡ StructAt at
   pub final : IsFinal words at
   pub codes : (i : ℕ) → i < fields → (word_at words (suc at + i)).cdr ≡ CdrNext
 
 -- each cons and each block among the first `count` objects of a world is in its place
-pub record Laid (words : List Parts) (places : List Place) (objects : List Object) (count : ℕ) : Type 0 where
+pub record Laid (words : List Parts) (places : List PlaceView) (objects : List Object) (count : ℕ) : Type 0 where
   pub each : (i : ℕ) → i < count → (car cdr : Value) → (object_at objects i).body ≡ Cons car cdr → StandsIn words places objects count i
   pub blocks : (i : ℕ) → i < count → (code : ℕ) (fields : List Value) → (object_at objects i).body ≡ Block code fields → BlockStandsIn words places (length fields) i
 

@@ -1,7 +1,7 @@
 -- What this crate's contracts state about grounds, in terms of their views.
 use Rattle.std.specs.Prelude.{List, ℕ}
 use Rattle.area_space.specs.View.{GroundView}
-use Rattle.heap_load.specs.declared.places.Place.{Place}
+use Rattle.heap_load.specs.Places.{PlaceView}
 use Rattle.lisp_graph.specs.declared.object.Value.{Value}
 use Rattle.lisp_graph.specs.declared.world.World.{World}
 use Rattle.store_word.specs.Words.{Parts}
@@ -16,13 +16,13 @@ RepresentsSome v = loading.RepresentsSome v.mem.store v.table
 abbrev pub RepresentsWorld : GroundView → List Parts → World → Type 0
 RepresentsWorld v = loading.RepresentsWorld v.mem.store v.table
 
-abbrev pub Drafted : GroundView → World → List Place → ℕ → Type 0
+abbrev pub Drafted : GroundView → World → List PlaceView → ℕ → Type 0
 Drafted v = loading.Drafted v.mem.store v.table
 
-abbrev pub Filled : GroundView → World → List Place → ℕ → Type 0
+abbrev pub Filled : GroundView → World → List PlaceView → ℕ → Type 0
 Filled v = loading.Filled v.mem.store v.table
 
-abbrev pub CarFilled : GroundView → World → List Place → ℕ → Value → Value → Type 0
+abbrev pub CarFilled : GroundView → World → List PlaceView → ℕ → Value → Value → Type 0
 CarFilled v = loading.CarFilled v.mem.store v.table
 
 abbrev pub HoldsSome : GroundView → World → Type 0

@@ -7,13 +7,13 @@ ghost use Rattle.lisp_graph.specs.Graph.{object_at};
 ghost use Rattle.lisp_graph.specs.Groups.{to_tail};
 ghost use Rattle.heap_load.specs.Loading.{IsLoadable, Laid, group_from};
 
-use crate::groups::group_from;
+use crate::groups::{Group, group_from};
 use crate::places::{Place, put_cells, word_so_far};
 use area_space::Ground;
 use block_store::make_block;
 use cdr_lists::{make_list, make_pair_of};
 use lisp_graph::{Body, Items, World};
-use mem_port::{Memory, assert_invariant};
+use mem_port::Memory;
 use std::sync::ledger::Ledger;
 use store_word::{Steps, SwapFault, Word};
 
@@ -34,34 +34,41 @@ pub(crate) fn make_drafts<M: Memory, L: Ledger>(
     ensures succeeds { world.now.objects ≡ [] → IsOk result }
     ensures accounted { AccountsForFaults (view ground.old).mem (view ground.new).mem steps.old steps.new result }
 {
-    let count = world.objects.as_slice().len();
+    let objects = world.objects.as_slice();
     let mut made = 0;
-    while made < count {
-        made += make_next(ground, world, places, made, steps)?;
+    let mut linked = 0;
+    while made < objects.len() {
+        let size = group_from(objects, made, &mut linked);
+        let group = Group {
+            number: made,
+            count: size,
+        };
+        made += make_next(ground, world, places, group, steps)?;
     }
     Ok(())
 }
 
-// Makes the group of conses that begins with this number, as one compact run, or that object alone,
-// and returns how many objects it made.
+// Makes the conses of a group as one compact run, or the object of its number alone if its count is 0, and returns
+// how many objects it made.
 fn make_next<M: Memory, L: Ledger>(
     ground: &mut Ground<M>,
     world: &World,
     places: &mut [Place],
-    number: usize,
+    group: Group,
     steps: &mut Steps<L>,
 ) -> Result<usize, SwapFault>
     requires loadable { IsLoadable world.now }
     requires places { length places.old ≡ length world.now.objects }
-    requires in_range { number < length world.now.objects }
-    requires made { Drafted (view ground.old) world.now places.old number }
-    requires laid { Laid (view ground.old).mem.store.words places.old world.now.objects number }
+    requires in_range { group.number < length world.now.objects }
+    requires agrees { group.count ≡ group_from world.now.objects group.number }
+    requires made { Drafted (view ground.old) world.now places.old group.number }
+    requires laid { Laid (view ground.old).mem.store.words places.old world.now.objects group.number }
 
     // what is made
-    ensures drafted { IfOk result (λ count. Drafted (view ground.new) world.now places.new (number + count)) }
+    ensures drafted { IfOk result (λ count. Drafted (view ground.new) world.now places.new (group.number + count)) }
     ensures some { IfOk result (λ count. 1 ≤ count) }
-    ensures count { IfOk result (λ count. number + count ≤ length world.now.objects) }
-    ensures stays_laid { IfOk result (λ count. Laid (view ground.new).mem.store.words places.new world.now.objects (number + count)) }
+    ensures count { IfOk result (λ count. group.number + count ≤ length world.now.objects) }
+    ensures stays_laid { IfOk result (λ count. Laid (view ground.new).mem.store.words places.new world.now.objects (group.number + count)) }
 
     // after a failure, and what is unchanged
     ensures left { OnErr result (HoldsSome (view ground.new) world.now) }
@@ -70,12 +77,12 @@ fn make_next<M: Memory, L: Ledger>(
     // swap errors
     ensures accounted { AccountsForFaults (view ground.old).mem (view ground.new).mem steps.old steps.new result }
 {
-    let count = group_from(world.objects.as_slice(), number);
+    let Group { number, count } = group;
     if count == 0 {
         make_alone(ground, world, places, number, steps)?;
         return Ok(1);
     }
-    make_group(ground, world, places, number, count, steps)?;
+    make_group(ground, world, places, group, steps)?;
     Ok(count)
 }
 
@@ -111,44 +118,37 @@ fn make_alone<M: Memory, L: Ledger>(
             let car = word_so_far(*car, number, places);
             let cdr = word_so_far(*cdr, number, places);
             let at = make_pair_of(ground, object.area, 0, object.charge, car, cdr, steps)?;
-            places[number] = Place {
-                word: Word::list_at(at),
-                cell: false,
-            };
+            places[number] = Place::pair(at);
             Ok(())
         }
         Body::Block { code, fields } => {
             let length = fields.len() as u16;
             let at = make_block(ground, object.area, 0, *code, length, steps)?;
-            places[number] = Place {
-                word: Word::struct_at(at),
-                cell: false,
-            };
+            places[number] = Place::block(at);
             Ok(())
         }
     }
 }
 
-// Makes a group of conses of this count as the cells of one list with nil in each car.
+// Makes the conses of a group as the cells of one list with nil in each car.
 fn make_group<M: Memory, L: Ledger>(
     ground: &mut Ground<M>,
     world: &World,
     places: &mut [Place],
-    number: usize,
-    count: usize,
+    group: Group,
     steps: &mut Steps<L>,
 ) -> Result<(), SwapFault>
     requires loadable { IsLoadable world.now }
     requires places { length places.old ≡ length world.now.objects }
-    requires in_range { number < length world.now.objects }
-    requires at_most { count ≤ 1024 }
-    requires agrees { to_tail (object_at world.now.objects number).area number (drop number world.now.objects) ≡ Some count }
-    requires made { Drafted (view ground.old) world.now places.old number }
-    requires laid { Laid (view ground.old).mem.store.words places.old world.now.objects number }
+    requires in_range { group.number < length world.now.objects }
+    requires at_most { group.count ≤ 1024 }
+    requires agrees { to_tail (object_at world.now.objects group.number).area group.number (drop group.number world.now.objects) ≡ Some group.count }
+    requires made { Drafted (view ground.old) world.now places.old group.number }
+    requires laid { Laid (view ground.old).mem.store.words places.old world.now.objects group.number }
 
     // what is made
-    ensures drafted { OnOk result (Drafted (view ground.new) world.now places.new (number + count)) }
-    ensures stays_laid { OnOk result (Laid (view ground.new).mem.store.words places.new world.now.objects (number + count)) }
+    ensures drafted { OnOk result (Drafted (view ground.new) world.now places.new (group.number + group.count)) }
+    ensures stays_laid { OnOk result (Laid (view ground.new).mem.store.words places.new world.now.objects (group.number + group.count)) }
 
     // after a failure, and what is unchanged
     ensures left { OnErr result (HoldsSome (view ground.new) world.now) }
@@ -157,11 +157,11 @@ fn make_group<M: Memory, L: Ledger>(
     // swap errors
     ensures accounted { AccountsForFaults (view ground.old).mem (view ground.new).mem steps.old steps.new result }
 {
+    let Group { number, count } = group;
     let area = world.objects.as_slice()[number].area;
     let registers = [Word::nil()];
     let items = first_items(count);
     let from = make_list(ground, area, 0, &registers, &items, steps)?;
-    assert_invariant(&ground.mem);
     put_cells(places, number, count, from);
     Ok(())
 }

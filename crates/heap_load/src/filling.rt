@@ -9,12 +9,20 @@ ghost use Rattle.mem_port.specs.Store.{Stores, StoresNothing};
 ghost use Rattle.heap_load.specs.Loading.{IsLoadable, Laid};
 ghost use Rattle.heap_load.specs.Places.{place_at};
 
-use crate::places::{Place, block_at, cell_code, cons_at, is_known, second_code, word_of};
+use crate::places::{Place, cell_code, is_known, second_code, word_of};
 use area_space::Ground;
 use lisp_graph::{Body, Value, World};
 use mem_port::Memory;
 use std::sync::ledger::Ledger;
 use store_word::{CdrCode, Steps, SwapFault, Word};
+
+// A cons that gets its parts: its number, and the car and the cdr that it has in the world.
+#[derive(Clone, Copy)]
+struct ConsParts {
+    number: usize,
+    car: Value,
+    cdr: Value,
+}
 
 /// Stores, in all objects of a world, the parts that weren't known when the objects were made.
 pub(crate) fn fill_drafts<M: Memory, L: Ledger>(
@@ -73,7 +81,14 @@ fn fill_object<M: Memory, L: Ledger>(
     ensures accounted { AccountsForFaults (view ground.old).mem (view ground.new).mem steps.old steps.new result }
 {
     match &world.objects.as_slice()[number].body {
-        Body::Cons { car, cdr } => fill_cons(ground, world, places, number, *car, *cdr, steps),
+        Body::Cons { car, cdr } => {
+            let cons = ConsParts {
+                number,
+                car: *car,
+                cdr: *cdr,
+            };
+            fill_cons(ground, world, places, cons, steps)
+        }
         Body::Block { code: _, fields } => {
             fill_block(ground, world, places, number, fields.as_slice(), steps)
         }
@@ -86,20 +101,18 @@ fn fill_cons<M: Memory, L: Ledger>(
     ground: &mut Ground<M>,
     world: &World,
     places: &[Place],
-    number: usize,
-    car: Value,
-    cdr: Value,
+    cons: ConsParts,
     steps: &mut Steps<L>,
 ) -> Result<(), SwapFault>
     requires loadable { IsLoadable world.now }
     requires places { length places.now ≡ length world.now.objects }
-    requires in_range { number < length world.now.objects }
-    requires agrees { (object_at world.now.objects number).body ≡ Cons car cdr }
-    requires filled { Filled (view ground.old) world.now places.now number }
+    requires in_range { cons.number < length world.now.objects }
+    requires agrees { (object_at world.now.objects cons.number).body ≡ Cons cons.car cons.cdr }
+    requires filled { Filled (view ground.old) world.now places.now cons.number }
     requires laid { Laid (view ground.old).mem.store.words places.now world.now.objects (length world.now.objects) }
 
     // what is stored
-    ensures stays_filled { OnOk result (Filled (view ground.new) world.now places.now (number + 1)) }
+    ensures stays_filled { OnOk result (Filled (view ground.new) world.now places.now (cons.number + 1)) }
     ensures stays_laid { OnOk result (Laid (view ground.new).mem.store.words places.now world.now.objects (length world.now.objects)) }
 
     // after a failure, and what is unchanged
@@ -109,11 +122,12 @@ fn fill_cons<M: Memory, L: Ledger>(
     // swap errors
     ensures accounted { AccountsForFaults (view ground.old).mem (view ground.new).mem steps.old steps.new result }
 {
-    if places[number].cell {
-        return fill_cell(ground, world, places, number, car, cdr, steps);
+    let ConsParts { number, .. } = cons;
+    if places[number].is_cell() {
+        return fill_cell(ground, world, places, cons, steps);
     }
-    fill_car(ground, world, places, number, car, cdr, steps)?;
-    fill_cdr(ground, world, places, number, car, cdr, steps)
+    fill_car(ground, world, places, cons, steps)?;
+    fill_cdr(ground, world, places, cons, steps)
 }
 
 // Stores the car of a cell.
@@ -121,21 +135,19 @@ fn fill_cell<M: Memory, L: Ledger>(
     ground: &mut Ground<M>,
     world: &World,
     places: &[Place],
-    number: usize,
-    car: Value,
-    cdr: Value,
+    cons: ConsParts,
     steps: &mut Steps<L>,
 ) -> Result<(), SwapFault>
     requires loadable { IsLoadable world.now }
     requires places { length places.now ≡ length world.now.objects }
-    requires in_range { number < length world.now.objects }
-    requires agrees { (object_at world.now.objects number).body ≡ Cons car cdr }
-    requires cell { (place_at places.now number).cell ≡ true }
-    requires filled { Filled (view ground.old) world.now places.now number }
+    requires in_range { cons.number < length world.now.objects }
+    requires agrees { (object_at world.now.objects cons.number).body ≡ Cons cons.car cons.cdr }
+    requires cell { (place_at places.now cons.number).cell ≡ true }
+    requires filled { Filled (view ground.old) world.now places.now cons.number }
     requires laid { Laid (view ground.old).mem.store.words places.now world.now.objects (length world.now.objects) }
 
     // what is stored
-    ensures stays_filled { OnOk result (Filled (view ground.new) world.now places.now (number + 1)) }
+    ensures stays_filled { OnOk result (Filled (view ground.new) world.now places.now (cons.number + 1)) }
     ensures stays_laid { OnOk result (Laid (view ground.new).mem.store.words places.now world.now.objects (length world.now.objects)) }
 
     // after a failure, and what is unchanged
@@ -145,7 +157,8 @@ fn fill_cell<M: Memory, L: Ledger>(
     // swap errors
     ensures accounted { AccountsForFaults (view ground.old).mem (view ground.new).mem steps.old steps.new result }
 {
-    let at = cons_at(places[number].word);
+    let ConsParts { number, car, cdr } = cons;
+    let at = places[number].cons_at();
     let first = word_of(car, places).with_cdr(cell_code(cdr));
     store(ground, at, first, steps)
 }
@@ -155,21 +168,19 @@ fn fill_car<M: Memory, L: Ledger>(
     ground: &mut Ground<M>,
     world: &World,
     places: &[Place],
-    number: usize,
-    car: Value,
-    cdr: Value,
+    cons: ConsParts,
     steps: &mut Steps<L>,
 ) -> Result<(), SwapFault>
     requires loadable { IsLoadable world.now }
     requires places { length places.now ≡ length world.now.objects }
-    requires in_range { number < length world.now.objects }
-    requires agrees { (object_at world.now.objects number).body ≡ Cons car cdr }
-    requires pair { (place_at places.now number).cell ≡ false }
-    requires filled { Filled (view ground.old) world.now places.now number }
+    requires in_range { cons.number < length world.now.objects }
+    requires agrees { (object_at world.now.objects cons.number).body ≡ Cons cons.car cons.cdr }
+    requires pair { (place_at places.now cons.number).cell ≡ false }
+    requires filled { Filled (view ground.old) world.now places.now cons.number }
     requires laid { Laid (view ground.old).mem.store.words places.now world.now.objects (length world.now.objects) }
 
     // what is stored
-    ensures stays_filled { OnOk result (CarFilled (view ground.new) world.now places.now number car cdr) }
+    ensures stays_filled { OnOk result (CarFilled (view ground.new) world.now places.now cons.number cons.car cons.cdr) }
     ensures stays_laid { OnOk result (Laid (view ground.new).mem.store.words places.now world.now.objects (length world.now.objects)) }
 
     // after a failure, and what is unchanged
@@ -179,10 +190,11 @@ fn fill_car<M: Memory, L: Ledger>(
     // swap errors
     ensures accounted { AccountsForFaults (view ground.old).mem (view ground.new).mem steps.old steps.new result }
 {
+    let ConsParts { number, car, .. } = cons;
     if is_known(car, number) {
         return Ok(());
     }
-    let at = cons_at(places[number].word);
+    let at = places[number].cons_at();
     let first = word_of(car, places).with_cdr(CdrCode::Normal);
     store(ground, at, first, steps)
 }
@@ -192,21 +204,19 @@ fn fill_cdr<M: Memory, L: Ledger>(
     ground: &mut Ground<M>,
     world: &World,
     places: &[Place],
-    number: usize,
-    car: Value,
-    cdr: Value,
+    cons: ConsParts,
     steps: &mut Steps<L>,
 ) -> Result<(), SwapFault>
     requires loadable { IsLoadable world.now }
     requires places { length places.now ≡ length world.now.objects }
-    requires in_range { number < length world.now.objects }
-    requires agrees { (object_at world.now.objects number).body ≡ Cons car cdr }
-    requires pair { (place_at places.now number).cell ≡ false }
-    requires filled { CarFilled (view ground.old) world.now places.now number car cdr }
+    requires in_range { cons.number < length world.now.objects }
+    requires agrees { (object_at world.now.objects cons.number).body ≡ Cons cons.car cons.cdr }
+    requires pair { (place_at places.now cons.number).cell ≡ false }
+    requires filled { CarFilled (view ground.old) world.now places.now cons.number cons.car cons.cdr }
     requires laid { Laid (view ground.old).mem.store.words places.now world.now.objects (length world.now.objects) }
 
     // what is stored
-    ensures stays_filled { OnOk result (Filled (view ground.new) world.now places.now (number + 1)) }
+    ensures stays_filled { OnOk result (Filled (view ground.new) world.now places.now (cons.number + 1)) }
     ensures stays_laid { OnOk result (Laid (view ground.new).mem.store.words places.now world.now.objects (length world.now.objects)) }
 
     // after a failure, and what is unchanged
@@ -216,11 +226,12 @@ fn fill_cdr<M: Memory, L: Ledger>(
     // swap errors
     ensures accounted { AccountsForFaults (view ground.old).mem (view ground.new).mem steps.old steps.new result }
 {
+    let ConsParts { number, cdr, .. } = cons;
     if is_known(cdr, number) {
         return Ok(());
     }
     let charge = world.objects.as_slice()[number].charge;
-    let at = cons_at(places[number].word);
+    let at = places[number].cons_at();
     let second = word_of(cdr, places).with_cdr(second_code(charge));
     store(ground, at + 1, second, steps)
 }
@@ -252,7 +263,7 @@ fn fill_block<M: Memory, L: Ledger>(
     // swap errors
     ensures accounted { AccountsForFaults (view ground.old).mem (view ground.new).mem steps.old steps.new result }
 {
-    let at = block_at(places[number].word);
+    let at = places[number].block_at();
     for i in 0..fields.len() {
         let word = word_of(fields[i], places).with_cdr(CdrCode::Next);
         store(ground, at + 1 + i as u32, word, steps)?;

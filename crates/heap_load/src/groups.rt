@@ -1,10 +1,20 @@
 //! Groups of consecutive conses that form a list.
-ghost use Rattle.std.specs.Prelude.{◌≡◌, ◌+◌, ◌<◌, length};
-ghost use Rattle.lisp_graph.specs.Graph.{is_ref};
+ghost use Rattle.std.specs.Prelude.{◌≡◌, ◌+◌, ◌<◌, ◌≤◌, ℕ, true, false, length};
+ghost use Rattle.lisp_graph.specs.Graph.{is_ref, object_at};
 ghost use Rattle.lisp_graph.specs.Groups.{is_cell, is_nil};
-ghost use Rattle.heap_load.specs.Loading.{group_from};
+ghost use Rattle.heap_load.specs.Loading.{AreLinked, group_from};
 
 use lisp_graph::{Body, Object, Value};
+
+// The most conses of a group.
+const GROUP_LIMIT: usize = 1024;
+
+/// The group that begins with the object of a number: how many conses it has, or 0 if no group begins there.
+#[derive(Clone, Copy)]
+pub(crate) struct Group {
+    pub number: usize,
+    pub count: usize,
+}
 
 // Whether a cons of this area and of charge 3 has nil as its cdr.
 fn is_last(object: &Object, area: u8) -> bool
@@ -38,23 +48,45 @@ fn is_link(object: &Object, area: u8, next: u64) -> bool
     }
 }
 
-/// How many conses form a group from this number on: of one area, of charge 3, the cdr of each but the
-/// last referring to the next, and that of the last nil; at most 1,024, or 0 if there is no group.
-pub(crate) fn group_from(objects: &[Object], number: usize) -> usize
-    requires { number < length objects.now }
-    ensures { result ≡ group_from objects.now number }
+// The first number from `at` on whose object isn't a cons of this area and of charge 3 with a cdr that refers to the
+// next object; or `end`, if there is none below that.
+fn skip_links(objects: &[Object], area: u8, at: usize, end: usize) -> usize
+    requires at_most { end ≤ length objects.now }
+    ensures order { result < end → at ≤ result }
+    ensures in_range { result ≤ end }
+    ensures before { (i : ℕ) → at ≤ i → i < result → is_cell area (is_ref (i + 1)) (object_at objects.now i) ≡ true }
+    ensures found { result < end → is_cell area (is_ref (result + 1)) (object_at objects.now result) ≡ false }
 {
-    let area = objects[number].area;
-    for i in number..objects.len() {
-        if i - number == 1024 {
-            return 0;
-        }
-        if is_last(&objects[i], area) {
-            return i - number + 1;
-        }
+    for i in at..end {
         if !is_link(&objects[i], area, i as u64 + 1) {
-            return 0;
+            return i;
         }
     }
-    0
+    end
+}
+
+/// How many conses form a group from this number on: of one area, of charge 3, the cdr of each but the
+/// last referring to the next, and that of the last nil; at most 1,024, or 0 if there is no group.
+///
+/// The objects up to `linked` are known to refer each to the next, and aren't looked at again. So the searches for
+/// the groups of all objects, one after another, look at each object a constant number of times.
+pub(crate) fn group_from(objects: &[Object], number: usize, linked: &mut usize) -> usize
+    requires in_range { number < length objects.now }
+    requires known { AreLinked objects.now number linked.old }
+    ensures value { result ≡ group_from objects.now number }
+    ensures stays_known { AreLinked objects.now number linked.new }
+{
+    let area = objects[number].area;
+    let end = number + (objects.len() - number).min(GROUP_LIMIT);
+    let from = number.max(*linked);
+    let at = skip_links(objects, area, from, end);
+    *linked = at;
+    if at == end {
+        return 0;
+    }
+    if is_last(&objects[at], area) {
+        at - number + 1
+    } else {
+        0
+    }
 }

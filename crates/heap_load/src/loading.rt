@@ -45,11 +45,7 @@ pub fn load<M: Memory, L: Ledger>(
     ensures accounted { AccountsForFaultsIf (view ground.old).mem (view ground.new).mem steps.old steps.new (is_fault result) }
     ensures succeeds { world.now.objects ≡ [] → is_fault result ≡ false }
 {
-    let nowhere = Place {
-        word: Word::null(),
-        cell: false,
-    };
-    let mut places = vec![in alloc; nowhere; world.objects.as_slice().len()]?;
+    let mut places = vec![in alloc; Place::pair(0); world.objects.as_slice().len()]?;
     make_drafts(ground, world, &mut places, steps)?;
     fill_drafts(ground, world, &places, steps)?;
     set_roots(registers, world.roots.as_slice(), &places);

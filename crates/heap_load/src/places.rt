@@ -5,20 +5,114 @@ ghost use Rattle.store_word.specs.Words.{null_word, tag_of};
 ghost use Rattle.lisp_graph.specs.declared.object.Value.TheVariants as V;
 ghost use Rattle.lisp_graph.specs.Graph.{RefersBelow};
 ghost use Rattle.heap_load.specs.Drafts.{is_known, known_part};
-ghost use Rattle.heap_load.specs.Places.{cell_code_of, cell_place, place_at, word_of};
+ghost use Rattle.heap_load.specs.Places.{block_place, cell_code_of, cell_place, pair_place, place_at, word_of};
 ghost use Rattle.store_word.specs.declared.word.Content.TheVariants.{List as ListAt, Struct as StructAt};
 ghost use Rattle.store_word.specs.declared.word.Tag.TheVariants.{List as ListTag, Struct as StructTag};
 
 use cdr_lists::CELL;
 use lisp_graph::Value;
-use store_word::{CdrCode, Content, Word};
+use std::marker::Model;
+use store_word::{CdrCode, Word};
 
-/// The place of an object: the reference to it, and whether it is a cell, whose cdr is determined by its
-/// layout.
+// What lies at a place.
+#[derive(Clone, Copy)]
+enum PlaceKind {
+    Pair,
+    Cell,
+    Block,
+}
+
+/// The place of an object: its address, and whether it is a pair, a cell, whose cdr is determined by its layout,
+/// or a block.
 #[derive(Clone, Copy)]
 pub(crate) struct Place {
-    pub word: Word,
-    pub cell: bool,
+    at: u32,
+    kind: PlaceKind,
+}
+
+impl Model for Place {
+    ghost use Rattle.std.specs.Prelude.{◌<◌, ◌^◌};
+    ghost use Rattle.heap_load.specs.Places.{PlaceView};
+
+    ghost Value = { PlaceView };
+
+    ghost use Rattle.heap_load.specs.PlaceParts.{parts_of, place_of, parts_of-place_of};
+
+    ghost view = { place_of };
+
+    ghost invariant = { λ p. p.at < 2 ^ 28 };
+
+    ghost inverse = { parts_of };
+
+    ghost inverse_ok = { λ p i. parts_of-place_of p };
+}
+
+impl Place {
+    /// The place of a pair at this address.
+    pub(crate) fn pair(at: u32) -> Place
+        requires { at < 2 ^ 28 }
+        ensures { result ≡ pair_place at }
+    {
+        Place {
+            at,
+            kind: PlaceKind::Pair,
+        }
+    }
+
+    /// The place of a cell at this address.
+    pub(crate) fn cell(at: u32) -> Place
+        requires { at < 2 ^ 28 }
+        ensures { result ≡ cell_place at }
+    {
+        Place {
+            at,
+            kind: PlaceKind::Cell,
+        }
+    }
+
+    /// The place of a block whose header is at this address.
+    pub(crate) fn block(at: u32) -> Place
+        requires { at < 2 ^ 28 }
+        ensures { result ≡ block_place at }
+    {
+        Place {
+            at,
+            kind: PlaceKind::Block,
+        }
+    }
+
+    /// The reference to the object.
+    pub(crate) fn word(self) -> Word
+        ensures { result ≡ self.word }
+    {
+        match self.kind {
+            PlaceKind::Pair | PlaceKind::Cell => Word::list_at(self.at),
+            PlaceKind::Block => Word::struct_at(self.at),
+        }
+    }
+
+    /// Whether the object is a cell.
+    pub(crate) fn is_cell(self) -> bool
+        ensures { result ≡ self.cell }
+    {
+        matches!(self.kind, PlaceKind::Cell)
+    }
+
+    /// The address of a cons.
+    pub(crate) fn cons_at(self) -> u32
+        requires { tag_of self.word.content ≡ ListTag }
+        ensures { self.word.content ≡ ListAt result }
+    {
+        self.at
+    }
+
+    /// The address of a block.
+    pub(crate) fn block_at(self) -> u32
+        requires { tag_of self.word.content ≡ StructTag }
+        ensures { self.word.content ≡ StructAt result }
+    {
+        self.at
+    }
 }
 
 /// The word of a value; for a reference, the word in the object's place.
@@ -29,7 +123,7 @@ pub(crate) fn word_of(value: Value, places: &[Place]) -> Word
     match value {
         Value::Fix(number) => Word::fixnum(number),
         Value::Nil => Word::nil(),
-        Value::Ref(name) => places[name as usize].word,
+        Value::Ref(name) => places[name as usize].word(),
     }
 }
 
@@ -53,28 +147,6 @@ pub(crate) fn word_so_far(value: Value, number: usize, places: &[Place]) -> Word
         word_of(value, places)
     } else {
         Word::nil()
-    }
-}
-
-/// The address in a reference to a cons.
-pub(crate) fn cons_at(word: Word) -> u32
-    requires { tag_of word.content ≡ ListTag }
-    ensures { word.content ≡ ListAt result }
-{
-    match word.content() {
-        Content::List(at) => at,
-        _ => unreachable!(),
-    }
-}
-
-/// The address in a reference to a block.
-pub(crate) fn block_at(word: Word) -> u32
-    requires { tag_of word.content ≡ StructTag }
-    ensures { word.content ≡ StructAt result }
-{
-    match word.content() {
-        Content::Struct(at) => at,
-        _ => unreachable!(),
     }
 }
 
@@ -107,10 +179,7 @@ pub(crate) fn put_cells(places: &mut [Place], number: usize, count: usize, from:
     ensures before { (i : ℕ) → i < number → place_at places.new i ≡ place_at places.old i }
 {
     for i in 0..count {
-        places[number + i] = Place {
-            word: Word::list_at(from + i as u32),
-            cell: true,
-        };
+        places[number + i] = Place::cell(from + i as u32);
     }
 }
 

@@ -1,11 +1,10 @@
-use Rattle.std.proofs.Common.{◌≡◌, ◌∙◌, ◌+◌, ◌<◌, ℕ, false, ap, sym, subst, arith}
+use Rattle.std.proofs.Common.{◌≡◌, ◌∙◌, ◌+◌, ◌<◌, ℕ, ap, sym, subst, arith}
 use Rattle.std.proofs.lemmas.List.{get_or-set_same, get_or-set_other}
 use Rattle.store_word.specs.Words.{Parts}
 use Rattle.block_store.specs.obj_layout.Forwards.{word_at}
 use Rattle.block_store.specs.Making.{CanMake, MakesBlock, block_word}
 use Rattle.block_store.specs.lisp_meaning.Roles.{value_of}
 use Rattle.cdr_lists.proofs.PartStores.{on_err}
-use Rattle.heap_load.specs.declared.places.Place.{Place}
 use Rattle.heap_load.specs.Drafts.{known_part}
 use Rattle.heap_load.specs.Places.{no_place}
 use Rattle.heap_load.proofs.NewDrafts.{block_drafted, can_make, can_pair, drafted_left, given_means, object_read, pair_drafted, whole_block, whole_cons}
@@ -38,33 +37,33 @@ pub returns-in_ok-at-in-Cons-clause-drafted : goal.returns-in_ok-at-in-Cons-clau
 returns-in_ok-at-in-Cons-clause-drafted g c =
     let r = c.requires in
     let is = c.index-as_slice-number.is ∙ object_read c.as_slice.result.now c.args.world.now.objects c.args.number c.index-as_slice-number.result c.as_slice.ensures r.in_range in
-    pair_drafted _ _ c.args.world.now c.args.places.now c.args.number r.loadable r.made r.in_range c.index-as_slice-number.result is c.in-Cons.car c.in-Cons.cdr c.in-Cons.is _ _
+    rw c.pair.ensures (pair_drafted _ _ c.args.world.now c.args.places.now c.args.number r.loadable r.made r.in_range c.index-as_slice-number.result is c.in-Cons.car c.in-Cons.cdr c.in-Cons.is _ _
     c.word_so_far-car.result c.word_so_far-cdr.result c.word_so_far-car.ensures c.word_so_far-cdr.ensures
-    c.in_ok-at-in-Cons.at c.in_ok-at-in-Cons.ensures.made c.in_ok-at-in-Cons.ensures.preserves.grows r.places c.list_at.result c.list_at.ensures
+    c.in_ok-at-in-Cons.at c.in_ok-at-in-Cons.ensures.made c.in_ok-at-in-Cons.ensures.preserves.grows r.places)
 
 pub returns-in_ok-at-in-Block-clause-drafted : goal.returns-in_ok-at-in-Block-clause-drafted
 returns-in_ok-at-in-Block-clause-drafted g c =
     let r = c.requires in
     let is = c.index-as_slice-number.is ∙ object_read c.as_slice.result.now c.args.world.now.objects c.args.number c.index-as_slice-number.result c.as_slice.ensures r.in_range in
-    block_drafted _ _ c.args.world.now c.args.places.now c.args.number r.loadable r.made r.in_range c.index-as_slice-number.result is c.in-Block.code c.in-Block.fields c.in-Block.is _ _ c.in_ok-at-in-Block.at
+    rw c.block.ensures (block_drafted _ _ c.args.world.now c.args.places.now c.args.number r.loadable r.made r.in_range c.index-as_slice-number.result is c.in-Block.code c.in-Block.fields c.in-Block.is _ _ c.in_ok-at-in-Block.at
     (subst (λ (k : ℕ). MakesBlock (g.M.Memory.seen c.args.ground.now.mem) c.args.ground.now.table (g.M.Memory.seen c.make_block.new.ground.mem) c.make_block.new.ground.table c.index-as_slice-number.result.area 0 c.in-Block.code k c.in_ok-at-in-Block.at)
     c.len-length.ensures c.in_ok-at-in-Block.ensures.made)
-    c.in_ok-at-in-Block.ensures.preserves.grows r.places c.struct_at.result c.struct_at.ensures
+    c.in_ok-at-in-Block.ensures.preserves.grows r.places)
 
 pub returns-in_ok-at-in-Cons-clause-stays_laid : goal.returns-in_ok-at-in-Cons-clause-stays_laid
 returns-in_ok-at-in-Cons-clause-stays_laid g c = λ alone.
     let r = c.requires in
     let kept = (returns-in_ok-at-in-Cons-clause-drafted g c).holds.kept in
     let places = c.args.places.now in
-    let place : Place = record { word = c.list_at.result; cell = false } in
+    let place = c.pair.result in
     let is = c.index-as_slice-number.is ∙ object_read c.as_slice.result.now c.args.world.now.objects c.args.number c.index-as_slice-number.result c.as_slice.ensures r.in_range in
     laid_pair _ _ _ _ c.args.world.now places _ c.args.number r.made r.laid c.in_ok-at-in-Cons.ensures.live kept.table kept.ground.size
     (λ i before. get_or-set_other places c.args.number i place no_place (λ e. omega arith))
     c.in-Cons.car c.in-Cons.cdr (whole_cons _ _ c.args.world.now places c.args.number r.loadable r.made r.in_range c.index-as_slice-number.result is c.in-Cons.car c.in-Cons.cdr c.in-Cons.is)
-    c.in_ok-at-in-Cons.at c.word_so_far-car.result c.list_at.result (known_part c.args.number c.in-Cons.car)
+    c.in_ok-at-in-Cons.at c.word_so_far-car.result (known_part c.args.number c.in-Cons.car)
     (ap (λ (p : Parts). value_of r.made.holds.map.role p.content) c.word_so_far-car.ensures ∙ given_means _ _ c.args.world.now places c.args.number r.made c.in-Cons.car)
-    c.in_ok-at-in-Cons.ensures.words.0 c.list_at.ensures
-    (get_or-set_same places c.args.number place no_place (let size = r.places in let low = r.in_range in omega arith)) alone
+    c.in_ok-at-in-Cons.ensures.words.0
+    (get_or-set_same places c.args.number place no_place (let size = r.places in let low = r.in_range in omega arith) ∙ c.pair.ensures) alone
 
 pub returns-in_ok-at-in-Block-clause-stays_laid : goal.returns-in_ok-at-in-Block-clause-stays_laid
 returns-in_ok-at-in-Block-clause-stays_laid g c = λ alone.
@@ -72,9 +71,9 @@ returns-in_ok-at-in-Block-clause-stays_laid g c = λ alone.
     let is = c.index-as_slice-number.is ∙ object_read c.as_slice.result.now c.args.world.now.objects c.args.number c.index-as_slice-number.result c.as_slice.ensures r.in_range in
     let kept = (returns-in_ok-at-in-Block-clause-drafted g c).holds.kept in
     let places = c.args.places.now in
-    let place : Place = record { word = c.struct_at.result; cell = false } in
+    let place = c.block.result in
     laid_block _ _ _ _ c.args.world.now places _ c.args.number r.made r.laid c.in_ok-at-in-Block.ensures.live kept.table kept.ground.size
     (λ i before. get_or-set_other places c.args.number i place no_place (λ e. omega arith))
     c.in-Block.code c.in-Block.fields (whole_block _ _ c.args.world.now places c.args.number r.loadable r.made r.in_range c.index-as_slice-number.result is c.in-Block.code c.in-Block.fields c.in-Block.is)
-    c.in_ok-at-in-Block.at c.struct_at.result c.struct_at.ensures (get_or-set_same places c.args.number place no_place (let size = r.places in let low = r.in_range in omega arith))
+    c.in_ok-at-in-Block.at (get_or-set_same places c.args.number place no_place (let size = r.places in let low = r.in_range in omega arith) ∙ c.block.ensures)
     (subst (λ (k : ℕ). (i : ℕ) → i < k + 1 → word_at (g.M.Memory.seen c.make_block.new.ground.mem).words (c.in_ok-at-in-Block.at + i) ≡ block_word c.in-Block.code k i) c.len-length.ensures c.in_ok-at-in-Block.ensures.words)

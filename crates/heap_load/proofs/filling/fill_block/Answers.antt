@@ -3,8 +3,7 @@ use Rattle.std.proofs.lemmas.List.{get_or_default}
 use Rattle.store_word.specs.declared.word.Content.TheVariants.{Struct as StructAt}
 use Rattle.lisp_graph.specs.declared.object.Value.TheVariants as V
 use Rattle.cdr_lists.proofs.PartStores.{on_err}
-use Rattle.heap_load.specs.declared.places.Place.{Place}
-use Rattle.heap_load.specs.Places.{place_at, word_of}
+use Rattle.heap_load.specs.Places.{PlaceView, place_at, word_of}
 use Rattle.heap_load.proofs.ObjectWords.{field_done, field_inside, field_laid, field_left}
 use Rattle.heap_load.proofs.ObjectParts.{fields_all, fields_none, place_there}
 use Rattle.heap_load.proofs.filling.fill_block.Given.{Over}
@@ -13,7 +12,7 @@ use Rattle.heap_load.proofs.filling.fill_block.Goals as goal
 
 -- the place is that of the block
 stands : (g : Over) (c : After-block_at-at g) → (place_at c.args.places.now c.args.number).word.content ≡ StructAt c.block_at-at.result
-stands g c = ap (λ (p : Place). p.word.content) (sym (place_there c.args.places.now c.args.number c.index-places-number.result c.args.world.now.objects c.requires.places c.requires.in_range)) ∙ c.block_at-at.ensures
+stands g c = ap (λ (p : PlaceView). p.word.content) (sym (c.index-places-number.is ∙ place_there c.args.places.now c.args.number c.index-places-number.result c.args.world.now.objects c.requires.places c.requires.in_range)) ∙ c.block_at-at.ensures
 
 -- the word of the next field
 written : (g : Over) (c : After-word_of g) → c.word_of.result ≡ word_of c.args.places.now (get_or c.args.fields.now c.loop-i.i V.Nil)

@@ -3,8 +3,7 @@ use Rattle.std.proofs.lemmas.List.{length-replicate}
 use Rattle.store_word.specs.Words.{null_word}
 use Rattle.lisp_graph.specs.declared.object.Value.{Value}
 use Rattle.lisp_graph.specs.declared.object.Value.TheVariants as V
-use Rattle.heap_load.specs.declared.places.Place.{Place}
-use Rattle.heap_load.specs.Places.{word_of}
+use Rattle.heap_load.specs.Places.{PlaceView, word_of}
 use Rattle.heap_load.proofs.LoadedWorlds.{represents_left, represents_loaded, represents_some, groups_loaded}
 use Rattle.heap_load.proofs.loading.load.Goals as goal
 
@@ -15,11 +14,11 @@ pub returns-in_err-fill_drafts-clause-some : goal.returns-in_err-fill_drafts-cla
 returns-in_err-fill_drafts-clause-some g c = represents_left _ _ _ _ c.args.registers.now c.args.world.now c.requires.empty c.in_err-fill_drafts.ensures.left
 
 -- roots that are read from equal lists
-roots_here : (registers : List Rattle.store_word.specs.Words.Parts) (read roots : List Value) (old new : List Place) → read ≡ roots → old ≡ new
+roots_here : (registers : List Rattle.store_word.specs.Words.Parts) (read roots : List Value) (old new : List PlaceView) → read ≡ roots → old ≡ new
     → ((r : ℕ) → r < length read → get_or registers r null_word ≡ word_of old (get_or read r V.Nil)) → (r : ℕ) → r < length roots → get_or registers r null_word ≡ word_of new (get_or roots r V.Nil)
 roots_here registers read roots old new e f are =
     subst (λ (l : List Value). (r : ℕ) → r < length l → get_or registers r null_word ≡ word_of new (get_or l r V.Nil)) e
-    (subst (λ (places : List Place). (r : ℕ) → r < length read → get_or registers r null_word ≡ word_of places (get_or read r V.Nil)) f are)
+    (subst (λ (places : List PlaceView). (r : ℕ) → r < length read → get_or registers r null_word ≡ word_of places (get_or read r V.Nil)) f are)
 
 pub returns-clause-represented : goal.returns-clause-represented
 returns-clause-represented g c =
