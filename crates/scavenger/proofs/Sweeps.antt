@@ -1,5 +1,5 @@
 -- How far a sweep has come.
-use Rattle.std.proofs.Common.{◌≡◌, ℕ, ◌+◌, ◌<◌, List, Option, Some, None, sym, ◌∙◌, arith}
+use Rattle.std.proofs.Common.{◌≡◌, ℕ, ◌+◌, ◌<◌, ◌≤◌, List, Option, Some, None, sym, ◌∙◌, arith}
 use Rattle.std.specs.Prelude.{IfSome, IfNone}
 use Rattle.store_word.specs.Words.{Parts}
 use Rattle.mem_port.specs.Store.{Store, StoresNothing}
@@ -100,3 +100,7 @@ module _ {m m1 m2 : Store} {t t1 t2 : Table} {scan scan1 scan2 : Scan} {register
     each = x.each;
     remains = y;
   })
+
+-- words that a pause allows are among those that were left
+pub within-pause : (words allowed count : ℕ) → allowed ≤ words → count ≤ allowed → count ≤ words
+within-pause words allowed count few within = omega arith
