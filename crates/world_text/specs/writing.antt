@@ -5,4 +5,5 @@ pub mod Waiting
 pub mod NumberTable
 pub mod Numbering
 pub mod Dump
+pub mod Kept
 pub mod Visits

@@ -6,6 +6,7 @@ mod dumped;
 mod file;
 mod file_lines;
 mod groups;
+mod kept_cons;
 mod number_table;
 mod numbering;
 mod object_writer;

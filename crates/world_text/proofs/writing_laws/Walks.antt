@@ -23,7 +23,8 @@ use Rattle.world_text.specs.declared.writing.numbering.Numbering.{Numbering}
 use Rattle.world_text.specs.writing.File.{file_text}
 use Rattle.world_text.specs.writing.Dump.{IsDump, dumped_body, dumped_object, dumped_value, reference}
 use Rattle.world_text.specs.writing.Numbering.{AllVisited, Chained, Visited, Walked, done, fields_from, fields_of, is_numbered, more, none, seen_as, step}
-use Rattle.world_text.specs.writing.Visits.{AreDumped, AreVisited, AreVisits, Grows, IsDumped, IsVisit, IsWalk, ShowsParts, kept_of, no_cons}
+use Rattle.world_text.specs.writing.Visits.{AreDumped, AreVisited, AreVisits, Grows, IsDumped, IsVisit, IsWalk, ShowsParts, kept_of}
+use Rattle.world_text.specs.writing.Kept.{no_cons}
 use Rattle.world_text.proofs.reading_laws.AreaLaws.{get_front}
 use Rattle.world_text.proofs.writing_laws.Visits.{item_read, item_shows, known_more}
 use Rattle.world_text.proofs.writing_laws.Numbers.{all_grow, grows_none, grows_twice, number_chained, number_next, number_of, number_stays, numbered_some, visit_grows, walk_grows}
@@ -68,6 +69,10 @@ cons_kept graph visits number key conses default are at cons is =
     mapped f [] number item is = absurd (cc (is))
     mapped f (x ∷ items) zero item is = let e : x ≡ item = cc (is) in ap (λ o. Some (f o)) e
     mapped f (x ∷ items) (suc number) item is = mapped f items number item is
+
+pub kept_within : (graph : KeyedGraph) (visits : VisitedObjects) (number key : ℕ) → AreVisits graph visits → slice_get visits.numbering.keys number ≡ Some key → number < length visits.conses
+kept_within graph visits number key are at =
+    omega (arith, ap length are.conses, length-map visits.numbering.keys (kept_of graph), slice_get_within visits.numbering.keys number key at)
 
 pub parts_shown : (graph : KeyedGraph) (visits : VisitedObjects) (number key : ℕ) (conses : List SeenCons) (default : SeenCons) → AreVisits graph visits → slice_get visits.numbering.keys number ≡ Some key
     → conses ≡ visits.conses → ShowsParts graph (get_or conses number default)
@@ -260,9 +265,6 @@ first_whole graph old now number objects past first =
       shown = subst (All (λ key. All (Shows graph) (fields_of graph key))) whole first.shown;
       is = first.is now.numbering.keys (grows_none now.numbering.keys) ∙ ap (map (dumped_object graph now.numbering.keys)) whole;
     }
-
-pub dumped_long : {graph : KeyedGraph} {old new : VisitedObjects} {objects : List Object} → AreDumped graph old new objects → length objects ≡ length new.numbering.keys
-dumped_long {graph} {old} {new} dumped = ap length dumped.is ∙ length-map new.numbering.keys (dumped_object graph new.numbering.keys)
 
 -- The registers are visited, and then the objects
 

@@ -5,18 +5,14 @@ use Rattle.lisp_graph.specs.KeyedGraph.{KeyedGraph, Shows, cons_at}
 use Rattle.lisp_graph.specs.declared.object.Value.{Value}
 use Rattle.lisp_graph.specs.declared.object.Object.{Object}
 use Rattle.lisp_graph.specs.declared.walk.Seen.{Seen}
-use Rattle.lisp_graph.specs.declared.walk.Seen.TheVariants.{Nil}
 use Rattle.lisp_graph.specs.declared.walk.SeenCons.{SeenCons}
 use Rattle.world_text.specs.declared.writing.visit.VisitedObjects.{VisitedObjects}
 use Rattle.world_text.specs.declared.writing.numbering.Numbering.{Numbering}
 use Rattle.lisp_graph.specs.declared.world.AreaRule.{AreaRule}
 use Rattle.world_text.specs.writing.File.{object_lines_of, text_of}
+use Rattle.world_text.specs.writing.Kept.{no_cons}
 use Rattle.world_text.specs.writing.Numbering.{AllVisited, IsKnown, IsNumbering, Visited, Walked, fields_of}
 use Rattle.world_text.specs.writing.Dump.{dumped_object, dumped_value}
-
--- what is kept of a block: no cons
-abbrev pub no_cons : SeenCons
-no_cons = record { area = 0; charge = 0; car = Nil; cdr = Nil }
 
 -- a cons is kept as the walk shows it
 abbrev pub kept_of : KeyedGraph → ℕ → SeenCons

@@ -12,8 +12,8 @@ use std::alloc::Global;
 use store_word::Space;
 
 /// The text of the world file that a machine dumps: the space and the areas as they are given, the objects that the registers
-/// reach, and the registers. It fails if memory runs out, if more than 2^32 - 1 objects are reached, or if a page call of the swap
-/// device fails. It changes nothing that the walk shows. Each
+/// reach, and the registers. It fails if memory runs out, which it also reports if more than 2^32 - 1 objects are reached or if a key
+/// is 2^32 or more, or if a page call of the swap device fails. It changes nothing that the walk shows. Each
 /// register and each reachable cons is read once; of each block, the form and each field are read once.
 pub fn dump_text<W: Walk>(
     alloc: Global,

@@ -51,7 +51,7 @@ fn dumped_cons<W: Walk>(
     ensures unchanged { W.graph walk.new ≡ W.graph walk.old }
     ensures cause { HasSwapCause (W.faults walk.old) (W.faults walk.new) result }
 {
-    let cons = visits.conses.as_slice()[number];
+    let cons = visits.kept(number);
     let car = visit(walk, visits, cons.car)?;
     let cdr = visit(walk, visits, cons.cdr)?;
     Ok(Object {
@@ -178,8 +178,8 @@ pub fn dumped_registers<W: Walk>(
     Ok(registers)
 }
 
-/// The objects that the registers reach, in the order of their numbers. It fails if memory runs out, if 2^32 objects
-/// or more are reached, or if a page call of the swap device fails.
+/// The objects that the registers reach, in the order of their numbers. It fails if memory runs out, which it also reports if
+/// 2^32 objects or more are reached or if a key is 2^32 or more, or if a page call of the swap device fails.
 pub fn numbering_of<W: Walk>(alloc: Global, walk: &mut W) -> Result<Numbering, DumpFault>
     ensures value { IfOk result (λ numbering. IsNumbering (W.graph walk.old) numbering.keys) }
     ensures known { IfOk result (λ numbering. IsKnown (W.graph walk.old) numbering) }

@@ -1,35 +1,25 @@
 //! Visiting values, so that the objects to which they refer get numbers.
-ghost use Rattle.std.specs.Prelude.{◌≡◌, [], true, false, OnOk, IfOk};
+ghost use Rattle.std.specs.Prelude.{◌≡◌, ◌<◌, [], true, false, length, slice_index_or, OnOk, IfOk};
 ghost use Rattle.lisp_graph.specs.KeyedGraph.{KeyedGraph, Shows};
 ghost use Rattle.lisp_graph.specs.declared.object.Value.TheVariants.{Ref as a_ref};
 ghost use Rattle.lisp_graph.specs.declared.walk.Seen.TheVariants.{Block as a_block, Cons as a_cons};
 ghost use Rattle.world_text.specs.writing.Numbering.{Chained, is_numbered, next_cons};
 ghost use Rattle.world_text.specs.writing.Dump.{HasSwapCause};
-ghost use Rattle.world_text.specs.writing.Visits.{AreVisits, IsVisit, no_cons};
+ghost use Rattle.world_text.specs.writing.Kept.{no_cons};
+ghost use Rattle.world_text.specs.writing.Visits.{AreVisits, IsVisit};
 
 use crate::DumpFault;
+use crate::writing::kept_cons::KeptCons;
 use crate::writing::numbering::{KeyNumbers, Numbering};
 use lisp_graph::{Seen, SeenCons, Sequence, Value, Walk};
 use std::alloc::Global;
 use store_word::NoMemory;
 
-/// The objects that were visited, and each cons among them as the walk showed it; for a block, `no_cons`.
+/// The objects that were visited, and each cons among them as the walk showed it; for a block, no cons.
 #[derive(Drop)]
 pub struct VisitedObjects {
     pub numbering: Numbering,
-    pub conses: Sequence<SeenCons>,
-}
-
-/// What is kept in the place of a block.
-fn no_cons() -> SeenCons
-    ensures { result ≡ no_cons }
-{
-    SeenCons {
-        area: 0,
-        charge: 0,
-        car: Seen::Nil,
-        cdr: Seen::Nil,
-    }
+    pub conses: Sequence<KeptCons>,
 }
 
 impl VisitedObjects {
@@ -42,6 +32,14 @@ impl VisitedObjects {
             numbering: Numbering::new(alloc),
             conses: Sequence::new(alloc),
         }
+    }
+
+    /// What is kept of the object with this number.
+    pub fn kept(&self, number: usize) -> SeenCons
+        requires { number < length self.now.conses }
+        ensures { result ≡ slice_index_or self.now.conses number no_cons }
+    {
+        self.conses.as_slice()[number].cons()
     }
 }
 
@@ -69,7 +67,8 @@ fn chain<W: Walk>(walk: &mut W, visits: &mut VisitedObjects, key: u64) -> Result
     loop {
         visits.numbering.add(key, true)?;
         let cons = walk.cons_of(key)?;
-        visits.conses.push(cons)?;
+        let kept = KeptCons::new(cons)?;
+        visits.conses.push(kept)?;
         match next_cons(&visits.numbering.keys, cons.cdr) {
             None => return Ok(()),
             Some(next) => key = next,
@@ -107,7 +106,7 @@ fn block_number(visits: &mut VisitedObjects, key: u64) -> Result<u64, NoMemory>
     }
     let number = visits.numbering.keys.len();
     visits.numbering.add(key, false)?;
-    visits.conses.push(no_cons())?;
+    visits.conses.push(KeptCons::none())?;
     Ok(number as u64)
 }
 

@@ -1,4 +1,4 @@
-use Rattle.std.proofs.Common.{◌≡◌, ℕ, ◌+◌, [], ◌∷◌, List, None, false, length, refl, ap, sym, ◌∙◌, arith}
+use Rattle.std.proofs.Common.{◌≡◌, ℕ, ◌+◌, [], ◌∷◌, None, false, length, refl, ap, sym, ◌∙◌, arith}
 use Rattle.lisp_graph.specs.Graph.{is_ref}
 use Rattle.lisp_graph.specs.Groups.{is_cell, to_tail}
 use Rattle.world_text.specs.writing.Waiting.{next_number}
