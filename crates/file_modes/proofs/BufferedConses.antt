@@ -77,6 +77,6 @@ module _ (held : Buffered) (size : ℕ) (line : IsLineBeforeFeed held.bytes size
       let long : length (take size held.bytes) ≡ size = length-take-le size held.bytes (omega arith) in
       judged_here file_rules place (record { builder = builder }) (take size held.bytes) (size + 1) (ap is_closed part) (omega arith) (omega arith) (ap (next (place.lines + 1) place.judge) says)
 
--- between two lines, after a call that left the place unchanged
+-- between two lines, after a call that changed nothing
 pub going_same : {left left' : Option (List ℕ)} {old new : InputReader WorldFile} {reader : Buffered} → new ≡ old → Going file_rules start left left' old reader → Going file_rules start left left' new reader
 going_same {left} {left'} {old} {new} {reader} same going = subst (λ (place : InputReader WorldFile). Going file_rules start left left' place reader) (sym same) going
