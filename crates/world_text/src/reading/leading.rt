@@ -78,7 +78,7 @@ fn leading_short(text: &[u8]) -> Option<(u32, &[u8])>
 }
 
 /// A number of 32 bits at the front, and the text after it.
-#[inline(never)]
+#[inline(always)]
 fn leading_any(text: &[u8]) -> Option<(u32, &[u8])>
     ensures { IfSome result (λ x. text.now ≡ decimal x.0 ++ x.1.now) }
 {
