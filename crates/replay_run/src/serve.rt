@@ -1,5 +1,5 @@
 //! Running commands, and writing the texts of their answers.
-ghost use Rattle.std.specs.Prelude.{◌≡◌, ◌≢◌, ◌≤◌, ◌<◌, ◌+◌, ◌-◌, ◌^◌, length, Err, Ok, IfErr, OnErr};
+ghost use Rattle.std.specs.Prelude.{◌≡◌, ◌≢◌, ◌≤◌, ◌<◌, ◌+◌, ◌-◌, ◌^◌, length, take, Err, Ok, IfErr, OnErr};
 ghost use Rattle.outer_ports.specs.Ports.{FailedLast, HasCause, Rose};
 ghost use Rattle.outer_ports.specs.Buffers.{Gathers};
 ghost use Rattle.lisp_graph.specs.declared.command.Command.{Command as OneCommand};
@@ -14,7 +14,7 @@ use lisp_graph::{Areas, CommandHead, Reply, Request, World};
 use outer_ports::{Sink, SinkBuffer};
 use paged_machine::{DumpFault, Engine};
 use std::alloc::Global;
-use trace_text::{account_text, fixed_text, reply_text};
+use trace_text::{account_text, padded_text, reply_text};
 
 /// Gathers a text after what is pending. It can't fail if the buffer has room for the text.
 #[inline(always)]
@@ -27,6 +27,29 @@ fn gather<K: Sink>(buffer: &mut SinkBuffer, sink: &mut K, text: &[u8]) -> Result
     ensures last { OnErr result (FailedLast (K.faults sink.old) (K.faults sink.new) (K.failed sink.new)) }
 {
     match buffer.gather(sink, text) {
+        Ok(()) => Ok(()),
+        Err(_) => Err(LoopExit::Write),
+    }
+}
+
+/// Gathers the first `size` bytes of an array after what is pending, by a copy of the whole array. It can't fail if the buffer has room for them.
+#[inline(always)]
+fn gather_short<K: Sink, const N: usize>(
+    buffer: &mut SinkBuffer,
+    sink: &mut K,
+    text: &[u8; N],
+    size: usize,
+) -> Result<(), LoopExit>
+    requires at_most { N ≤ 64 }
+    requires in_range { size ≤ N }
+    ensures gathers { Gathers (K.stands sink.old) (K.stands sink.new) buffer.old.pending buffer.new.pending (take size text.now) result }
+    ensures fits { length buffer.old.pending + size ≤ buffer.old.room → K.faults sink.old < 2 ^ 64 - 1 → result ≡ Ok tt }
+    ensures room { buffer.new.room ≡ buffer.old.room }
+    ensures write { IfErr result (λ halt. halt ≡ LoopExit.Write) }
+    ensures cause { HasCause (K.faults sink.old) (K.faults sink.new) result }
+    ensures last { OnErr result (FailedLast (K.faults sink.old) (K.faults sink.new) (K.failed sink.new)) }
+{
+    match buffer.gather_short(sink, text, size) {
         Ok(()) => Ok(()),
         Err(_) => Err(LoopExit::Write),
     }
@@ -47,11 +70,12 @@ fn give_reply<K: Sink>(
     ensures cause { HasCause (K.faults sink.old) (K.faults sink.new) result }
     ensures last { OnErr result (FailedLast (K.faults sink.old) (K.faults sink.new) (K.failed sink.new)) }
 {
-    match fixed_text(reply) {
-        Some(text) => gather(buffer, sink, text),
+    match padded_text(reply) {
+        Some((text, size)) => gather_short(buffer, sink, text, size),
         None => {
-            let text = reply_text(reply, areas);
-            gather(buffer, sink, text.as_bytes())
+            let line = reply_text(reply, areas);
+            let (text, size) = line.padded();
+            gather_short(buffer, sink, text, size)
         }
     }
 }
