@@ -56,7 +56,7 @@ impl PlainMemory {
     // Stores a word at an address, and tags its page if the word has an address of level 1 or more.
     fn store(&mut self, at: u32, word: Word)
         requires { at < length self.old.words }
-        ensures stored { Stores (plain_store self.old) (plain_store self.new) at word }
+        ensures written { Stores (plain_store self.old) (plain_store self.new) at word }
         ensures taken { self.new.taken ≡ self.old.taken }
     {
         let page = (at / 256) as usize;

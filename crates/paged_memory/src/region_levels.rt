@@ -88,7 +88,7 @@ impl RegionLevels {
     pub(crate) fn store_word(&self, pool: &mut FramePool, frame: u32, offset: u32, word: Word)
         requires frame { frame < frames_of pool.old }
         requires in_range { offset < 256 }
-        ensures stored { pool.new ≡ stored_pool pool.old frame offset word (tag_of pool.old frame || nat_lt 0 (level_of_word self.now word)) }
+        ensures written { pool.new ≡ stored_pool pool.old frame offset word (tag_of pool.old frame || nat_lt 0 (level_of_word self.now word)) }
         ensures sound { IsPool pool.new }
     {
         pool.set_word(frame, offset, word);

@@ -113,7 +113,7 @@ impl ObjectWriter {
     /// Adds a cons that ends a list.
     fn add_tail(&mut self, areas: &[AreaRule], area: u8, car: Value) -> Result<(), NoMemory>
         requires sound { IsWriter self.old }
-        requires few { next_number self.old < 2 ^ 32 }
+        requires at_most { next_number self.old < 2 ^ 32 }
         ensures { OnOk result (Adds areas.now (record { area = area; charge = 3; body = a_cons car nil_value }) self.old self.new) }
     {
         self.make_room(areas, area)?;
@@ -125,7 +125,7 @@ impl ObjectWriter {
     /// Adds a cons whose cdr is the next object.
     fn add_link(&mut self, areas: &[AreaRule], area: u8, car: Value) -> Result<(), NoMemory>
         requires sound { IsWriter self.old }
-        requires few { next_number self.old < 2 ^ 32 }
+        requires at_most { next_number self.old < 2 ^ 32 }
         ensures { OnOk result (Adds areas.now (link area (next_number self.old) car) self.old self.new) }
     {
         self.make_room(areas, area)?;
@@ -136,7 +136,7 @@ impl ObjectWriter {
     /// Adds the next object.
     pub fn add(&mut self, areas: &[AreaRule], object: &Object) -> Result<(), NoMemory>
         requires sound { IsWriter self.old }
-        requires few { next_number self.old < 2 ^ 32 }
+        requires at_most { next_number self.old < 2 ^ 32 }
         ensures { OnOk result (Adds areas.now object.now self.old self.new) }
     {
         if let Some(car) = tail_car(object) {

@@ -17,7 +17,7 @@ abbrev tag : (g : Over) → After-store_word g → Bool
 tag g c = tag_of c.use_page.new.self.pool c.in_ok-frame.frame || nat_lt 0 (level_of_word c.use_page.new.self.levels c.args.word)
 
 written : (g : Over) (c : After-store_word g) → c.args.at < 256 * size_of (paging_of c.use_page.new.self) → PutsWord (paging_of c.use_page.new.self) (g.D.Swap.stored c.use_page.new.swap) c.store_word.new.pool c.in_ok-frame.frame c.args.at c.args.word (tag g c)
-written g c inside = puts_word (paging_of c.use_page.new.self) (g.D.Swap.stored c.use_page.new.swap) c.store_word.new.pool c.in_ok-frame.frame c.args.at c.args.word c.in_ok-frame.ensures.placed inside c.store_word.ensures.sound c.store_word.ensures.stored
+written g c inside = puts_word (paging_of c.use_page.new.self) (g.D.Swap.stored c.use_page.new.swap) c.store_word.new.pool c.in_ok-frame.frame c.args.at c.args.word c.in_ok-frame.ensures.placed inside c.store_word.ensures.sound c.store_word.ensures.written
 
 pub use_page-requires-clause-in_range : goal.use_page-requires-clause-in_range
 use_page-requires-clause-in_range g c = page_inside (paging_of c.self.inside.pager) (g.D.Swap.stored c.self.inside.swap) c.args.at (rw (← c.self.view_is) at c.requires)

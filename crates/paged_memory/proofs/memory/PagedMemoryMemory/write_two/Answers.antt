@@ -19,7 +19,7 @@ written g c =
     let low = inside_of (paging_of c.self.inside.pager) (g.D.Swap.stored c.self.inside.swap) (c.args.at + 1) (rw (← c.self.view_is) at c.requires.in_range) in
     let size = c.in_ok-frame.ensures.stays_held.size in
     puts_two (paging_of c.use_page.new.self) (g.D.Swap.stored c.use_page.new.swap) c.store_word.new.pool c.store_word-2.new.pool c.in_ok-frame.frame c.args.at c.args.first c.args.second
-    c.in_ok-frame.ensures.placed c.requires.page (omega (arith, low, size)) c.store_word.ensures.sound c.store_word.ensures.stored c.store_word-2.ensures.sound c.store_word-2.ensures.stored
+    c.in_ok-frame.ensures.placed c.requires.page (omega (arith, low, size)) c.store_word.ensures.sound c.store_word.ensures.written c.store_word-2.ensures.sound c.store_word-2.ensures.written
 
 pub use_page-requires-clause-in_range : goal.use_page-requires-clause-in_range
 use_page-requires-clause-in_range g c = page_inside (paging_of c.self.inside.pager) (g.D.Swap.stored c.self.inside.swap) c.args.at (let low = rw (← c.self.view_is) at c.requires.in_range in omega (arith, low))
@@ -33,7 +33,7 @@ store_word-requires-clause-frame g c = frame_in _ _ (c.args.at / 256) c.in_ok-fr
 pub store_word-requires-2-clause-frame : goal.store_word-requires-2-clause-frame
 store_word-requires-2-clause-frame g c =
     let low = frame_in _ _ (c.args.at / 256) c.in_ok-frame.frame c.in_ok-frame.ensures.stays_held.paged c.in_ok-frame.ensures.placed in
-    omega (arith, low, ap (λ (v : Pool). length v.pages) c.store_word.ensures.stored)
+    omega (arith, low, ap (λ (v : Pool). length v.pages) c.store_word.ensures.written)
 
 pub invariant_of-self-2 : goal.invariant_of-self-2
 invariant_of-self-2 g c =

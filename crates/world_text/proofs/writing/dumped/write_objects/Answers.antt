@@ -15,7 +15,7 @@ loop-key-init g c = (
 pub add-requires : goal.add-requires
 add-requires g c =
     let before = c.loop-key.invariant.3 in
-    record { sound = record { waiting = before.2.waiting; few = omega (arith, before.2.next, before.3, c.loop-key.invariant.2) }; few = omega (arith, before.2.next, before.3, c.in-Some.ensures.in_range) }
+    record { sound = record { waiting = before.2.waiting; few = omega (arith, before.2.next, before.3, c.loop-key.invariant.2) }; at_most = omega (arith, before.2.next, before.3, c.in-Some.ensures.in_range) }
 
 pub write_all-requires : goal.write_all-requires
 write_all-requires g c =

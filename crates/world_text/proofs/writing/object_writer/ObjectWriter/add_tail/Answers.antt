@@ -8,7 +8,7 @@ write_group-requires c =
     let m = c.make_room.new.self in
     let room = c.in_ok-make_room.ensures in
     let size = ap length c.in_ok-push_back.ensures.items ∙ length-append m.cars.items (c.args.car ∷ []) in
-    record { waiting = omega (arith, size, room.waiting); few = omega (arith, size, room.next, c.requires.few) }
+    record { waiting = omega (arith, size, room.waiting); few = omega (arith, size, room.next, c.requires.at_most) }
 
 pub returns : goal.returns
 returns c =
