@@ -183,14 +183,14 @@ module _ (m : Store) (t : Table) (at : ℕ) (o : HasObject m t at) where
   object_classed free = place_classed m t o.map o.top o.areas o.objects o.aim o.kept o.name o.used (subst (λ (x : ℕ). IsUnclassed t (x / 4096)) (sym o.place) free)
 
   -- the area of that class is its area
-  class_area : (class : Class) → Contains (chain t (class_number t class)) (at / 4096) → class.level < levels_of t → (region (ground_image m t) at).area ≡ class.area
+  pub class_area : (class : Class) → Contains (chain t (class_number t class)) (at / 4096) → class.level < levels_of t → (region (ground_image m t) at).area ≡ class.area
   class_area class inside low = go class.stale refl ∙ slot_area t class.area class.level low
     where
       go : (old : Bool) → class.stale ≡ old → (region (ground_image m t) at).area ≡ slot_of t class.area class.level / levels_of t
       go true is = ap (λ (r : Region). r.area) (region_is m t no_rest (at / 4096) o.kept.table ∙ region_old t (at / 4096) (slot_of t class.area class.level) o.kept.table (subst (λ (b : Bool). Contains (chain t (class_from b (slot_of t class.area class.level))) (at / 4096)) is inside))
       go false is = ap (λ (r : Region). r.area) (region_is m t no_rest (at / 4096) o.kept.table ∙ region_live t (at / 4096) (slot_of t class.area class.level) o.kept.table (subst (λ (b : Bool). Contains (chain t (class_from b (slot_of t class.area class.level))) (at / 4096)) is inside))
 
-  object_here : object_at (objects_in m t) at ≡ object_in m t at
+  pub object_here : object_at (objects_in m t) at ≡ object_in m t at
   object_here = get_or-map-range_with_len (object_in m t) 0 (length m.words) at at no_object object_inside (omega arith)
 
   pub form_told : (class : Class) (first : Parts) (code count charge : ℕ) → Contains (chain t (class_number t class)) (at / 4096) → class.level < levels_of t

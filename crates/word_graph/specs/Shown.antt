@@ -10,9 +10,10 @@ use Rattle.lisp_graph.specs.declared.object.Body.{Body}
 use Rattle.lisp_graph.specs.declared.object.Body.TheVariants.{Cons, Block}
 use Rattle.lisp_graph.specs.declared.object.Object.{Object}
 use Rattle.lisp_graph.specs.declared.walk.Form.{Form}
+use Rattle.lisp_graph.specs.declared.walk.SeenCons.{SeenCons}
 use Rattle.lisp_graph.specs.declared.walk.Seen.{Seen}
 use Rattle.lisp_graph.specs.Graph.{Graph, object_at, refers_in, width}
-use Rattle.lisp_graph.specs.KeyedGraph.{KeyedGraph, keyed, keyed_value, form_of, part_of}
+use Rattle.lisp_graph.specs.KeyedGraph.{KeyedGraph, is_cons, keyed, keyed_value, form_of, part_of}
 use Rattle.mem_port.specs.Store.{Store}
 use Rattle.area_space.specs.Table.{Table}
 use Rattle.lisp_ground.specs.lisp_meaning.Image.{region}
@@ -92,6 +93,13 @@ field_in m t at index = keyed_value (objects_in m t) (part_of (object_at (object
 -- how many parts it has
 abbrev pub parts_in : Store → Table → ℕ → ℕ
 parts_in m t at = width (object_at (objects_in m t) at).body
+
+-- whether it is a cons, and the whole cons
+abbrev pub is_cons_in : Store → Table → ℕ → Bool
+is_cons_in m t at = is_cons (object_at (objects_in m t) at).body
+
+abbrev pub cons_in : Store → Table → ℕ → SeenCons
+cons_in m t at = record { area = (form_in m t at).area; charge = (form_in m t at).charge; car = field_in m t at 0; cdr = field_in m t at 1 }
 
 -- The words of a part
 

@@ -10,4 +10,4 @@ mod telling;
 mod walking;
 
 pub use laws::{walks_show_states, words_show_objects, words_show_what_is_reached};
-pub use telling::{read_field, read_form, read_word};
+pub use telling::{read_cons, read_field, read_form, read_word};

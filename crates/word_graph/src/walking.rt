@@ -1,17 +1,17 @@
 //! Reads words and objects, and stores nothing.
-ghost use Rattle.std.specs.Prelude.{◌≡◌, ◌+◌, ◌<◌, ◌≤◌, IfOk, length};
+ghost use Rattle.std.specs.Prelude.{◌≡◌, ◌+◌, ◌<◌, ◌≤◌, true, IfOk, length};
 ghost use Rattle.mem_port.specs.View.{AccountsForFaults, shown};
 ghost use Rattle.area_space.specs.View.{view};
-ghost use Rattle.word_graph.specs.Views.{CanSee, HasObject, field_in, form_in, parts_in, told};
+ghost use Rattle.word_graph.specs.Views.{CanSee, HasObject, cons_in, field_in, form_in, is_cons_in, parts_in, told};
 ghost use Rattle.mem_port.specs.Store.{StoresNothing};
 ghost use Rattle.obj_layout.specs.Forwards.{word_at};
-ghost use Rattle.obj_layout.specs.Shapes.{IsWhole, charge_at, pair_charge};
+ghost use Rattle.obj_layout.specs.Shapes.{IsWhole, charge_at, cons_shape, pair_charge, shape_of};
 ghost use Rattle.lisp_ground.specs.Leading.{HasCdr, cdr_in};
 ghost use Rattle.word_graph.specs.Shown.{code_in, count_in, part_in};
 ghost use Rattle.word_graph.specs.Words.{HasPart};
 
 use area_space::Ground;
-use lisp_graph::{Form, Seen};
+use lisp_graph::{Form, Seen, SeenCons};
 use mem_port::Memory;
 use obj_layout::resolve;
 use std::sync::ledger::Ledger;
@@ -193,4 +193,65 @@ pub fn field_at<M: Memory, L: Ledger>(
 {
     let word = part_at(&mut ground.mem, key as u32, index, steps)?;
     value_of_word(ground, word, steps)
+}
+
+// The cdr of the cons that begins with this word, and the charge of the cons. It takes at most one memory access.
+fn rest_behind<M: Memory, L: Ledger>(
+    mem: &mut M,
+    at: u32,
+    first: Word,
+    steps: &mut Steps<L>,
+) -> Result<(Word, u32), SwapFault>
+    requires in_range { at < length (M.seen mem.old).words }
+    requires first { first ≡ word_at (M.seen mem.old).words at }
+    requires whole { HasCdr (M.seen mem.old).words at }
+    requires shape { shape_of first ≡ cons_shape first.cdr }
+    ensures cdr { IfOk result (λ rest. rest.0.content ≡ cdr_in (M.seen mem.old).words at) }
+    ensures value { IfOk result (λ rest. rest.1 ≡ charge_at (M.seen mem.old).words at) }
+    ensures unchanged { StoresNothing (M.seen mem.old) (M.seen mem.new) }
+    ensures accounted { AccountsForFaults (shown M.Memory mem.old) (shown M.Memory mem.new) steps.old steps.new result }
+    ensures cost { steps.new ≤ steps.old + 1 }
+{
+    // No address of a memory overflows, as this call's contract says.
+    let _pages = mem.pages();
+    match first.cdr_code() {
+        CdrCode::Normal => {
+            let second = mem.read(at + 1, steps)?;
+            Ok((second, pair_charge(second)))
+        }
+        CdrCode::Nil => Ok((Word::nil(), 3)),
+        _ => Ok((Word::list_at(at + 1), 3)),
+    }
+}
+
+/// The cons at a place: what `form_at` and `field_at` return of it. Each of its words is read once. It takes at most 26 memory
+/// accesses. On a swap error nothing is stored, and the count of swap errors rises.
+pub fn cons_at<M: Memory, L: Ledger>(
+    ground: &mut Ground<M>,
+    key: u64,
+    steps: &mut Steps<L>,
+) -> Result<SeenCons, SwapFault>
+    requires object { HasObject (view ground.old) key }
+    requires pair { is_cons_in (view ground.old) key ≡ true }
+    ensures value { IfOk result (λ cons. cons ≡ cons_in (view ground.old) key) }
+    ensures unchanged { StoresNothing (view ground.old).mem.store (view ground.new).mem.store }
+    ensures table { ground.new.table ≡ ground.old.table }
+    ensures accounted { AccountsForFaults (view ground.old).mem (view ground.new).mem steps.old steps.new result }
+    ensures cost { steps.new ≤ steps.old + 26 }
+{
+    let at = key as u32;
+    let class = ground.table.class_of(at);
+    let first = ground.mem.read(at, steps)?;
+    let (rest, charge) = rest_behind(&mut ground.mem, at, first, steps)?;
+    let car = value_of_word(ground, first, steps)?;
+    let cdr = value_of_word(ground, rest, steps)?;
+    match class {
+        Some(class) => Ok(SeenCons {
+            area: class.area,
+            charge,
+            car,
+            cdr,
+        }),
+        None => unreachable!(),
+    }
 }
