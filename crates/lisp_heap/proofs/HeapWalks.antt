@@ -8,14 +8,15 @@ use Rattle.store_word.specs.Words.{Parts, null_word}
 use Rattle.store_word.specs.declared.space.Space.{Space}
 use Rattle.lisp_graph.specs.declared.walk.Form.{Form}
 use Rattle.lisp_graph.specs.declared.walk.Seen.{Seen}
-use Rattle.lisp_graph.specs.KeyedGraph.{Shows}
+use Rattle.lisp_graph.specs.declared.walk.SeenCons.{SeenCons}
+use Rattle.lisp_graph.specs.KeyedGraph.{Shows, cons_at}
 use Rattle.mem_port.specs.Frames.{LeavesRoom}
 use Rattle.mem_port.specs.Store.{Store, StoresNothing, MarksHold}
 use Rattle.area_space.specs.Table.{Table}
 use Rattle.scavenger.specs.Scan.{Scan}
 use Rattle.word_graph.specs.lisp_meaning.State.{State, aim_of}
 use Rattle.word_graph.specs.Placed.{MeanValues, CanWalk, CanSee, HasObject}
-use Rattle.word_graph.specs.Shown.{told, form_in, field_in, parts_in}
+use Rattle.word_graph.specs.Shown.{told, form_in, field_in, parts_in, is_cons_in, cons_in}
 use Rattle.word_graph.proofs.HeldObjects.{registers_are_told, keys_are_objects, reached_show, reads_show_the_same, walks_go_on}
 use Rattle.word_graph.proofs.RenamedGraph.{dump_is_of_state as dump_shown}
 use Rattle.word_graph.proofs.StateCensus.{census_is_of_state as census_shown}
@@ -130,7 +131,22 @@ module _ (m : Store) (t : Table) (scan : Scan) (registers : List Parts) (space :
       pub field_is : {E : Type 0} (index : ℕ) (result : Result Seen E) → IfOk result (λ seen. seen ≡ field_in m t key index) → IfOk result (λ seen. seen ≡ (graph_in h).field key index)
       field_is index result e = subst (λ (x : HeapView). IfOk result (λ seen. seen ≡ (graph_in x).field key index)) view e
 
+      field_is_shown : (index : ℕ) (seen : Seen) → seen ≡ field_in m t key index → Shows (graph_in h) seen
+      field_is_shown index seen e =
+          subst (λ (x : HeapView). Shows (graph_in x) seen) view
+          (subst (Shows (graph_in (contents_of m t scan registers space faults resident counts))) (sym e) (reached_show.fields m t registers walks key has_key index))
+
       pub field_shows : {E : Type 0} (index : ℕ) (result : Result Seen E) → IfOk result (λ seen. seen ≡ field_in m t key index) → IfOk result (Shows (graph_in h))
-      field_shows index result is = IfOk-weaker result (λ (seen : Seen). seen ≡ field_in m t key index) (Shows (graph_in h))
-          (λ seen e. (subst (λ (x : HeapView). Shows (graph_in x) seen) view
-          (subst (Shows (graph_in (contents_of m t scan registers space faults resident counts))) (sym e) (reached_show.fields m t registers walks key has_key index)))) is
+      field_shows index result is = IfOk-weaker result (λ (seen : Seen). seen ≡ field_in m t key index) (Shows (graph_in h)) (λ seen e. field_is_shown index seen e) is
+
+      pub cons_told : (graph_in h).cons key ≡ true → is_cons_in m t key ≡ true
+      cons_told pair = subst (λ (x : HeapView). (graph_in x).cons key ≡ true) (sym view) pair
+
+      pub cons_is : {E : Type 0} (result : Result SeenCons E) → IfOk result (λ cons. cons ≡ cons_in m t key) → IfOk result (λ cons. cons ≡ cons_at (graph_in h) key)
+      cons_is result e = subst (λ (x : HeapView). IfOk result (λ cons. cons ≡ cons_at (graph_in x) key)) view e
+
+      pub car_shows : {E : Type 0} (result : Result SeenCons E) → IfOk result (λ cons. cons ≡ cons_in m t key) → IfOk result (λ cons. Shows (graph_in h) cons.car)
+      car_shows result is = IfOk-weaker result (λ (cons : SeenCons). cons ≡ cons_in m t key) (λ (cons : SeenCons). Shows (graph_in h) cons.car) (λ cons e. field_is_shown 0 cons.car (ap (λ (x : SeenCons). x.car) e)) is
+
+      pub cdr_shows : {E : Type 0} (result : Result SeenCons E) → IfOk result (λ cons. cons ≡ cons_in m t key) → IfOk result (λ cons. Shows (graph_in h) cons.cdr)
+      cdr_shows result is = IfOk-weaker result (λ (cons : SeenCons). cons ≡ cons_in m t key) (λ (cons : SeenCons). Shows (graph_in h) cons.cdr) (λ cons e. field_is_shown 1 cons.cdr (ap (λ (x : SeenCons). x.cdr) e)) is

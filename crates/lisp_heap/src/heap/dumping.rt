@@ -9,7 +9,7 @@ ghost use Rattle.lisp_heap.specs.Stands.{Stands};
 ghost use Rattle.lisp_heap.specs.Walking.{StandsAsBefore, graph_in};
 
 use crate::heap::Heap;
-use lisp_graph::{Areas, Form, Seen, Text, Walk};
+use lisp_graph::{Areas, Form, Seen, SeenCons, Text, Walk};
 use mem_port::Memory;
 use std::alloc::Global;
 use std::marker::{Brand, Model, PhantomData};
@@ -63,6 +63,10 @@ impl<M: Memory, O: WalkStart> Walk for WalkedHeap<M, O> {
 
     fn field_of(&mut self, key: u64, index: u32) -> Result<Seen, SwapFault> {
         self.heap.field_of(key, index)
+    }
+
+    fn cons_of(&mut self, key: u64) -> Result<SeenCons, SwapFault> {
+        self.heap.cons_of(key)
     }
 }
 

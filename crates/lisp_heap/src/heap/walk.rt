@@ -1,14 +1,15 @@
 //! A walk over what a heap holds.
 ghost use Rattle.std.specs.Prelude.{◌≡◌, ◌<◌, length, slice_get, Some, true, IfOk};
 ghost use Rattle.lisp_graph.specs.Cause.{HasCause};
-ghost use Rattle.lisp_graph.specs.KeyedGraph.{Shows};
+ghost use Rattle.lisp_graph.specs.KeyedGraph.{Shows, cons_at};
+ghost use Rattle.lisp_graph.specs.declared.walk.Seen.TheVariants.{Cons as a_cons};
 ghost use Rattle.lisp_heap.specs.Walking.{StandsAsBefore, graph_in};
 
 use crate::heap::Heap;
-use lisp_graph::{Form, Seen, Walk};
+use lisp_graph::{Form, Seen, SeenCons, Walk};
 use mem_port::{Memory, assert_invariant};
 use store_word::SwapFault;
-use word_graph::{read_field, read_form, read_word};
+use word_graph::{read_cons, read_field, read_form, read_word};
 
 /// A walk settles nothing and stores nothing, so the heap represents the same states. A key is the
 /// address of an object, and remains that object's until the next command.
@@ -59,5 +60,19 @@ impl<M: Memory> Walk for Heap<M> {
         let seen = read_field(&mut self.ground, key, index);
         assert_invariant(&self.ground.mem);
         seen
+    }
+
+    fn cons_of(&mut self, key: u64) -> Result<SeenCons, SwapFault>
+        requires { Shows (graph_in self.old) (a_cons key) }
+        ensures value { IfOk result (λ cons. cons ≡ cons_at (graph_in self.old) key) }
+        ensures car { IfOk result (λ cons. Shows (graph_in self.old) cons.car) }
+        ensures cdr { IfOk result (λ cons. Shows (graph_in self.old) cons.cdr) }
+        ensures unchanged { graph_in self.new ≡ graph_in self.old }
+        ensures cause { HasCause self.old.faults self.new.faults result }
+        ensures stands { StandsAsBefore self.old self.new }
+    {
+        let cons = read_cons(&mut self.ground, key);
+        assert_invariant(&self.ground.mem);
+        cons
     }
 }
