@@ -1,9 +1,12 @@
 pub mod Faults
+pub mod Fetching
 pub mod Lists
+pub mod Making
 pub mod Opening
 pub mod Pairs
 pub mod Parts
 pub mod Reading
 pub mod Refusing
+pub mod Storing
 pub mod Views
 pub mod Words

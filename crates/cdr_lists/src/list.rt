@@ -1,20 +1,15 @@
 //! A new list, as a compact run of cells in its class.
-ghost use Rattle.std.specs.Prelude.{ℕ, ◌≡◌, ◌+◌, ◌*◌, ◌<◌, ◌≤◌, ◌^◌, length, IsOk, IfOk, OnOk, OnErr};
+ghost use Rattle.std.specs.Prelude.{◌≡◌, ◌+◌, ◌*◌, ◌<◌, ◌≤◌, length, IsOk, IfOk, OnOk, OnErr};
 ghost use Rattle.mem_port.specs.View.{WithoutFault, AccountsForFaults, shown};
 ghost use Rattle.area_space.specs.View.{view};
-ghost use Rattle.transporter.specs.WrittenMarks.{MarksByWords};
 ghost use Rattle.cdr_lists.specs.Opening.{OpensIfNeeded};
 ghost use Rattle.cdr_lists.specs.Views.{CanList, ListedOn};
-ghost use Rattle.transporter.specs.Views.{NoOldAddresses, LiveWordsUnchanged, MarksFollow, WordsUnchanged, PreservesScanned};
 ghost use Rattle.mem_port.specs.Store.{StoresNothing};
 ghost use Rattle.mem_port.specs.Spans.{HoldsSpan};
 ghost use Rattle.mem_port.specs.declared.spans.Span.{Span};
-ghost use Rattle.obj_layout.specs.Forwards.{word_at};
-ghost use Rattle.transporter.specs.Growth.{OpensOrStays};
 ghost use Rattle.transporter.specs.Writes.{Writes};
-ghost use Rattle.cdr_lists.specs.Lists.{CanLay, cell_code, cell_word, item_word};
-ghost use Rattle.transporter.specs.Making.{PlacesNew};
-ghost use Rattle.transporter.specs.Preserving.{FreshOn};
+ghost use Rattle.cdr_lists.specs.Lists.{CanLay, cell_code, cell_word};
+ghost use Rattle.cdr_lists.specs.Making.{AddsCells, FailsWhole, HasCellsAt, PlacesWords};
 
 use area_space::{Ground, Origin};
 use lisp_graph::Items;
@@ -101,25 +96,13 @@ pub fn make_list<M: Memory, L: Ledger>(
 
     // What is made, and at which address.
     ensures made { IfOk result (ListedOn (view ground.old) (view ground.new) area level registers.now items.now) }
-    ensures in_range { IfOk result (λ at. at < 2 ^ 28) }
-    ensures words { IfOk result (λ at. (i : ℕ) → i < length items.now → word_at (view ground.new).mem.store.words (at + i) ≡ cell_word registers.now items.now i) }
-    ensures placed { IfOk result (λ at. PlacesNew ground.old.table ground.new.table area level at (length items.now) (3 * length items.now)) }
-    ensures unmarked { IfOk result (λ at. MarksByWords (view ground.old).mem.store (view ground.new).mem.store at (length items.now)) }
+    ensures words { IfOk result (HasCellsAt (view ground.new) registers.now items.now) }
+    ensures placed { IfOk result (PlacesWords (view ground.old) (view ground.new) (record { area = area; level = level; words = length items.now; charge = 3 * length items.now })) }
     ensures needed { OpensIfNeeded ground.old.table ground.new.table area level (length items.now) }
 
-    // What is unchanged in the ground.
-    ensures live { LiveWordsUnchanged (view ground.old) (view ground.new) }
-    ensures preserves { PreservesScanned (view ground.old) (view ground.new) }
-    ensures stays_fresh { ((i : ℕ) → i < length items.now → FreshOn ground.old.table (item_word registers.now items.now i).content) → NoOldAddresses (view ground.old)
-        → NoOldAddresses (view ground.new) }
-    ensures marks { MarksFollow (view ground.old) (view ground.new) }
-
-    // After a swap error, and that it is counted.
-    ensures opened { OnErr result (OpensOrStays ground.old.table ground.new.table) }
-    ensures fault { OnErr result (WordsUnchanged (view ground.old) (view ground.new)) }
-    ensures accounted { AccountsForFaults (view ground.old).mem (view ground.new).mem steps.old steps.new result }
-
-    // The cost.
+    // What is unchanged in the ground, swap errors and the cost.
+    ensures stays_ground { AddsCells (view ground.old) (view ground.new) registers.now items.now }
+    ensures fault { FailsWhole (view ground.old) (view ground.new) result steps.old steps.new }
     ensures cost { steps.new ≤ steps.old + length items.now + 5 }
 {
     let numbers = items.as_slice();

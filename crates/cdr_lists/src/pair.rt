@@ -1,18 +1,13 @@
 //! A new cons, as a pair in its class.
-ghost use Rattle.std.specs.Prelude.{◌≡◌, ◌+◌, ◌<◌, ◌≤◌, ◌^◌, length, slice_get, Some, IfOk, OnOk, OnErr};
+ghost use Rattle.std.specs.Prelude.{◌≡◌, ◌+◌, ◌<◌, ◌≤◌, length, slice_get, Some, IfOk, OnOk, OnErr};
 ghost use Rattle.mem_port.specs.View.{AccountsForFaults, shown};
 ghost use Rattle.area_space.specs.View.{view};
-ghost use Rattle.transporter.specs.WrittenMarks.{MarksByWords};
 ghost use Rattle.cdr_lists.specs.Opening.{OpensIfNeeded};
 ghost use Rattle.cdr_lists.specs.Views.{CanPair, PairedOn};
-ghost use Rattle.transporter.specs.Views.{NoOldAddresses, LiveWordsUnchanged, MarksFollow, WordsUnchanged, PreservesScanned};
-ghost use Rattle.obj_layout.specs.Forwards.{word_at};
-ghost use Rattle.transporter.specs.Growth.{OpensOrStays};
 ghost use Rattle.mem_port.specs.Store.{StoresNothing};
 ghost use Rattle.transporter.specs.Writes.{Writes};
-ghost use Rattle.transporter.specs.Making.{PlacesNew};
-ghost use Rattle.transporter.specs.Preserving.{FreshOn};
-ghost use Rattle.cdr_lists.specs.Pairs.{first_word, second_code, second_word, words_of_pair};
+ghost use Rattle.cdr_lists.specs.Making.{AddsPair, FailsWhole, HasPairAt, PlacesWords};
+ghost use Rattle.cdr_lists.specs.Pairs.{second_code, words_of_pair};
 
 use crate::list::CELL;
 use area_space::{Ground, Origin};
@@ -77,24 +72,13 @@ pub fn make_pair<M: Memory, L: Ledger>(
 
     // What is made, and at which address.
     ensures made { IfOk result (PairedOn (view ground.old) (view ground.new) area level 2 car cdr) }
-    ensures in_range { IfOk result (λ at. at < 2 ^ 28) }
-    ensures words { IfOk result (λ at. (word_at (view ground.new).mem.store.words at ≡ first_word car) × (word_at (view ground.new).mem.store.words (at + 1) ≡ second_word 2 cdr)) }
-    ensures placed { IfOk result (λ at. PlacesNew ground.old.table ground.new.table area level at 2 2) }
-    ensures unmarked { IfOk result (λ at. MarksByWords (view ground.old).mem.store (view ground.new).mem.store at 2) }
+    ensures words { IfOk result (HasPairAt (view ground.new) 2 car cdr) }
+    ensures placed { IfOk result (PlacesWords (view ground.old) (view ground.new) (record { area = area; level = level; words = 2; charge = 2 })) }
     ensures needed { OpensIfNeeded ground.old.table ground.new.table area level 2 }
 
-    // What is unchanged in the ground.
-    ensures live { LiveWordsUnchanged (view ground.old) (view ground.new) }
-    ensures preserves { PreservesScanned (view ground.old) (view ground.new) }
-    ensures stays_fresh { FreshOn ground.old.table car.content → FreshOn ground.old.table cdr.content → NoOldAddresses (view ground.old) → NoOldAddresses (view ground.new) }
-    ensures marks { MarksFollow (view ground.old) (view ground.new) }
-
-    // After a swap error, and that it is counted.
-    ensures opened { OnErr result (OpensOrStays ground.old.table ground.new.table) }
-    ensures fault { OnErr result (WordsUnchanged (view ground.old) (view ground.new)) }
-    ensures accounted { AccountsForFaults (view ground.old).mem (view ground.new).mem steps.old steps.new result }
-
-    // The cost.
+    // What is unchanged in the ground, swap errors and the cost.
+    ensures stays_ground { AddsPair (view ground.old) (view ground.new) car cdr }
+    ensures fault { FailsWhole (view ground.old) (view ground.new) result steps.old steps.new }
     ensures cost { steps.new ≤ steps.old + 4 }
 {
     make_pair_of(ground, area, level, PAIR, car, cdr, steps)
@@ -115,24 +99,13 @@ pub fn make_pair_of<M: Memory, L: Ledger>(
 
     // What is made, and at which address.
     ensures made { IfOk result (PairedOn (view ground.old) (view ground.new) area level charge car cdr) }
-    ensures in_range { IfOk result (λ at. at < 2 ^ 28) }
-    ensures words { IfOk result (λ at. (word_at (view ground.new).mem.store.words at ≡ first_word car) × (word_at (view ground.new).mem.store.words (at + 1) ≡ second_word charge cdr)) }
-    ensures placed { IfOk result (λ at. PlacesNew ground.old.table ground.new.table area level at 2 charge) }
-    ensures unmarked { IfOk result (λ at. MarksByWords (view ground.old).mem.store (view ground.new).mem.store at 2) }
+    ensures words { IfOk result (HasPairAt (view ground.new) charge car cdr) }
+    ensures placed { IfOk result (PlacesWords (view ground.old) (view ground.new) (record { area = area; level = level; words = 2; charge = charge })) }
     ensures needed { OpensIfNeeded ground.old.table ground.new.table area level 2 }
 
-    // What is unchanged in the ground.
-    ensures live { LiveWordsUnchanged (view ground.old) (view ground.new) }
-    ensures preserves { PreservesScanned (view ground.old) (view ground.new) }
-    ensures stays_fresh { FreshOn ground.old.table car.content → FreshOn ground.old.table cdr.content → NoOldAddresses (view ground.old) → NoOldAddresses (view ground.new) }
-    ensures marks { MarksFollow (view ground.old) (view ground.new) }
-
-    // After a swap error, and that it is counted.
-    ensures opened { OnErr result (OpensOrStays ground.old.table ground.new.table) }
-    ensures fault { OnErr result (WordsUnchanged (view ground.old) (view ground.new)) }
-    ensures accounted { AccountsForFaults (view ground.old).mem (view ground.new).mem steps.old steps.new result }
-
-    // The cost.
+    // What is unchanged in the ground, swap errors and the cost.
+    ensures stays_ground { AddsPair (view ground.old) (view ground.new) car cdr }
+    ensures fault { FailsWhole (view ground.old) (view ground.new) result steps.old steps.new }
     ensures cost { steps.new ≤ steps.old + 4 }
 {
     let first = car.with_cdr(CdrCode::Normal);

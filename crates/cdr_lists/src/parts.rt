@@ -1,19 +1,18 @@
 //! Writes the parts of a cons.
-ghost use Rattle.std.specs.Prelude.{◌≡◌, ◌≢◌, ◌↔◌, ℕ, ◌+◌, ◌-◌, ◌*◌, ◌<◌, ◌≤◌, length, Err, OnOk, OnErr};
-ghost use Rattle.mem_port.specs.View.{AccountsForFaults, AccountsForFaultsIf, shown};
+ghost use Rattle.std.specs.Prelude.{◌≡◌, ◌+◌, ◌-◌, ◌*◌, ◌<◌, ◌≤◌, length, OnOk, OnErr};
+ghost use Rattle.mem_port.specs.View.{AccountsForFaults, shown};
 ghost use Rattle.area_space.specs.View.{view};
-ghost use Rattle.cdr_lists.specs.Faults.{is_fault};
-ghost use Rattle.cdr_lists.specs.Views.{CanSet, IsCellAt, IsConsPlace, KeepsCons, LaysPair, MarksCar, MarksCdr, RelaysCdr, RelaysCell, SetsCar, SetsCdr, SettlesCellAtMost, SettlesWordAtMost};
+ghost use Rattle.cdr_lists.specs.Faults.{AccountsForRefusals};
+ghost use Rattle.cdr_lists.specs.Views.{CanSet, IsCellAt, KeepsCons, LaysPair, RelaysCell, SetsCdr, SettlesWordAtMost};
 ghost use Rattle.transporter.specs.Views.{NoOldAddresses, LiveWordsUnchanged, LiveWordsUnchangedExcept, MarksFollow, MovesAtMost, WordsUnchanged, PreservesScanned};
-ghost use Rattle.store_word.specs.Words.{tag_of};
 ghost use Rattle.store_word.specs.declared.word.Content.TheVariants.{List as ListAt};
 ghost use Rattle.mem_port.specs.Store.{StoresNothing};
 ghost use Rattle.obj_layout.specs.Forwards.{word_at};
 ghost use Rattle.transporter.specs.Preserving.{FreshOn};
-ghost use Rattle.transporter.specs.Reads.{StaysWhole};
-ghost use Rattle.cdr_lists.specs.Parts.{WritesCar, WritesCdr, WritesRelay};
+ghost use Rattle.cdr_lists.specs.Parts.{WritesRelay};
+ghost use Rattle.cdr_lists.specs.Refusing.{RefusesOthers};
+ghost use Rattle.cdr_lists.specs.Storing.{FailsCdr, KeepsButCar, KeepsButCdr, StoresCar, StoresCdr};
 ghost use Rattle.cdr_lists.specs.Words.{plain};
-ghost use Rattle.store_word.specs.declared.word.CdrCode.TheVariants.{Normal};
 
 use crate::fault::ListFault;
 use crate::pair::PAIR;
@@ -21,7 +20,7 @@ use crate::places::read_cons;
 use area_space::{Ground, Origin};
 use mem_port::Memory;
 use std::sync::ledger::Ledger;
-use store_word::{CdrCode, Steps, SwapFault, Tag, Word};
+use store_word::{CdrCode, Steps, SwapFault, Word};
 use transporter::{fetch, place_for};
 
 /// Writes the car of the cons to which a word refers. The word there keeps its cdr code.
@@ -37,24 +36,17 @@ pub fn set_car<M: Memory, L: Ledger>(
 ) -> Result<(), ListFault>
     requires { CanSet (view ground.old) of value }
 
-    // What is written.
-    ensures set { OnOk result (SetsCar (view ground.old) (view ground.new) of.content value.content) }
-    ensures written { OnOk result (WritesCar (view ground.old).mem.store (view ground.new).mem.store of.content value) }
-
-    // What is refused, and what a refusal leaves unchanged.
-    ensures refused { (result ≡ Err ListFault.NotACons) ↔ (tag_of of.content ≢ Tag.List) }
-    ensures unread { result ≡ Err ListFault.NotACons → steps.new ≡ steps.old }
+    // What is written, and what is refused.
+    ensures set { OnOk result (StoresCar (view ground.old) (view ground.new) of.content value) }
+    ensures refused { RefusesOthers (view ground.old) (view ground.new) of result steps.old steps.new }
     ensures unchanged { OnErr result (StoresNothing (view ground.old).mem.store (view ground.new).mem.store) }
 
     // What is unchanged in the ground.
     ensures table { ground.new.table ≡ ground.old.table }
-    ensures moves { MovesAtMost (view ground.old) (view ground.new) 0 }
-    ensures preserves { PreservesScanned (view ground.old) (view ground.new) }
-    ensures stays_fresh { NoOldAddresses (view ground.old) → NoOldAddresses (view ground.new) }
-    ensures marks { MarksCar (view ground.old) (view ground.new) of.content }
+    ensures stays_ground { KeepsButCar (view ground.old) (view ground.new) of.content }
 
     // Swap errors and the cost.
-    ensures accounted { AccountsForFaultsIf (view ground.old).mem (view ground.new).mem steps.old steps.new (is_fault result) }
+    ensures accounted { AccountsForRefusals (view ground.old).mem (view ground.new).mem steps.old steps.new result }
     ensures cost { steps.new ≤ steps.old + 14 }
 {
     let cons = read_cons(&mut ground.mem, of, steps)?;
@@ -79,30 +71,14 @@ pub fn set_cdr<M: Memory, L: Ledger>(
 ) -> Result<(), ListFault>
     requires { CanSet (view ground.old) of value }
 
-    // What is written, and what moves for it.
-    ensures set { OnOk result (SetsCdr (view ground.old) (view ground.new) of.content value.content) }
-    ensures written { OnOk result (WritesCdr (view ground.old).mem.store (view ground.new).mem.store of.content value) }
-    ensures laid { OnOk result (RelaysCdr (view ground.old) (view ground.new) of.content value) }
-    ensures table { OnOk result ((at : ℕ) → IsConsPlace (view ground.old) of.content at → (word_at (view ground.old).mem.store.words at).cdr ≡ Normal
-        → ground.new.table ≡ ground.old.table) }
-    ensures cells { OnOk result ((at : ℕ) → IsConsPlace (view ground.old) of.content at → (word_at (view ground.old).mem.store.words at).cdr ≡ Normal
-        → MovesAtMost (view ground.old) (view ground.new) 0) }
+    // What is written, what is refused, and what a refusal leaves.
+    ensures set { OnOk result (StoresCdr (view ground.old) (view ground.new) of.content value) }
+    ensures refused { RefusesOthers (view ground.old) (view ground.new) of result steps.old steps.new }
+    ensures fault { OnErr result (FailsCdr (view ground.old) (view ground.new) of.content) }
 
-    // What is refused, and what a refusal leaves unchanged.
-    ensures refused { (result ≡ Err ListFault.NotACons) ↔ (tag_of of.content ≢ Tag.List) }
-    ensures unread { result ≡ Err ListFault.NotACons → steps.new ≡ steps.old }
-    ensures unchanged { result ≡ Err ListFault.NotACons → StaysWhole (view ground.old) (view ground.new) }
-    ensures fault { OnErr result (KeepsCons (view ground.old) (view ground.new) of.content) }
-    ensures registers { OnErr result (SettlesCellAtMost (view ground.old) (view ground.new) of.content) }
-    ensures moves { OnErr result (MovesAtMost (view ground.old) (view ground.new) 1) }
-
-    // What is unchanged in the ground.
-    ensures preserves { PreservesScanned (view ground.old) (view ground.new) }
-    ensures stays_fresh { NoOldAddresses (view ground.old) → NoOldAddresses (view ground.new) }
-    ensures marks { MarksCdr (view ground.old) (view ground.new) of.content }
-
-    // Swap errors.
-    ensures accounted { AccountsForFaultsIf (view ground.old).mem (view ground.new).mem steps.old steps.new (is_fault result) }
+    // What is unchanged in the ground, and swap errors.
+    ensures stays_ground { KeepsButCdr (view ground.old) (view ground.new) of.content }
+    ensures accounted { AccountsForRefusals (view ground.old).mem (view ground.new).mem steps.old steps.new result }
 
     // What is placed, and the cost.
     ensures at_most { ground.new.table.placed ≤ ground.old.table.placed + 2050 }

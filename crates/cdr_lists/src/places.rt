@@ -1,10 +1,10 @@
 //! Finds a cons by a reference.
 ghost use Rattle.std.specs.Prelude.{◌≡◌, ◌≢◌, ◌↔◌, ◌+◌, ◌<◌, ◌≤◌, Err, IfOk, IfSome};
-ghost use Rattle.mem_port.specs.View.{AccountsForFaultsIf, shown};
+ghost use Rattle.mem_port.specs.View.{shown};
 ghost use Rattle.store_word.specs.Words.{tag_of};
 ghost use Rattle.mem_port.specs.Store.{StoresNothing};
 ghost use Rattle.obj_layout.specs.Forwards.{word_at};
-ghost use Rattle.cdr_lists.specs.Faults.{is_fault};
+ghost use Rattle.cdr_lists.specs.Faults.{AccountsForRefusals};
 ghost use Rattle.cdr_lists.specs.Reading.{CanFind, IsConsAt, IsConsPlace};
 
 use crate::fault::ListFault;
@@ -34,7 +34,7 @@ pub(crate) fn find_first<M: Memory, L: Ledger>(
     ensures refused { (result ≡ Err ListFault.NotACons) ↔ (tag_of of.content ≢ Tag.List) }
     ensures unread { result ≡ Err ListFault.NotACons → steps.new ≡ steps.old }
     ensures unchanged { StoresNothing (M.seen mem.old) (M.seen mem.new) }
-    ensures accounted { AccountsForFaultsIf (shown M.Memory mem.old) (shown M.Memory mem.new) steps.old steps.new (is_fault result) }
+    ensures accounted { AccountsForRefusals (shown M.Memory mem.old) (shown M.Memory mem.new) steps.old steps.new result }
     ensures cost { steps.new ≤ steps.old + 12 }
 {
     match of.content() {
@@ -58,7 +58,7 @@ pub(crate) fn read_cons<M: Memory, L: Ledger>(
     ensures refused { (result ≡ Err ListFault.NotACons) ↔ (tag_of of.content ≢ Tag.List) }
     ensures unread { result ≡ Err ListFault.NotACons → steps.new ≡ steps.old }
     ensures unchanged { StoresNothing (M.seen mem.old) (M.seen mem.new) }
-    ensures accounted { AccountsForFaultsIf (shown M.Memory mem.old) (shown M.Memory mem.new) steps.old steps.new (is_fault result) }
+    ensures accounted { AccountsForRefusals (shown M.Memory mem.old) (shown M.Memory mem.new) steps.old steps.new result }
     ensures cost { steps.new ≤ steps.old + 13 }
 {
     let found = find_first(mem, of, steps)?;

@@ -1,4 +1,4 @@
-use Rattle.std.proofs.Common.{ℕ, ◌≡◌, ◌<◌, length, ◌*◌, ◌+◌, ◌∙◌, sym, ap, subst, arith, List}
+use Rattle.std.proofs.Common.{ℕ, ◌≡◌, ◌<◌, length, ◌*◌, ◌+◌, ◌∙◌, sym, ap, subst, arith, List, rules}
 use Rattle.mem_port.specs.Store.{Store}
 use Rattle.area_space.specs.Table.{Table}
 use Rattle.obj_layout.specs.Forwards.{word_at}
@@ -39,32 +39,23 @@ pub returns-in_err-lay_cells-clause-fault : goal.returns-in_err-lay_cells-clause
 returns-in_err-lay_cells-clause-fault g c =
     let can = same_items c.as_slice-numbers.ensures.value c.requires in
     let p = c.place_for-placed.ensures in
-    on_err c.from_residual.result _ (opened_stays _ _ _ _ _ _ _ c.requires.kept c.args.area c.args.level (list_area _ _ _ _ _ _ can) (list_level _ _ _ _ _ _ can) _ _ _ p.opened c.place_for-placed.result.at p.end (g.M.Memory.seen c.lay_cells.new.mem) c.in_err-lay_cells.ensures.err)
+    record {
+      opened = on_err c.from_residual.result _ (opened_or_same _ _ _ _ _ _ _ c.requires.kept c.args.area c.args.level (list_area _ _ _ _ _ _ can) (list_level _ _ _ _ _ _ can) _ _ _ p.opened c.place_for-placed.result.at p.end);
+      fault = on_err c.from_residual.result _ (opened_stays _ _ _ _ _ _ _ c.requires.kept c.args.area c.args.level (list_area _ _ _ _ _ _ can) (list_level _ _ _ _ _ _ can) _ _ _ p.opened c.place_for-placed.result.at p.end (g.M.Memory.seen c.lay_cells.new.mem) c.in_err-lay_cells.ensures.err);
+      accounted = search rules;
+    }
 
-pub returns-in_err-lay_cells-clause-live : goal.returns-in_err-lay_cells-clause-live
-returns-in_err-lay_cells-clause-live g c =
+pub returns-in_err-lay_cells-clause-stays_ground : goal.returns-in_err-lay_cells-clause-stays_ground
+returns-in_err-lay_cells-clause-stays_ground g c =
     let can = same_items c.as_slice-numbers.ensures.value c.requires in
     let p = c.place_for-placed.ensures in
-    opened_live _ _ _ _ _ _ _ c.requires.kept c.args.area c.args.level (list_area _ _ _ _ _ _ can) (list_level _ _ _ _ _ _ can) _ _ _ p.opened c.place_for-placed.result.at p.end (g.M.Memory.seen c.lay_cells.new.mem) c.in_err-lay_cells.ensures.err
-
-pub returns-in_err-lay_cells-clause-preserves : goal.returns-in_err-lay_cells-clause-preserves
-returns-in_err-lay_cells-clause-preserves g c =
-    let can = same_items c.as_slice-numbers.ensures.value c.requires in
-    let p = c.place_for-placed.ensures in
-    opened-preserves (opened_live _ _ _ _ _ _ _ c.requires.kept c.args.area c.args.level (list_area _ _ _ _ _ _ can) (list_level _ _ _ _ _ _ can) _ _ _ p.opened c.place_for-placed.result.at p.end (g.M.Memory.seen c.lay_cells.new.mem) c.in_err-lay_cells.ensures.err) (opened_or_same _ _ _ _ _ _ _ c.requires.kept c.args.area c.args.level (list_area _ _ _ _ _ _ can) (list_level _ _ _ _ _ _ can) _ _ _ p.opened c.place_for-placed.result.at p.end)
-
-pub returns-in_err-lay_cells-clause-stays_fresh : goal.returns-in_err-lay_cells-clause-stays_fresh
-returns-in_err-lay_cells-clause-stays_fresh g c =
-    let can = same_items c.as_slice-numbers.ensures.value c.requires in
-    let p = c.place_for-placed.ensures in
-    let stays_fresh = opened_stays_fresh _ _ _ _ _ _ _ c.requires.kept c.args.area c.args.level (list_area _ _ _ _ _ _ can) (list_level _ _ _ _ _ _ can) _ _ _ p.opened c.place_for-placed.result.at p.end (g.M.Memory.seen c.lay_cells.new.mem) c.in_err-lay_cells.ensures.err in
-    λ fresh. stays_fresh
-
-pub returns-in_err-lay_cells-clause-opened : goal.returns-in_err-lay_cells-clause-opened
-returns-in_err-lay_cells-clause-opened g c =
-    let can = same_items c.as_slice-numbers.ensures.value c.requires in
-    let p = c.place_for-placed.ensures in
-    on_err c.from_residual.result _ (opened_or_same _ _ _ _ _ _ _ c.requires.kept c.args.area c.args.level (list_area _ _ _ _ _ _ can) (list_level _ _ _ _ _ _ can) _ _ _ p.opened c.place_for-placed.result.at p.end)
+    let live = opened_live _ _ _ _ _ _ _ c.requires.kept c.args.area c.args.level (list_area _ _ _ _ _ _ can) (list_level _ _ _ _ _ _ can) _ _ _ p.opened c.place_for-placed.result.at p.end (g.M.Memory.seen c.lay_cells.new.mem) c.in_err-lay_cells.ensures.err in
+    record {
+      live = live;
+      preserves = opened-preserves live (opened_or_same _ _ _ _ _ _ _ c.requires.kept c.args.area c.args.level (list_area _ _ _ _ _ _ can) (list_level _ _ _ _ _ _ can) _ _ _ p.opened c.place_for-placed.result.at p.end);
+      stays_fresh = λ fresh. opened_stays_fresh _ _ _ _ _ _ _ c.requires.kept c.args.area c.args.level (list_area _ _ _ _ _ _ can) (list_level _ _ _ _ _ _ can) _ _ _ p.opened c.place_for-placed.result.at p.end (g.M.Memory.seen c.lay_cells.new.mem) c.in_err-lay_cells.ensures.err;
+      marks = marks-then (opened_marks _ _ _ _ _ _ _ c.requires.kept c.args.area c.args.level (list_area _ _ _ _ _ _ can) (list_level _ _ _ _ _ _ can) _ _ _ p.opened c.place_for-placed.result.at p.end) (marks-read c.place_for-placed.new.ground.table c.in_err-lay_cells.ensures.err);
+    }
 
 pub returns-clause-made : goal.returns-clause-made
 returns-clause-made g c =
@@ -77,13 +68,6 @@ returns-clause-made g c =
     subst (λ (xs : List ℕ). ListedOn (g.M.Memory.seen c.args.ground.now.mem) c.args.ground.now.table (g.M.Memory.seen c.commit.new.self.mem) c.commit.new.self.table c.args.area c.args.level c.args.registers.now xs c.place_for-placed.result.at) c.as_slice-numbers.ensures.value
     (subst (λ (m : Store). ListedOn (g.M.Memory.seen c.args.ground.now.mem) c.args.ground.now.table m c.commit.new.self.table c.args.area c.args.level c.args.registers.now c.as_slice-numbers.result.now c.place_for-placed.result.at) (sym memory) made)
 
-pub returns-clause-in_range : goal.returns-clause-in_range
-returns-clause-in_range g c =
-    let can = same_items c.as_slice-numbers.ensures.value c.requires in
-    let p = c.place_for-placed.ensures in
-    let some = can.some in
-    words_low _ _ _ _ _ _ _ c.requires.kept c.args.area c.args.level (list_area _ _ _ _ _ _ can) (list_level _ _ _ _ _ _ can) _ _ _ p.opened c.place_for-placed.result.at p.end (omega arith)
-
 pub returns-clause-words : goal.returns-clause-words
 returns-clause-words g c =
     subst (λ (xs : List ℕ). (i : ℕ) → i < length xs → word_at (g.M.Memory.seen c.commit.new.self.mem).words (c.place_for-placed.result.at + i) ≡ cell_word c.args.registers.now xs i) c.as_slice-numbers.ensures.value
@@ -94,41 +78,33 @@ returns-clause-placed g c =
     let can = same_items c.as_slice-numbers.ensures.value c.requires in
     let p = c.place_for-placed.ensures in
     let end = end_there _ _ _ _ _ _ _ c.requires.kept c.args.area c.args.level (list_area _ _ _ _ _ _ can) (list_level _ _ _ _ _ _ can) _ _ _ p.opened c.place_for-placed.result.at p.end in
-    subst (λ (xs : List ℕ). PlacesNew c.args.ground.now.table c.commit.new.self.table c.args.area c.args.level c.place_for-placed.result.at (length xs) (3 * length xs)) c.as_slice-numbers.ensures.value
-    (list_placed _ _ _ _ _ _ can _ _ _ p.opened c.place_for-placed.result.at p.end (g.M.Memory.seen c.lay_cells.new.mem) c.commit.new.self.table c.in_ok-lay_cells.ensures.cells (c.commit.ensures.table _ end) c.commit.ensures.pages)
+    let some = can.some in
+    let placed = list_placed _ _ _ _ _ _ can _ _ _ p.opened c.place_for-placed.result.at p.end (g.M.Memory.seen c.lay_cells.new.mem) c.commit.new.self.table c.in_ok-lay_cells.ensures.cells (c.commit.ensures.table _ end) c.commit.ensures.pages in
+    let marks = marks_by_words c.place_for-placed.result.opened p.opened c.in_ok-lay_cells.ensures.cells in
+    record {
+      in_range = words_low _ _ _ _ _ _ _ c.requires.kept c.args.area c.args.level (list_area _ _ _ _ _ _ can) (list_level _ _ _ _ _ _ can) _ _ _ p.opened c.place_for-placed.result.at p.end (omega arith);
+      placed = subst (λ (xs : List ℕ). PlacesNew c.args.ground.now.table c.commit.new.self.table c.args.area c.args.level c.place_for-placed.result.at (length xs) (3 * length xs)) c.as_slice-numbers.ensures.value placed;
+      unmarked = subst (λ (m : Store). MarksByWords (g.M.Memory.seen c.args.ground.now.mem) m c.place_for-placed.result.at (length c.args.items.now)) (sym (ap g.M.Memory.seen c.commit.ensures.memory))
+          (subst (λ (xs : List ℕ). MarksByWords (g.M.Memory.seen c.args.ground.now.mem) (g.M.Memory.seen c.lay_cells.new.mem) c.place_for-placed.result.at (length xs)) c.as_slice-numbers.ensures.value marks);
+    }
 
-pub returns-clause-live : goal.returns-clause-live
-returns-clause-live g c =
+pub returns-clause-stays_ground : goal.returns-clause-stays_ground
+returns-clause-stays_ground g c =
     let can = same_items c.as_slice-numbers.ensures.value c.requires in
     let p = c.place_for-placed.ensures in
     let end = end_there _ _ _ _ _ _ _ c.requires.kept c.args.area c.args.level (list_area _ _ _ _ _ _ can) (list_level _ _ _ _ _ _ can) _ _ _ p.opened c.place_for-placed.result.at p.end in
-    let live = list_live _ _ _ _ _ _ can _ _ _ p.opened c.place_for-placed.result.at p.end (g.M.Memory.seen c.lay_cells.new.mem) c.commit.new.self.table c.in_ok-lay_cells.ensures.cells (c.commit.ensures.table _ end) c.commit.ensures.pages in
     let memory = ap g.M.Memory.seen c.commit.ensures.memory in
-    let same = subst (λ (m : Store). LiveWordsUnchanged (g.M.Memory.seen c.args.ground.now.mem) c.args.ground.now.table m c.commit.new.self.table) (sym memory) live in
-    same
-
-pub returns-clause-preserves : goal.returns-clause-preserves
-returns-clause-preserves g c =
-    let can = same_items c.as_slice-numbers.ensures.value c.requires in
-    let p = c.place_for-placed.ensures in
-    let end = end_there _ _ _ _ _ _ _ c.requires.kept c.args.area c.args.level (list_area _ _ _ _ _ _ can) (list_level _ _ _ _ _ _ can) _ _ _ p.opened c.place_for-placed.result.at p.end in
-    let live = list_live _ _ _ _ _ _ can _ _ _ p.opened c.place_for-placed.result.at p.end (g.M.Memory.seen c.lay_cells.new.mem) c.commit.new.self.table c.in_ok-lay_cells.ensures.cells (c.commit.ensures.table _ end) c.commit.ensures.pages in
-    let memory = ap g.M.Memory.seen c.commit.ensures.memory in
-    let same = subst (λ (m : Store). LiveWordsUnchanged (g.M.Memory.seen c.args.ground.now.mem) c.args.ground.now.table m c.commit.new.self.table) (sym memory) live in
-    made-preserves _ _ _ _ c.args.area c.args.level c.place_for-placed.result.at (length c.as_slice-numbers.result.now) (3 * length c.as_slice-numbers.result.now) c.commit.ensures.sound same can.some (list_placed _ _ _ _ _ _ can _ _ _ p.opened c.place_for-placed.result.at p.end (g.M.Memory.seen c.lay_cells.new.mem) c.commit.new.self.table c.in_ok-lay_cells.ensures.cells (c.commit.ensures.table _ end) c.commit.ensures.pages)
-
-pub returns-clause-stays_fresh : goal.returns-clause-stays_fresh
-returns-clause-stays_fresh g c =
-    let can = same_items c.as_slice-numbers.ensures.value c.requires in
-    let p = c.place_for-placed.ensures in
-    let end = end_there _ _ _ _ _ _ _ c.requires.kept c.args.area c.args.level (list_area _ _ _ _ _ _ can) (list_level _ _ _ _ _ _ can) _ _ _ p.opened c.place_for-placed.result.at p.end in
-    let live = list_live _ _ _ _ _ _ can _ _ _ p.opened c.place_for-placed.result.at p.end (g.M.Memory.seen c.lay_cells.new.mem) c.commit.new.self.table c.in_ok-lay_cells.ensures.cells (c.commit.ensures.table _ end) c.commit.ensures.pages in
-    let memory = ap g.M.Memory.seen c.commit.ensures.memory in
-    let same = subst (λ (m : Store). LiveWordsUnchanged (g.M.Memory.seen c.args.ground.now.mem) c.args.ground.now.table m c.commit.new.self.table) (sym memory) live in
-    let preserves = made-preserves _ _ _ _ c.args.area c.args.level c.place_for-placed.result.at (length c.as_slice-numbers.result.now) (3 * length c.as_slice-numbers.result.now) c.commit.ensures.sound same can.some (list_placed _ _ _ _ _ _ can _ _ _ p.opened c.place_for-placed.result.at p.end (g.M.Memory.seen c.lay_cells.new.mem) c.commit.new.self.table c.in_ok-lay_cells.ensures.cells (c.commit.ensures.table _ end) c.commit.ensures.pages) in
-    subst (λ (xs : List ℕ). ((i : ℕ) → i < length xs → FreshOn c.args.ground.now.table (item_word c.args.registers.now xs i).content) → NoOldAddresses (g.M.Memory.seen c.args.ground.now.mem) c.args.ground.now.table → NoOldAddresses (g.M.Memory.seen c.commit.new.self.mem) c.commit.new.self.table) c.as_slice-numbers.ensures.value
-    (λ fresh. made-stays_fresh _ _ _ _ c.args.area c.args.level c.place_for-placed.result.at (length c.as_slice-numbers.result.now) (3 * length c.as_slice-numbers.result.now) c.requires.kept.table c.commit.ensures.sound (list_placed _ _ _ _ _ _ can _ _ _ p.opened c.place_for-placed.result.at p.end (g.M.Memory.seen c.lay_cells.new.mem) c.commit.new.self.table c.in_ok-lay_cells.ensures.cells (c.commit.ensures.table _ end) c.commit.ensures.pages) preserves
-    (cells_fresh _ _ (g.M.Memory.seen c.commit.new.self.mem).words c.place_for-placed.result.at c.args.registers.now c.as_slice-numbers.result.now preserves.grows (λ i low. ap (λ (m : Store). word_at m.words (c.place_for-placed.result.at + i)) memory ∙ c.in_ok-lay_cells.ensures.cells.there i low) fresh))
+    let live = subst (λ (m : Store). LiveWordsUnchanged (g.M.Memory.seen c.args.ground.now.mem) c.args.ground.now.table m c.commit.new.self.table) (sym memory) (list_live _ _ _ _ _ _ can _ _ _ p.opened c.place_for-placed.result.at p.end (g.M.Memory.seen c.lay_cells.new.mem) c.commit.new.self.table c.in_ok-lay_cells.ensures.cells (c.commit.ensures.table _ end) c.commit.ensures.pages) in
+    let placed = list_placed _ _ _ _ _ _ can _ _ _ p.opened c.place_for-placed.result.at p.end (g.M.Memory.seen c.lay_cells.new.mem) c.commit.new.self.table c.in_ok-lay_cells.ensures.cells (c.commit.ensures.table _ end) c.commit.ensures.pages in
+    let preserves = made-preserves _ _ _ _ c.args.area c.args.level c.place_for-placed.result.at (length c.as_slice-numbers.result.now) (3 * length c.as_slice-numbers.result.now) c.commit.ensures.sound live can.some placed in
+    record {
+      live = live;
+      preserves = preserves;
+      stays_fresh = subst (λ (xs : List ℕ). ((i : ℕ) → i < length xs → FreshOn c.args.ground.now.table (item_word c.args.registers.now xs i).content) → NoOldAddresses (g.M.Memory.seen c.args.ground.now.mem) c.args.ground.now.table → NoOldAddresses (g.M.Memory.seen c.commit.new.self.mem) c.commit.new.self.table) c.as_slice-numbers.ensures.value
+          (λ fresh. made-stays_fresh _ _ _ _ c.args.area c.args.level c.place_for-placed.result.at (length c.as_slice-numbers.result.now) (3 * length c.as_slice-numbers.result.now) c.requires.kept.table c.commit.ensures.sound placed preserves
+          (cells_fresh _ _ (g.M.Memory.seen c.commit.new.self.mem).words c.place_for-placed.result.at c.args.registers.now c.as_slice-numbers.result.now preserves.grows (λ i low. ap (λ (m : Store). word_at m.words (c.place_for-placed.result.at + i)) memory ∙ c.in_ok-lay_cells.ensures.cells.there i low) fresh));
+      marks = subst (λ (m : Store). MarksFollow (g.M.Memory.seen c.args.ground.now.mem) c.args.ground.now.table m c.commit.new.self.table) (sym memory) (list_marks _ _ _ _ _ _ can _ _ _ p.opened c.place_for-placed.result.at p.end (g.M.Memory.seen c.lay_cells.new.mem) c.commit.new.self.table c.in_ok-lay_cells.ensures.cells (c.commit.ensures.table _ end) c.commit.ensures.pages c.commit.ensures.sound);
+    }
 
 pub returns-in_err-lay_cells-clause-needed : goal.returns-in_err-lay_cells-clause-needed
 returns-in_err-lay_cells-clause-needed g c =
@@ -143,24 +119,3 @@ returns-clause-needed g c =
     let end = end_there _ _ _ _ _ _ _ c.requires.kept c.args.area c.args.level (list_area _ _ _ _ _ _ can) (list_level _ _ _ _ _ _ can) _ _ _ p.opened c.place_for-placed.result.at p.end in
     subst (λ (xs : List ℕ). OpensIfNeeded c.args.ground.now.table c.commit.new.self.table c.args.area c.args.level (length xs)) c.as_slice-numbers.ensures.value
     (needed_then (opens_if_needed c.place_for-placed.result.opened p.opened p.needed) (ap (λ (x : Table). x.chains) (c.commit.ensures.table _ end)))
-
-pub returns-in_err-lay_cells-clause-marks : goal.returns-in_err-lay_cells-clause-marks
-returns-in_err-lay_cells-clause-marks g c =
-    let can = same_items c.as_slice-numbers.ensures.value c.requires in
-    let p = c.place_for-placed.ensures in
-    marks-then (opened_marks _ _ _ _ _ _ _ c.requires.kept c.args.area c.args.level (list_area _ _ _ _ _ _ can) (list_level _ _ _ _ _ _ can) _ _ _ p.opened c.place_for-placed.result.at p.end) (marks-read c.place_for-placed.new.ground.table c.in_err-lay_cells.ensures.err)
-
-pub returns-clause-marks : goal.returns-clause-marks
-returns-clause-marks g c =
-    let can = same_items c.as_slice-numbers.ensures.value c.requires in
-    let p = c.place_for-placed.ensures in
-    let end = end_there _ _ _ _ _ _ _ c.requires.kept c.args.area c.args.level (list_area _ _ _ _ _ _ can) (list_level _ _ _ _ _ _ can) _ _ _ p.opened c.place_for-placed.result.at p.end in
-    let marks = list_marks _ _ _ _ _ _ can _ _ _ p.opened c.place_for-placed.result.at p.end (g.M.Memory.seen c.lay_cells.new.mem) c.commit.new.self.table c.in_ok-lay_cells.ensures.cells (c.commit.ensures.table _ end) c.commit.ensures.pages c.commit.ensures.sound in
-    let memory = ap g.M.Memory.seen c.commit.ensures.memory in
-    subst (λ (m : Store). MarksFollow (g.M.Memory.seen c.args.ground.now.mem) c.args.ground.now.table m c.commit.new.self.table) (sym memory) marks
-
-pub returns-clause-unmarked : goal.returns-clause-unmarked
-returns-clause-unmarked g c =
-    let marks = marks_by_words c.place_for-placed.result.opened c.place_for-placed.ensures.opened c.in_ok-lay_cells.ensures.cells in
-    subst (λ (m : Store). MarksByWords (g.M.Memory.seen c.args.ground.now.mem) m c.place_for-placed.result.at (length c.args.items.now)) (sym (ap g.M.Memory.seen c.commit.ensures.memory))
-    (subst (λ (xs : List ℕ). MarksByWords (g.M.Memory.seen c.args.ground.now.mem) (g.M.Memory.seen c.lay_cells.new.mem) c.place_for-placed.result.at (length xs)) c.as_slice-numbers.ensures.value marks)

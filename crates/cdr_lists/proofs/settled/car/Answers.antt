@@ -1,7 +1,7 @@
-use Rattle.std.proofs.Common.{◌≡◌, ◌∙◌, ℕ, true, arith, ap, refl, sym, subst}
+use Rattle.std.proofs.Common.{◌≡◌, ◌∙◌, ℕ, true, arith, ap, refl, rules, sym, subst}
 use Rattle.store_word.specs.Words.{Parts}
 use Rattle.transporter.specs.Moving.{FetchMoves}
-use Rattle.transporter.specs.Settling.{RefersToOld}
+use Rattle.transporter.specs.Settling.{RefersToOld, reference_of}
 use Rattle.transporter.proofs.TransportSequences.{fetch_moves-read, same-stores}
 use Rattle.transporter.proofs.SettledWords.{reference-inside}
 use Rattle.transporter.proofs.ScannedWords.{read-stays_fresh}
@@ -58,18 +58,20 @@ returns-in_err-word-in_default-clause-stays_ground g c =
     fetched-keeps _ _ _ _ found.unchanged word.table word.moves word.preserves word.marks
     (λ all. let read = read-stays_fresh _ found.unchanged all in word.stays_fresh (live_fresh (g.M.Memory.seen c.find_first.new.mem) _ c.in_ok-found.found.at read live) read)
 
-pub returns-in_ok-word-in_default-clause-car : goal.returns-in_ok-word-in_default-clause-car
-returns-in_ok-word-in_default-clause-car g c =
+pub returns-in_ok-word-in_default-clause-value : goal.returns-in_ok-word-in_default-clause-value
+returns-in_ok-word-in_default-clause-value g c =
     let found = c.in_ok-found.ensures in
     let p = found.place in
-    reads_car _ _ c.args.of.content p.reference p.is _ _ _
-    (car_fetched _ _ _ _ _ p.reference c.in_ok-found.found.at found.unchanged p.final c.in_ok-word-in_default.word c.with_cdr-in_default.result c.in_ok-word-in_default.ensures.settles (ap (λ (w : Parts). w.content) c.with_cdr-in_default.ensures))
-
-pub returns-in_ok-word-in_default-clause-written : goal.returns-in_ok-word-in_default-clause-written
-returns-in_ok-word-in_default-clause-written g c = λ to place.
-    let found = c.in_ok-found.ensures in
     let word = c.in_ok-word-in_default.ensures in
-    settled_at _ _ _ _ _ c.in_ok-found.found.at to c.in_ok-word-in_default.word _ found.unchanged word.word word.written word.registers (ap (λ (w : Parts). w.content) c.with_cdr-in_default.ensures) (same_place _ c.args.of.content to c.in_ok-found.found.at place found.place)
+    let content = ap (λ (w : Parts). w.content) c.with_cdr-in_default.ensures in
+    record {
+      car = reads_car _ _ c.args.of.content p.reference p.is _ _ _ (car_fetched _ _ _ _ _ p.reference c.in_ok-found.found.at found.unchanged p.final c.in_ok-word-in_default.word c.with_cdr-in_default.result word.settles content);
+      fresh = λ old. word.word.fresh (old.0, ap reference_of (sym content) ∙ old.1, old.2);
+      word = search rules;
+      written = λ to place. settled_at _ _ _ _ _ c.in_ok-found.found.at to c.in_ok-word-in_default.word _ found.unchanged word.word word.written word.registers content (same_place _ c.args.of.content to c.in_ok-found.found.at place p);
+      words = λ to place.
+          subst (λ (a : ℕ). FetchMoves (g.M.Memory.seen c.args.ground.now.mem) c.args.ground.now.table (g.M.Memory.seen c.fetch.new.ground.mem) c.fetch.new.ground.table a) (sym (same_place _ c.args.of.content to c.in_ok-found.found.at place p)) (fetch_moves-read found.unchanged word.words same-stores);
+    }
 
 pub returns-in_ok-word-in_default-clause-stays_ground : goal.returns-in_ok-word-in_default-clause-stays_ground
 returns-in_ok-word-in_default-clause-stays_ground g c =
@@ -89,12 +91,6 @@ returns-in_ok-word-in_default-clause-unchanged g c =
 pub returns-in_ok-word-in_default-clause-accounted : goal.returns-in_ok-word-in_default-clause-accounted
 returns-in_ok-word-in_default-clause-accounted g c = answers (quiet-twice (answered-if c.in_ok-found.ensures.accounted) (answered c.in_ok-word-in_default.word c.in_ok-word-in_default.ensures.accounted))
 
-pub returns-in_ok-word-in_default-clause-words : goal.returns-in_ok-word-in_default-clause-words
-returns-in_ok-word-in_default-clause-words g c = λ to place.
-    let found = c.in_ok-found.ensures in
-    let same = same_place _ c.args.of.content to c.in_ok-found.found.at place found.place in
-    subst (λ (a : ℕ). FetchMoves (g.M.Memory.seen c.args.ground.now.mem) c.args.ground.now.table (g.M.Memory.seen c.fetch.new.ground.mem) c.fetch.new.ground.table a) (sym same) (fetch_moves-read found.unchanged c.in_ok-word-in_default.ensures.words same-stores)
-
 pub returns-in_err-word-in_default-clause-accounted : goal.returns-in_err-word-in_default-clause-accounted
 returns-in_err-word-in_default-clause-accounted g c =
     let is : is_fault c.from_residual-in_err-word-in_default.result ≡ true =
@@ -103,27 +99,20 @@ returns-in_err-word-in_default-clause-accounted g c =
 
 -- The car has no old address
 
-pub returns-in-Some-clause-car : goal.returns-in-Some-clause-car
-returns-in-Some-clause-car g c =
+pub returns-in-Some-clause-value : goal.returns-in-Some-clause-value
+returns-in-Some-clause-value g c =
     let found = c.in_ok-found.ensures in
     let p = found.place in
     let first = first_read (g.M.Memory.seen c.args.ground.now.mem).words c.in_ok-found.found.at c.in_ok-found.found.first c.in-Some.first found.first c.in-Some.is in
-    reads_car _ _ c.args.of.content p.reference p.is _ _ _
-    (first_answered _ _ _ c.in_ok-found.found.at c.in-Some.first found.unchanged first p.reference c.with_cdr.result p.final (ap (λ (w : Parts). w.content) c.with_cdr.ensures))
-
-pub returns-in-Some-clause-written : goal.returns-in-Some-clause-written
-returns-in-Some-clause-written g c = λ to place.
-    let found = c.in_ok-found.ensures in
-    let first = first_read (g.M.Memory.seen c.args.ground.now.mem).words c.in_ok-found.found.at c.in_ok-found.found.first c.in-Some.first found.first c.in-Some.is in
     let young : RefersToOld c.args.ground.now.table c.in-Some.first → ⊥ = λ old. (let e = c.has_old.ensures.1 old in let f = c.if-not-has_old.true in cc) in
-    first_settled _ _ _ c.in_ok-found.found.at c.in-Some.first found.unchanged first young to _ (ap (λ (w : Parts). w.content) c.with_cdr.ensures) (same_place _ c.args.of.content to c.in_ok-found.found.at place found.place)
-
-pub returns-in-Some-clause-words : goal.returns-in-Some-clause-words
-returns-in-Some-clause-words g c = λ to place.
-    let found = c.in_ok-found.ensures in
-    let first = first_read (g.M.Memory.seen c.args.ground.now.mem).words c.in_ok-found.found.at c.in_ok-found.found.first c.in-Some.first found.first c.in-Some.is in
-    let young : RefersToOld c.args.ground.now.table c.in-Some.first → ⊥ = λ old. (let e = c.has_old.ensures.1 old in let f = c.if-not-has_old.true in cc) in
-    first_unmoved _ _ _ c.in_ok-found.found.at c.in-Some.first found.unchanged first young to (same_place _ c.args.of.content to c.in_ok-found.found.at place found.place)
+    let content = ap (λ (w : Parts). w.content) c.with_cdr.ensures in
+    record {
+      car = reads_car _ _ c.args.of.content p.reference p.is _ _ _ (first_answered _ _ _ c.in_ok-found.found.at c.in-Some.first found.unchanged first p.reference c.with_cdr.result p.final content);
+      fresh = search rules;
+      word = search rules;
+      written = λ to place. first_settled _ _ _ c.in_ok-found.found.at c.in-Some.first found.unchanged first young to _ content (same_place _ c.args.of.content to c.in_ok-found.found.at place p);
+      words = λ to place. first_unmoved _ _ _ c.in_ok-found.found.at c.in-Some.first found.unchanged first young to (same_place _ c.args.of.content to c.in_ok-found.found.at place p);
+    }
 
 pub returns-in-Some-clause-unchanged : goal.returns-in-Some-clause-unchanged
 returns-in-Some-clause-unchanged g c = reads_keep_cons c.args.ground.now.table c.args.of.content c.in_ok-found.ensures.unchanged

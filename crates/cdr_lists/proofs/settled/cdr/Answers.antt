@@ -1,4 +1,4 @@
-use Rattle.std.proofs.Common.{ℕ, suc, true, ◌≡◌, ◌+◌, refl, sym, ◌∙◌, ap, arith, subst}
+use Rattle.std.proofs.Common.{ℕ, suc, true, ◌≡◌, ◌+◌, refl, rules, sym, ◌∙◌, ap, arith, subst}
 use Rattle.store_word.specs.Words.{Parts}
 use Rattle.store_word.specs.declared.word.Content.TheVariants.{List as ListAt}
 use Rattle.store_word.specs.declared.word.CdrCode.TheVariants.{Nil as CdrNil, Normal}
@@ -6,6 +6,7 @@ use Rattle.mem_port.proofs.CallReports.{answered, answered-if, answers, quiet-th
 use Rattle.obj_layout.specs.Forwards.{word_at}
 use Rattle.transporter.proofs.LiveObjects.{live-read, live-then}
 use Rattle.transporter.specs.Moving.{FetchMoves}
+use Rattle.transporter.specs.Settling.{reference_of}
 use Rattle.transporter.proofs.TransportSequences.{fetch_moves-read, same-stores}
 use Rattle.transporter.proofs.ScannedWords.{read-stays_fresh}
 use Rattle.transporter.proofs.GroundReads.{fetched-costs, fetched-keeps, read-costs, read-keeps}
@@ -63,29 +64,25 @@ returns-in_ok-second-in-Normal-clause-unchanged g c =
     (cdr_faulted _ _ _ _ _ p.reference c.in_ok-cons.cons.at cons.unchanged p.final (code_after cons.value cons.unchanged ∙ c.in-Normal.is) (c.in_ok-cons.cons.at + 1) (omega arith)
     (λ k top areas registers s aim v can. (c.in_ok-second-in-Normal.ensures.settles k top areas registers s aim v can).later))
 
-pub returns-in_ok-second-in-Normal-clause-cdr : goal.returns-in_ok-second-in-Normal-clause-cdr
-returns-in_ok-second-in-Normal-clause-cdr g c =
+pub returns-in_ok-second-in-Normal-clause-value : goal.returns-in_ok-second-in-Normal-clause-value
+returns-in_ok-second-in-Normal-clause-value g c =
     let cons = c.in_ok-cons.ensures in
     let p = cons.value.place in
-    reads_cdr_of _ _ c.args.of.content p.reference p.is _ _ _
-    (cdr_fetched _ _ _ _ _ p.reference c.in_ok-cons.cons.at cons.unchanged p.final (code_after cons.value cons.unchanged ∙ c.in-Normal.is) (c.in_ok-cons.cons.at + 1) (omega arith) c.in_ok-second-in-Normal.second c.with_cdr.result c.in_ok-second-in-Normal.ensures.settles
-    (ap (λ (w : Parts). w.content) c.with_cdr.ensures))
-
-pub returns-in_ok-second-in-Normal-clause-pair : goal.returns-in_ok-second-in-Normal-clause-pair
-returns-in_ok-second-in-Normal-clause-pair g c = λ to there normal.
-    let cons = c.in_ok-cons.ensures in
     let second = c.in_ok-second-in-Normal.ensures in
-    let place : suc to ≡ c.in_ok-cons.cons.at + 1 = (let e = same_place _ c.args.of.content to c.in_ok-cons.cons.at there cons.value.place in omega arith) in
-    settled_at _ _ _ _ _ (c.in_ok-cons.cons.at + 1) (suc to) c.in_ok-second-in-Normal.second _ cons.unchanged second.word second.written second.registers (ap (λ (w : Parts). w.content) c.with_cdr.ensures) place
-
-pub returns-in_ok-second-in-Normal-clause-cell : goal.returns-in_ok-second-in-Normal-clause-cell
-returns-in_ok-second-in-Normal-clause-cell g c = λ to there other. absurd (other (code_there to c.in_ok-cons.ensures.value there ∙ c.in-Normal.is))
-
-pub returns-in_ok-second-in-Normal-clause-words : goal.returns-in_ok-second-in-Normal-clause-words
-returns-in_ok-second-in-Normal-clause-words g c = λ to there normal.
-    let cons = c.in_ok-cons.ensures in
-    let place : c.in_ok-cons.cons.at + 1 ≡ suc to = (let e = same_place _ c.args.of.content to c.in_ok-cons.cons.at there cons.value.place in omega arith) in
-    subst (λ (a : ℕ). FetchMoves (g.M.Memory.seen c.args.ground.now.mem) c.args.ground.now.table (g.M.Memory.seen c.fetch.new.ground.mem) c.fetch.new.ground.table a) place (fetch_moves-read cons.unchanged c.in_ok-second-in-Normal.ensures.words same-stores)
+    let content = ap (λ (w : Parts). w.content) c.with_cdr.ensures in
+    record {
+      cdr = reads_cdr_of _ _ c.args.of.content p.reference p.is _ _ _
+          (cdr_fetched _ _ _ _ _ p.reference c.in_ok-cons.cons.at cons.unchanged p.final (code_after cons.value cons.unchanged ∙ c.in-Normal.is) (c.in_ok-cons.cons.at + 1) (omega arith) c.in_ok-second-in-Normal.second c.with_cdr.result second.settles content);
+      fresh = λ old. second.word.fresh (old.0, ap reference_of (sym content) ∙ old.1, old.2);
+      word = search rules;
+      pair = λ to there normal.
+          let place : suc to ≡ c.in_ok-cons.cons.at + 1 = (let e = same_place _ c.args.of.content to c.in_ok-cons.cons.at there p in omega arith) in
+          settled_at _ _ _ _ _ (c.in_ok-cons.cons.at + 1) (suc to) c.in_ok-second-in-Normal.second _ cons.unchanged second.word second.written second.registers content place;
+      cell = λ to there other. absurd (other (code_there to cons.value there ∙ c.in-Normal.is));
+      words = λ to there normal.
+          let place : c.in_ok-cons.cons.at + 1 ≡ suc to = (let e = same_place _ c.args.of.content to c.in_ok-cons.cons.at there p in omega arith) in
+          subst (λ (a : ℕ). FetchMoves (g.M.Memory.seen c.args.ground.now.mem) c.args.ground.now.table (g.M.Memory.seen c.fetch.new.ground.mem) c.fetch.new.ground.table a) place (fetch_moves-read cons.unchanged second.words same-stores);
+    }
 
 pub returns-in_err-second-in-Normal-clause-stays_ground : goal.returns-in_err-second-in-Normal-clause-stays_ground
 returns-in_err-second-in-Normal-clause-stays_ground g c =
@@ -119,27 +116,22 @@ returns-in_ok-second-in-Normal-clause-accounted g c = answers (quiet-twice (answ
 pub returns-in-Nil-clause-unchanged : goal.returns-in-Nil-clause-unchanged
 returns-in-Nil-clause-unchanged g c = reads_keep_cons c.args.ground.now.table c.args.of.content c.in_ok-cons.ensures.unchanged
 
-pub returns-in-Nil-clause-cdr : goal.returns-in-Nil-clause-cdr
-returns-in-Nil-clause-cdr g c =
+pub returns-in-Nil-clause-value : goal.returns-in-Nil-clause-value
+returns-in-Nil-clause-value g c =
     let words = (g.M.Memory.seen c.args.ground.now.mem).words in
     let cons = c.in_ok-cons.ensures in
     let p = cons.value.place in
     let at = c.in_ok-cons.cons.at in
     let nil = cdr_is words at CdrNil (sym c.in-Nil.is ∙ sym cons.value.code) in
-    reads_cdr_of _ _ c.args.of.content p.reference p.is _ _ _ (reads_cdr _ _ _ p.reference at c.nil.result cons.unchanged p.final (ap (λ (w : Parts). w.content) c.nil.ensures ∙ nil))
-
-pub returns-in-Nil-clause-pair : goal.returns-in-Nil-clause-pair
-returns-in-Nil-clause-pair g c = λ to there normal.
-    let both : CdrNil ≡ Normal = sym c.in-Nil.is ∙ sym (code_there to c.in_ok-cons.ensures.value there) ∙ normal in
-    absurd cc
-
-pub returns-in-Nil-clause-cell : goal.returns-in-Nil-clause-cell
-returns-in-Nil-clause-cell g c = λ to there other. (c.in_ok-cons.ensures.unchanged, refl)
-
-pub returns-in-Nil-clause-words : goal.returns-in-Nil-clause-words
-returns-in-Nil-clause-words g c = λ to there normal.
-    let both : CdrNil ≡ Normal = sym c.in-Nil.is ∙ sym (code_there to c.in_ok-cons.ensures.value there) ∙ normal in
-    absurd cc
+    let no_pair : CdrNil ≡ Normal → ⊥ = λ e. cc in
+    record {
+      cdr = reads_cdr_of _ _ c.args.of.content p.reference p.is _ _ _ (reads_cdr _ _ _ p.reference at c.nil.result cons.unchanged p.final (ap (λ (w : Parts). w.content) c.nil.ensures ∙ nil));
+      fresh = search rules;
+      word = search rules;
+      pair = λ to there normal. absurd (no_pair (sym c.in-Nil.is ∙ sym (code_there to cons.value there) ∙ normal));
+      cell = λ to there other. (cons.unchanged, refl);
+      words = λ to there normal. absurd (no_pair (sym c.in-Nil.is ∙ sym (code_there to cons.value there) ∙ normal));
+    }
 
 pub returns-in-Nil-clause-stays_ground : goal.returns-in-Nil-clause-stays_ground
 returns-in-Nil-clause-stays_ground g c = read-keeps _ _ c.args.ground.now.table c.in_ok-cons.ensures.unchanged
@@ -149,33 +141,25 @@ returns-in-Nil-clause-stays_ground g c = read-keeps _ _ c.args.ground.now.table 
 pub returns-in_default-clause-unchanged : goal.returns-in_default-clause-unchanged
 returns-in_default-clause-unchanged g c = reads_keep_cons c.args.ground.now.table c.args.of.content c.in_ok-cons.ensures.unchanged
 
-pub returns-in_default-clause-cdr : goal.returns-in_default-clause-cdr
-returns-in_default-clause-cdr g c =
+pub returns-in_default-clause-value : goal.returns-in_default-clause-value
+returns-in_default-clause-value g c =
     let words = (g.M.Memory.seen c.args.ground.now.mem).words in
     let cons = c.in_ok-cons.ensures in
     let p = cons.value.place in
     let at = c.in_ok-cons.cons.at in
-    let place : c.in_ok-cons.cons.at + 1 ≡ suc c.in_ok-cons.cons.at = omega arith in
+    let place : at + 1 ≡ suc at = omega arith in
     let behind = list_behind c.in_ok-cons.cons.code at (word_at words (suc at)).content c.in_default.not-Nil c.in_default.not-Normal in
-    reads_cdr_of _ _ c.args.of.content p.reference p.is _ _ _
-    (reads_cdr _ _ _ p.reference at c.list_at.result cons.unchanged p.final (ap (λ (w : Parts). w.content) c.list_at.ensures ∙ ap (λ (a : ℕ). ListAt a) place ∙ behind ∙ cdr_is words at c.in_ok-cons.cons.code (sym cons.value.code)))
-
-pub returns-in_default-clause-fresh : goal.returns-in_default-clause-fresh
-returns-in_default-clause-fresh g c =
-    let cons = c.in_ok-cons.ensures in
-    let p = cons.value.place in
+    let content = ap (λ (w : Parts). w.content) c.list_at.ensures in
     let code = sym (code_after cons.value cons.unchanged) in
-    list_fresh _ (g.M.Memory.seen c.read_cons.new.mem) _ p.reference (readable_at _ _ c.args.of p.reference p.is c.requires) cons.unchanged c.in_ok-cons.cons.at p.final p.last
-    (λ e. c.in_default.not-Nil (code ∙ e)) (λ e. c.in_default.not-Normal (code ∙ e)) c.list_at.result (c.in_ok-cons.cons.at + 1) (omega arith) (ap (λ (w : Parts). w.content) c.list_at.ensures)
-
-pub returns-in_default-clause-pair : goal.returns-in_default-clause-pair
-returns-in_default-clause-pair g c = λ to there normal. absurd (c.in_default.not-Normal (sym (code_there to c.in_ok-cons.ensures.value there) ∙ normal))
-
-pub returns-in_default-clause-cell : goal.returns-in_default-clause-cell
-returns-in_default-clause-cell g c = λ to there other. (c.in_ok-cons.ensures.unchanged, refl)
-
-pub returns-in_default-clause-words : goal.returns-in_default-clause-words
-returns-in_default-clause-words g c = λ to there normal. absurd (c.in_default.not-Normal (sym (code_there to c.in_ok-cons.ensures.value there) ∙ normal))
+    record {
+      cdr = reads_cdr_of _ _ c.args.of.content p.reference p.is _ _ _ (reads_cdr _ _ _ p.reference at c.list_at.result cons.unchanged p.final (content ∙ ap (λ (a : ℕ). ListAt a) place ∙ behind ∙ cdr_is words at c.in_ok-cons.cons.code (sym cons.value.code)));
+      fresh = list_fresh _ (g.M.Memory.seen c.read_cons.new.mem) _ p.reference (readable_at _ _ c.args.of p.reference p.is c.requires) cons.unchanged at p.final p.last
+          (λ e. c.in_default.not-Nil (code ∙ e)) (λ e. c.in_default.not-Normal (code ∙ e)) c.list_at.result (at + 1) (omega arith) content;
+      word = search rules;
+      pair = λ to there normal. absurd (c.in_default.not-Normal (sym (code_there to cons.value there) ∙ normal));
+      cell = λ to there other. (cons.unchanged, refl);
+      words = λ to there normal. absurd (c.in_default.not-Normal (sym (code_there to cons.value there) ∙ normal));
+    }
 
 pub returns-in_default-clause-stays_ground : goal.returns-in_default-clause-stays_ground
 returns-in_default-clause-stays_ground g c = read-keeps _ _ c.args.ground.now.table c.in_ok-cons.ensures.unchanged

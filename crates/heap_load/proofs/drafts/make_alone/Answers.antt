@@ -20,7 +20,7 @@ make_pair_of-requires g c =
 
 pub returns-in_err-at-in-Cons-clause-left : goal.returns-in_err-at-in-Cons-clause-left
 returns-in_err-at-in-Cons-clause-left g c =
-    on_err c.from_residual.result _ (drafted_left _ _ _ _ c.args.world.now c.args.places.now c.args.number c.requires.made c.in_err-at-in-Cons.ensures.fault c.in_err-at-in-Cons.ensures.preserves.grows)
+    on_err c.from_residual.result _ (drafted_left _ _ _ _ c.args.world.now c.args.places.now c.args.number c.requires.made c.in_err-at-in-Cons.ensures.fault.fault c.in_err-at-in-Cons.ensures.stays_ground.preserves.grows)
 
 pub make_block-requires-clause-can : goal.make_block-requires-clause-can
 make_block-requires-clause-can g c =
@@ -39,7 +39,7 @@ returns-in_ok-at-in-Cons-clause-drafted g c =
     let is = c.index-as_slice-number.is ∙ object_read c.as_slice.result.now c.args.world.now.objects c.args.number c.index-as_slice-number.result c.as_slice.ensures r.in_range in
     rw c.pair.ensures (pair_drafted _ _ c.args.world.now c.args.places.now c.args.number r.loadable r.made r.in_range c.index-as_slice-number.result is c.in-Cons.car c.in-Cons.cdr c.in-Cons.is _ _
     c.word_so_far-car.result c.word_so_far-cdr.result c.word_so_far-car.ensures c.word_so_far-cdr.ensures
-    c.in_ok-at-in-Cons.at c.in_ok-at-in-Cons.ensures.made c.in_ok-at-in-Cons.ensures.preserves.grows r.places)
+    c.in_ok-at-in-Cons.at c.in_ok-at-in-Cons.ensures.made c.in_ok-at-in-Cons.ensures.stays_ground.preserves.grows r.places)
 
 pub returns-in_ok-at-in-Block-clause-drafted : goal.returns-in_ok-at-in-Block-clause-drafted
 returns-in_ok-at-in-Block-clause-drafted g c =
@@ -57,7 +57,7 @@ returns-in_ok-at-in-Cons-clause-stays_laid g c = λ alone.
     let places = c.args.places.now in
     let place = c.pair.result in
     let is = c.index-as_slice-number.is ∙ object_read c.as_slice.result.now c.args.world.now.objects c.args.number c.index-as_slice-number.result c.as_slice.ensures r.in_range in
-    laid_pair _ _ _ _ c.args.world.now places _ c.args.number r.made r.laid c.in_ok-at-in-Cons.ensures.live kept.table kept.ground.size
+    laid_pair _ _ _ _ c.args.world.now places _ c.args.number r.made r.laid c.in_ok-at-in-Cons.ensures.stays_ground.live kept.table kept.ground.size
     (λ i before. get_or-set_other places c.args.number i place no_place (λ e. omega arith))
     c.in-Cons.car c.in-Cons.cdr (whole_cons _ _ c.args.world.now places c.args.number r.loadable r.made r.in_range c.index-as_slice-number.result is c.in-Cons.car c.in-Cons.cdr c.in-Cons.is)
     c.in_ok-at-in-Cons.at c.word_so_far-car.result (known_part c.args.number c.in-Cons.car)

@@ -49,7 +49,7 @@ put_cells-requires g c =
     record { in_range = omega arith; at_most = omega arith }
 
 pub returns-in_err-from-clause-left : goal.returns-in_err-from-clause-left
-returns-in_err-from-clause-left g c = on_err c.from_residual.result _ (drafted_left _ _ _ _ c.args.world.now c.args.places.now c.args.group.number c.requires.made c.in_err-from.ensures.fault c.in_err-from.ensures.preserves.grows)
+returns-in_err-from-clause-left g c = on_err c.from_residual.result _ (drafted_left _ _ _ _ c.args.world.now c.args.places.now c.args.group.number c.requires.made c.in_err-from.ensures.fault.fault c.in_err-from.ensures.stays_ground.preserves.grows)
 
 pub returns-clause-drafted : goal.returns-clause-drafted
 returns-clause-drafted g c =
@@ -58,14 +58,14 @@ returns-clause-drafted g c =
     drafted_group _ _ c.args.world.now c.args.places.now c.args.group.number c.args.group.count r.agrees r.loadable r.made r.in_range _ _ c.nil.result c.nil.ensures c.in_ok-from.from
     (listed_here _ _ _ _ _ _ (c.nil.result ∷ []) c.first_items-items.result (zeros c.args.group.count) c.in_ok-from.from e c.first_items-items.ensures c.in_ok-from.ensures.made)
     (words_here _ (c.nil.result ∷ []) c.first_items-items.result (zeros c.args.group.count) c.in_ok-from.from c.first_items-items.ensures c.in_ok-from.ensures.words)
-    c.put_cells.new.places c.in_ok-from.ensures.preserves.grows c.put_cells.ensures.before c.put_cells.ensures.cells
+    c.put_cells.new.places c.in_ok-from.ensures.stays_ground.preserves.grows c.put_cells.ensures.before c.put_cells.ensures.cells
 
 pub returns-clause-stays_laid : goal.returns-clause-stays_laid
 returns-clause-stays_laid g c =
     let r = c.requires in
     let e = area_read c.as_slice.result.now c.args.world.now.objects c.args.group.number c.index-as_slice-number.result c.as_slice.ensures r.in_range in
     let kept = (returns-clause-drafted g c).holds.kept in
-    laid_group _ _ _ _ c.args.world.now c.args.places.now c.put_cells.new.places c.args.group.number r.made r.laid c.in_ok-from.ensures.live kept.table kept.ground.size c.put_cells.ensures.before
+    laid_group _ _ _ _ c.args.world.now c.args.places.now c.put_cells.new.places c.args.group.number r.made r.laid c.in_ok-from.ensures.stays_ground.live kept.table kept.ground.size c.put_cells.ensures.before
     c.args.group.count c.in_ok-from.from (ap group_size r.agrees ∙ size_whole c.args.group.count r.at_most) c.put_cells.ensures.cells
     (word_here _ _ c.args.world.now c.args.places.now c.args.group.number c.args.group.count r.agrees r.loadable r.made r.in_range _ c.make_list.new.ground.table c.nil.result c.nil.ensures c.in_ok-from.from
     (listed_here _ _ _ _ _ _ (c.nil.result ∷ []) c.first_items-items.result (zeros c.args.group.count) c.in_ok-from.from e c.first_items-items.ensures c.in_ok-from.ensures.made)

@@ -25,13 +25,13 @@ returns-clause-performs g c =
     let got = c.in_ok-at.ensures in
     performs_at_after _ _ _ _ _ _ _ _ _ _ _ c.args.area c.args.level s.leaves
     (pair_performs (g.M.Memory.seen c.settle_items.new.ground.mem) c.settle_items.new.ground.table c.settle_items.new.registers c.args.area c.args.level c.args.car c.args.cdr (s.inside _ c.requires.car) (s.inside _ c.requires.cdr) c.index-registers-car.result c.index-registers-cdr.result c.index-registers-car.is c.index-registers-cdr.is a.area_in a.level_in a.fits (g.M.Memory.seen c.make_pair_of.new.ground.mem) c.make_pair_of.new.ground.table c.args.to c.in_ok-at.at c.list_at.result (s.inside _ c.requires.to) (ap (λ (w : Parts). w.content) c.list_at.ensures)
-    got.preserves got.placed got.stays_fresh got.marks s.left_settled s.right_settled got.made)
+    got.stays_ground.preserves got.placed.placed (λ car_fresh cdr_fresh. got.stays_ground.stays_fresh (car_fresh, cdr_fresh)) got.stays_ground.marks s.left_settled s.right_settled got.made)
 
 pub returns-clause-costs : goal.returns-clause-costs
 returns-clause-costs g c =
-    let more = placed_more _ _ c.args.area c.args.level c.in_ok-at.at 2 2 c.in_ok-at.ensures.placed in
+    let more = placed_more _ _ c.args.area c.args.level c.in_ok-at.at 2 2 c.in_ok-at.ensures.placed.placed in
     let few = c.in_ok-settle_items.ensures.at_most in
-    record { tells = answers (quiet-twice (answered _ c.in_ok-settle_items.ensures.accounted) (answered _ c.in_ok-at.ensures.accounted)); few = omega arith; cost = search rules }
+    record { tells = answers (quiet-twice (answered _ c.in_ok-settle_items.ensures.accounted) (answered _ c.in_ok-at.ensures.fault.accounted)); few = omega arith; cost = search rules }
 
 pub returns-in_err-at-clause-performs : goal.returns-in_err-at-clause-performs
 returns-in_err-at-clause-performs g c =
@@ -40,9 +40,9 @@ returns-in_err-at-clause-performs g c =
     let a = still_allocates _ _ _ _ _ _ c.requires.consistent x.represented x.preserves c.args.area c.args.level 2 c.requires.area c.requires.level c.requires.fits in
     let p = err_from_is_err_and c.from_residual-in_err-at.result c.from_residual-in_err-at.ensures.1 in
     let got = c.in_err-at.ensures in
-    let stays_fresh = pair_stays_fresh (g.M.Memory.seen c.settle_items.new.ground.mem) c.settle_items.new.ground.table c.settle_items.new.registers c.args.area c.args.level c.args.car c.args.cdr (s.inside _ c.requires.car) (s.inside _ c.requires.cdr) c.index-registers-car.result c.index-registers-cdr.result c.index-registers-car.is c.index-registers-cdr.is a.area_in a.level_in a.fits (g.M.Memory.seen c.make_pair_of.new.ground.mem) c.make_pair_of.new.ground.table got.stays_fresh in
+    let stays_fresh = pair_stays_fresh (g.M.Memory.seen c.settle_items.new.ground.mem) c.settle_items.new.ground.table c.settle_items.new.registers c.args.area c.args.level c.args.car c.args.cdr (s.inside _ c.requires.car) (s.inside _ c.requires.cdr) c.index-registers-car.result c.index-registers-cdr.result c.index-registers-car.is c.index-registers-cdr.is a.area_in a.level_in a.fits (g.M.Memory.seen c.make_pair_of.new.ground.mem) c.make_pair_of.new.ground.table (λ car_fresh cdr_fresh. got.stays_ground.stays_fresh (car_fresh, cdr_fresh)) in
     rw p.1 (performs_at_after _ _ _ _ _ _ _ _ _ _ _ c.args.area c.args.level s.leaves
-    (performs_at _ _ _ _ c.settle_items.new.registers c.settle_items.new.registers _ _ c.args.area c.args.level (performs_fault _ _ _ _ c.settle_items.new.registers c.settle_items.new.registers _ refl (stays_leaves_at _ _ _ _ c.settle_items.new.registers got.fault got.preserves stays_fresh got.marks))))
+    (performs_at _ _ _ _ c.settle_items.new.registers c.settle_items.new.registers _ _ c.args.area c.args.level (performs_fault _ _ _ _ c.settle_items.new.registers c.settle_items.new.registers _ refl (stays_leaves_at _ _ _ _ c.settle_items.new.registers got.fault.fault got.stays_ground.preserves stays_fresh got.stays_ground.marks))))
 
 pub returns-in_err-settle_items-clause-performs : goal.returns-in_err-settle_items-clause-performs
 returns-in_err-settle_items-clause-performs g c =
@@ -60,6 +60,6 @@ returns-clause-unmarked g c =
     let got = c.in_ok-at.ensures in
     rw (get_or-set_same c.settle_items.new.registers c.args.to c.list_at.result null_word (s.inside _ c.requires.to))
     (made_after (g.M.Memory.seen c.args.ground.now.mem) (g.M.Memory.seen c.settle_items.new.ground.mem) (g.M.Memory.seen c.make_pair_of.new.ground.mem) c.args.ground.now.table c.settle_items.new.ground.table c.make_pair_of.new.ground.table
-    c.requires.consistent.represents.kept.ground s.consistent.represents.kept.ground x.marks got.marks.turns c.list_at.result 2
+    c.requires.consistent.represents.kept.ground s.consistent.represents.kept.ground x.marks got.stays_ground.marks.turns c.list_at.result 2
     (pair_marked (g.M.Memory.seen c.settle_items.new.ground.mem) (g.M.Memory.seen c.make_pair_of.new.ground.mem) c.settle_items.new.ground.table c.make_pair_of.new.ground.table c.args.area c.args.level
-    c.index-registers-car.result c.index-registers-cdr.result c.in_ok-at.at c.list_at.result can got.made got.placed (ap (λ (w : Parts). w.content) c.list_at.ensures) got.words.0 got.unmarked))
+    c.index-registers-car.result c.index-registers-cdr.result c.in_ok-at.at c.list_at.result can got.made got.placed.placed (ap (λ (w : Parts). w.content) c.list_at.ensures) got.words.0 got.placed.unmarked))

@@ -23,18 +23,18 @@ show_into-requires-clause-can g c =
     let x = c.in_ok-cons.ensures in
     let s = settles_one _ _ _ _ _ _ c.requires.consistent x.represented x.preserves x.registers x.stays_fresh x.marks c.args.from c.in_ok-cons.cons c.requires.from x.word x.fresh in
     let got = c.in-Ok.ensures in
-    let fetches = cdr_fetches _ _ _ _ c.settle_register.new.registers c.args.to c.args.from c.in-Ok.word (s.inside _ c.requires.from) c.in_ok-cons.cons s.read (λ other. let e = got.refused.not_a_cons.1 other in cc) got.cdr in
-    fetched_shows _ _ (g.M.Memory.seen c.cdr.new.ground.mem) _ _ c.settle_register.new.registers _ c.args.to c.args.from c.in-Ok.word R.Fine s.consistent (s.inside _ c.requires.to) (s.inside _ c.requires.from) s.settled (only_one c.args.from) fetches got.fresh got.stays_ground.preserves got.stays_ground.stays_fresh got.stays_ground.marks
+    let fetches = cdr_fetches _ _ _ _ c.settle_register.new.registers c.args.to c.args.from c.in-Ok.word (s.inside _ c.requires.from) c.in_ok-cons.cons s.read (λ other. let e = got.refused.not_a_cons.1 other in cc) got.value.cdr in
+    fetched_shows _ _ (g.M.Memory.seen c.cdr.new.ground.mem) _ _ c.settle_register.new.registers _ c.args.to c.args.from c.in-Ok.word R.Fine s.consistent (s.inside _ c.requires.to) (s.inside _ c.requires.from) s.settled (only_one c.args.from) fetches got.value.fresh got.stays_ground.preserves got.stays_ground.stays_fresh got.stays_ground.marks
 
 pub returns-in-Ok-clause-performs : goal.returns-in-Ok-clause-performs
 returns-in-Ok-clause-performs g c =
     let x = c.in_ok-cons.ensures in
     let s = settles_one _ _ _ _ _ _ c.requires.consistent x.represented x.preserves x.registers x.stays_fresh x.marks c.args.from c.in_ok-cons.cons c.requires.from x.word x.fresh in
     let got = c.in-Ok.ensures in
-    let fetches = cdr_fetches _ _ _ _ c.settle_register.new.registers c.args.to c.args.from c.in-Ok.word (s.inside _ c.requires.from) c.in_ok-cons.cons s.read (λ other. let e = got.refused.not_a_cons.1 other in cc) got.cdr in
+    let fetches = cdr_fetches _ _ _ _ c.settle_register.new.registers c.args.to c.args.from c.in-Ok.word (s.inside _ c.requires.from) c.in_ok-cons.cons s.read (λ other. let e = got.refused.not_a_cons.1 other in cc) got.value.cdr in
     let shown = c.show_into.ensures in
     performs_after _ _ _ _ _ _ _ _ _ _ _ s.leaves
-    (answer_performs _ _ (g.M.Memory.seen c.show_into.new.mem) _ _ c.settle_register.new.registers _ c.args.to c.args.from c.in-Ok.word c.show_into.result s.consistent (s.inside _ c.requires.to) (s.inside _ c.requires.from) s.settled (only_one c.args.from) fetches got.fresh got.stays_ground.preserves got.stays_ground.stays_fresh got.stays_ground.marks c.show_into.new.registers refl
+    (answer_performs _ _ (g.M.Memory.seen c.show_into.new.mem) _ _ c.settle_register.new.registers _ c.args.to c.args.from c.in-Ok.word c.show_into.result s.consistent (s.inside _ c.requires.to) (s.inside _ c.requires.from) s.settled (only_one c.args.from) fetches got.value.fresh got.stays_ground.preserves got.stays_ground.stays_fresh got.stays_ground.marks c.show_into.new.registers refl
     shown.unchanged shown.shows shown.succeeds shown.set shown.err)
 
 pub returns-in-Err-NotACons-clause-performs : goal.returns-in-Err-NotACons-clause-performs

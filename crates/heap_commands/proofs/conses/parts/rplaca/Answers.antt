@@ -26,10 +26,10 @@ returns-in-Ok-clause-performs g c =
     let x = c.in_ok-settle_items.ensures in
     let s = settles_two _ _ _ _ _ _ c.requires.consistent x.represented x.preserves x.registers x.stays_fresh x.marks c.args.target c.args.from x.fresh in
     let got = c.set_car.ensures in
-    let list = λ (other : tag_of c.index-registers-target.result.content ≢ ListTag). (let e = got.refused.1 other in let is = c.in-Ok.is in absurd {A = ⊥} cc) in
+    let list = λ (other : tag_of c.index-registers-target.result.content ≢ ListTag). (let e = got.refused.not_a_cons.1 other in let is = c.in-Ok.is in absurd {A = ⊥} cc) in
     performs_after _ _ _ _ _ _ _ _ _ _ _ s.leaves
-    (stored_performs _ _ _ _ c.settle_items.new.registers _ (car_stores (g.M.Memory.seen c.settle_items.new.ground.mem) (g.M.Memory.seen c.set_car.new.ground.mem) c.settle_items.new.ground.table c.set_car.new.ground.table c.settle_items.new.registers c.args.target c.args.from (s.inside _ c.requires.target) (s.inside _ c.requires.from) c.index-registers-target.result c.index-registers-from.result c.index-registers-target.is c.index-registers-from.is list c.in-Ok.ensures.set) got.preserves got.stays_fresh
-    (marks_car (g.M.Memory.seen c.settle_items.new.ground.mem) _ c.settle_items.new.ground.table _ c.settle_items.new.registers c.args.target (s.inside _ c.requires.target) c.index-registers-target.result c.index-registers-target.is s.consistent list c.index-registers-from.result c.in-Ok.ensures.written got.marks)
+    (stored_performs _ _ _ _ c.settle_items.new.registers _ (car_stores (g.M.Memory.seen c.settle_items.new.ground.mem) (g.M.Memory.seen c.set_car.new.ground.mem) c.settle_items.new.ground.table c.set_car.new.ground.table c.settle_items.new.registers c.args.target c.args.from (s.inside _ c.requires.target) (s.inside _ c.requires.from) c.index-registers-target.result c.index-registers-from.result c.index-registers-target.is c.index-registers-from.is list c.in-Ok.ensures.set.set) got.stays_ground.preserves got.stays_ground.stays_fresh
+    (marks_car (g.M.Memory.seen c.settle_items.new.ground.mem) _ c.settle_items.new.ground.table _ c.settle_items.new.registers c.args.target (s.inside _ c.requires.target) c.index-registers-target.result c.index-registers-target.is s.consistent list c.index-registers-from.result c.in-Ok.ensures.set.written got.stays_ground.marks)
     (both_settled c.settle_items.new.ground.table c.settle_items.new.registers c.args.target c.args.from (s.inside _ c.requires.target) (s.inside _ c.requires.from) s.left_settled s.right_settled))
 
 pub returns-in-Err-NotACons-clause-performs : goal.returns-in-Err-NotACons-clause-performs
@@ -39,7 +39,7 @@ returns-in-Err-NotACons-clause-performs g c =
     let got = c.set_car.ensures in
     performs_after _ _ _ _ _ _ _ _ _ _ _ s.leaves
     (performs_refused _ _ _ _ c.settle_items.new.registers c.settle_items.new.registers _
-    (no_cons _ (g.M.Memory.seen c.set_car.new.ground.mem) _ c.set_car.new.ground.table c.settle_items.new.registers c.args.target (s.inside _ c.requires.target) c.index-registers-target.result c.index-registers-target.is (λ s name car cdr. stored (graph_of s) name (B.Cons (value_at s.registers c.args.from) cdr)) (got.refused.0 (let is = c.in-Err-NotACons.is in let e = c.in-Err-NotACons.field-0-is in cc)))
+    (no_cons _ (g.M.Memory.seen c.set_car.new.ground.mem) _ c.set_car.new.ground.table c.settle_items.new.registers c.args.target (s.inside _ c.requires.target) c.index-registers-target.result c.index-registers-target.is (λ s name car cdr. stored (graph_of s) name (B.Cons (value_at s.registers c.args.from) cdr)) (got.refused.not_a_cons.0 (let is = c.in-Err-NotACons.is in let e = c.in-Err-NotACons.field-0-is in cc)))
     (stays_leaves _ _ _ _ c.settle_items.new.registers got.table c.in-Err-NotACons.ensures.unchanged))
 
 pub returns-in-Err-Swap-clause-performs : goal.returns-in-Err-Swap-clause-performs
@@ -59,10 +59,10 @@ returns-in_err-settle_items-clause-performs g c =
 -- What moves
 
 pub returns-in-Ok-clause-moves : goal.returns-in-Ok-clause-moves
-returns-in-Ok-clause-moves g c = moves_still c.in_ok-settle_items.ensures.moves c.set_car.ensures.moves
+returns-in-Ok-clause-moves g c = moves_still c.in_ok-settle_items.ensures.moves c.set_car.ensures.stays_ground.moves
 
 pub returns-in-Err-NotACons-clause-moves : goal.returns-in-Err-NotACons-clause-moves
-returns-in-Err-NotACons-clause-moves g c = moves_still c.in_ok-settle_items.ensures.moves c.set_car.ensures.moves
+returns-in-Err-NotACons-clause-moves g c = moves_still c.in_ok-settle_items.ensures.moves c.set_car.ensures.stays_ground.moves
 
 pub returns-in-Err-Swap-clause-moves : goal.returns-in-Err-Swap-clause-moves
-returns-in-Err-Swap-clause-moves g c = moves_still c.in_ok-settle_items.ensures.moves c.set_car.ensures.moves
+returns-in-Err-Swap-clause-moves g c = moves_still c.in_ok-settle_items.ensures.moves c.set_car.ensures.stays_ground.moves
