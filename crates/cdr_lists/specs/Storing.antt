@@ -5,9 +5,10 @@ use Rattle.store_word.specs.declared.word.CdrCode.TheVariants.{Normal}
 use Rattle.store_word.specs.declared.word.Content.{Content}
 use Rattle.area_space.specs.View.{GroundView}
 use Rattle.obj_layout.specs.Forwards.{word_at}
-use Rattle.transporter.specs.Views.{NoOldAddresses, MovesAtMost, PreservesScanned}
+use Rattle.store_word.specs.declared.word.Content.TheVariants.{List as ListAt}
+use Rattle.transporter.specs.Views.{NoOldAddresses, LiveWordsUnchanged, MovesAtMost, WordsUnchanged, PreservesScanned}
 use Rattle.cdr_lists.specs.Parts.{WritesCar, WritesCdr}
-use Rattle.cdr_lists.specs.Views.{IsConsPlace, KeepsCons, MarksCar, MarksCdr, RelaysCdr, SetsCar, SetsCdr, SettlesCellAtMost}
+use Rattle.cdr_lists.specs.Views.{IsConsPlace, KeepsCons, MarksCar, MarksCdr, RelaysCdr, SetsCar, SetsCdr, SettlesCellAtMost, SettlesWordAtMost}
 
 -- the car of the cons to which the content refers has this value, and its word is written
 pub record StoresCar (v v' : GroundView) (content : Content) (value : Parts) : Type 0 where
@@ -40,3 +41,15 @@ pub record KeepsButCdr (v v' : GroundView) (content : Content) : Type 0 where
   pub preserves : PreservesScanned v v'
   pub stays_fresh : NoOldAddresses v → NoOldAddresses v'
   pub marks : MarksCdr v v' content
+
+-- what a relocation of a cell leaves if a swap error stops it: the cons, and each used word of a live region except the cell, which may be settled; at most one object moved
+pub record FailsRelay (v v' : GroundView) (cell : ℕ) : Type 0 where
+  pub fault : KeepsCons v v' (ListAt cell)
+  pub registers : SettlesWordAtMost v v' cell
+  pub moves : MovesAtMost v v' 1
+
+-- the same if the cell was settled before: every word is unchanged, and nothing moved
+pub record FailsStill (v v' : GroundView) : Type 0 where
+  pub fault : WordsUnchanged v v'
+  pub live : LiveWordsUnchanged v v'
+  pub moves : MovesAtMost v v' 0

@@ -3,15 +3,15 @@ ghost use Rattle.std.specs.Prelude.{◌≡◌, ◌+◌, ◌-◌, ◌*◌, ◌<�
 ghost use Rattle.mem_port.specs.View.{AccountsForFaults, shown};
 ghost use Rattle.area_space.specs.View.{view};
 ghost use Rattle.cdr_lists.specs.Faults.{AccountsForRefusals};
-ghost use Rattle.cdr_lists.specs.Views.{CanSet, IsCellAt, KeepsCons, LaysPair, RelaysCell, SetsCdr, SettlesWordAtMost};
-ghost use Rattle.transporter.specs.Views.{NoOldAddresses, LiveWordsUnchanged, LiveWordsUnchangedExcept, MarksFollow, MovesAtMost, WordsUnchanged, PreservesScanned};
+ghost use Rattle.cdr_lists.specs.Views.{CanSet, IsCellAt, LaysPair, RelaysCell, SetsCdr};
+ghost use Rattle.transporter.specs.Views.{NoOldAddresses, LiveWordsUnchangedExcept, MarksFollow, PreservesScanned};
 ghost use Rattle.store_word.specs.declared.word.Content.TheVariants.{List as ListAt};
 ghost use Rattle.mem_port.specs.Store.{StoresNothing};
 ghost use Rattle.obj_layout.specs.Forwards.{word_at};
 ghost use Rattle.transporter.specs.Preserving.{FreshOn};
 ghost use Rattle.cdr_lists.specs.Parts.{WritesRelay};
 ghost use Rattle.cdr_lists.specs.Refusing.{RefusesOthers};
-ghost use Rattle.cdr_lists.specs.Storing.{FailsCdr, KeepsButCar, KeepsButCdr, StoresCar, StoresCdr};
+ghost use Rattle.cdr_lists.specs.Storing.{FailsCdr, FailsRelay, FailsStill, KeepsButCar, KeepsButCdr, StoresCar, StoresCdr};
 ghost use Rattle.cdr_lists.specs.Words.{plain};
 
 use crate::fault::ListFault;
@@ -112,9 +112,7 @@ fn lay_pair<M: Memory, L: Ledger>(
     ensures laid { OnOk result (RelaysCell (view ground.old) (view ground.new) cell cdr) }
 
     // After a swap error, and what is unchanged.
-    ensures fault { OnErr result (KeepsCons (view ground.old) (view ground.new) (ListAt cell)) }
-    ensures registers { OnErr result (SettlesWordAtMost (view ground.old) (view ground.new) cell) }
-    ensures moves { OnErr result (MovesAtMost (view ground.old) (view ground.new) 1) }
+    ensures fault { OnErr result (FailsRelay (view ground.old) (view ground.new) cell) }
     ensures preserves { PreservesScanned (view ground.old) (view ground.new) }
     ensures stays_fresh { NoOldAddresses (view ground.old) → NoOldAddresses (view ground.new) }
     ensures marks { MarksFollow (view ground.old) (view ground.new) }
@@ -147,9 +145,7 @@ fn lay_settled<M: Memory, L: Ledger>(
         × LiveWordsUnchangedExcept (view ground.old) (view ground.new) cell) }
 
     // After a swap error, and what is unchanged.
-    ensures fault { OnErr result (WordsUnchanged (view ground.old) (view ground.new)) }
-    ensures live { OnErr result (LiveWordsUnchanged (view ground.old) (view ground.new)) }
-    ensures moves { OnErr result (MovesAtMost (view ground.old) (view ground.new) 0) }
+    ensures fault { OnErr result (FailsStill (view ground.old) (view ground.new)) }
     ensures preserves { PreservesScanned (view ground.old) (view ground.new) }
     ensures stays_fresh { FreshOn ground.old.table car.content → NoOldAddresses (view ground.old) → NoOldAddresses (view ground.new) }
     ensures marks { MarksFollow (view ground.old) (view ground.new) }

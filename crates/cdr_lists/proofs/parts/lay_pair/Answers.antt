@@ -18,8 +18,11 @@ fetch-requires-clause-can g c = cell_settleable _ _ _ _ (set_here _ _ c.args.cel
 
 pub returns-in_err-car-clause-fault : goal.returns-in_err-car-clause-fault
 returns-in_err-car-clause-fault g c =
-    on_err c.from_residual.result _
-    (keeps_cons _ _ (ListAt c.args.cell) c.args.cell refl _ _ (cell_faulted _ _ _ _ (set_here _ _ c.args.cell c.args.cdr c.requires.can) c.requires.cell _ _ c.in_err-car.ensures.fault))
+    on_err c.from_residual.result _ (record {
+      fault = keeps_cons _ _ (ListAt c.args.cell) c.args.cell refl _ _ (cell_faulted _ _ _ _ (set_here _ _ c.args.cell c.args.cdr c.requires.can) c.requires.cell _ _ c.in_err-car.ensures.fault);
+      registers = inl c.in_err-car.ensures.live;
+      moves = c.in_err-car.ensures.moves;
+    })
 
 pub returns-in_err-car-clause-stays_fresh : goal.returns-in_err-car-clause-stays_fresh
 returns-in_err-car-clause-stays_fresh g c = λ all.
@@ -52,9 +55,14 @@ returns-clause-laid g c =
 pub returns-clause-fault : goal.returns-clause-fault
 returns-clause-fault g c =
     let f = c.in_ok-car.ensures in
+    let here = set_here _ _ c.args.cell c.args.cdr c.requires.can in
+    let live = cell_live _ _ _ _ here c.requires.cell in
     on_err_weaker c.lay_settled.result
-    (λ stays. keeps_cons _ _ (ListAt c.args.cell) c.args.cell refl _ _
-    (laid_faulted _ _ _ _ (set_here _ _ c.args.cell c.args.cdr c.requires.can) c.requires.cell _ _ c.in_ok-car.car f.settles f.word f.written f.registers.table _ _ stays))
+    (λ still. record {
+      fault = keeps_cons _ _ (ListAt c.args.cell) c.args.cell refl _ _ (laid_faulted _ _ _ _ here c.requires.cell _ _ c.in_ok-car.car f.settles f.word f.written f.registers.table _ _ still.fault);
+      registers = inr (cell_settled f.word f.written f.registers live still.live);
+      moves = moves-then f.moves still.moves;
+    })
     c.lay_settled.ensures.fault
 
 pub returns-clause-preserves : goal.returns-clause-preserves
@@ -75,20 +83,5 @@ returns-clause-cost g c =
     let second = c.lay_settled.ensures.preserves.grows.placed in
     on_ok c.lay_settled.result _ (omega arith)
 
-pub returns-in_err-car-clause-registers : goal.returns-in_err-car-clause-registers
-returns-in_err-car-clause-registers g c = on_err c.from_residual.result _ (inl c.in_err-car.ensures.live)
-
-pub returns-clause-registers : goal.returns-clause-registers
-returns-clause-registers g c =
-    let f = c.in_ok-car.ensures in
-    let live = cell_live _ _ _ _ (set_here _ _ c.args.cell c.args.cdr c.requires.can) c.requires.cell in
-    on_err_weaker c.lay_settled.result (λ same. inr (cell_settled f.word f.written f.registers live same)) c.lay_settled.ensures.live
-
 pub returns-clause-marks : goal.returns-clause-marks
 returns-clause-marks g c = marks-then c.in_ok-car.ensures.marks c.lay_settled.ensures.marks
-
-pub returns-in_err-car-clause-moves : goal.returns-in_err-car-clause-moves
-returns-in_err-car-clause-moves g c = on_err c.from_residual.result _ c.in_err-car.ensures.moves
-
-pub returns-clause-moves : goal.returns-clause-moves
-returns-clause-moves g c = on_err_weaker c.lay_settled.result (λ still. moves-then c.in_ok-car.ensures.moves still) c.lay_settled.ensures.moves

@@ -39,19 +39,11 @@ pub returns-in_err-write_relay-clause-fault : goal.returns-in_err-write_relay-cl
 returns-in_err-write_relay-clause-fault g c =
     let class = c.in-Some.ensures in
     let p = c.place_for-placed.ensures in
-    on_err c.from_residual.result _ (opened_stays _ _ _ _ _ _ _ c.requires.can.can.can.kept c.in-Some.class.area c.in-Some.class.level class.area class.level _ _ _ p.opened c.place_for-placed.result.at p.end (g.M.Memory.seen c.write_relay.new.mem) c.in_err-write_relay.ensures.err)
-
-pub returns-in_err-write_relay-clause-live : goal.returns-in_err-write_relay-clause-live
-returns-in_err-write_relay-clause-live g c =
-    let class = c.in-Some.ensures in
-    let p = c.place_for-placed.ensures in
-    on_err c.from_residual.result _ (opened_live _ _ _ _ _ _ _ c.requires.can.can.can.kept c.in-Some.class.area c.in-Some.class.level class.area class.level _ _ _ p.opened c.place_for-placed.result.at p.end (g.M.Memory.seen c.write_relay.new.mem) c.in_err-write_relay.ensures.err)
-
-pub returns-in_err-write_relay-clause-moves : goal.returns-in_err-write_relay-clause-moves
-returns-in_err-write_relay-clause-moves g c =
-    let class = c.in-Some.ensures in
-    let p = c.place_for-placed.ensures in
-    on_err c.from_residual.result _ (opened_moves _ _ _ _ _ _ _ c.requires.can.can.can.kept c.in-Some.class.area c.in-Some.class.level class.area class.level _ _ _ p.opened c.place_for-placed.result.at p.end (g.M.Memory.seen c.write_relay.new.mem) c.in_err-write_relay.ensures.err)
+    on_err c.from_residual.result _ (record {
+      fault = opened_stays _ _ _ _ _ _ _ c.requires.can.can.can.kept c.in-Some.class.area c.in-Some.class.level class.area class.level _ _ _ p.opened c.place_for-placed.result.at p.end (g.M.Memory.seen c.write_relay.new.mem) c.in_err-write_relay.ensures.err;
+      live = opened_live _ _ _ _ _ _ _ c.requires.can.can.can.kept c.in-Some.class.area c.in-Some.class.level class.area class.level _ _ _ p.opened c.place_for-placed.result.at p.end (g.M.Memory.seen c.write_relay.new.mem) c.in_err-write_relay.ensures.err;
+      moves = opened_moves _ _ _ _ _ _ _ c.requires.can.can.can.kept c.in-Some.class.area c.in-Some.class.level class.area class.level _ _ _ p.opened c.place_for-placed.result.at p.end (g.M.Memory.seen c.write_relay.new.mem) c.in_err-write_relay.ensures.err;
+    })
 
 pub returns-in_err-write_relay-clause-preserves : goal.returns-in_err-write_relay-clause-preserves
 returns-in_err-write_relay-clause-preserves g c =

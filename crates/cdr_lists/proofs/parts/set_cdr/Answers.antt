@@ -219,9 +219,9 @@ returns-in_err-lay_pair-in_default-clause-fault g c =
     on_err c.from_residual-in_err-lay_pair-in_default.result _ (record {
       fault =
           (keeps_cons _ _ c.args.of.content p.reference p.is _ _
-          (keeps_cons_there _ _ _ _ (settable_at _ _ c.args.of c.args.value p.reference p.is c.requires) _ cons.unchanged c.in_ok-cons.cons.at p.final p.last _ _ (keeps_at _ _ c.in_ok-cons.cons.at _ _ c.in_err-lay_pair-in_default.ensures.fault)));
-      registers = cell_at_most _ _ _ _ _ c.args.of.content c.in_ok-cons.cons.at p (λ e. c.in_default.not-Normal (sym cons.value.code ∙ e)) cons.unchanged c.in_err-lay_pair-in_default.ensures.registers;
-      moves = moves-after_read c.in_ok-cons.ensures.unchanged c.in_err-lay_pair-in_default.ensures.moves;
+          (keeps_cons_there _ _ _ _ (settable_at _ _ c.args.of c.args.value p.reference p.is c.requires) _ cons.unchanged c.in_ok-cons.cons.at p.final p.last _ _ (keeps_at _ _ c.in_ok-cons.cons.at _ _ c.in_err-lay_pair-in_default.ensures.fault.fault)));
+      registers = cell_at_most _ _ _ _ _ c.args.of.content c.in_ok-cons.cons.at p (λ e. c.in_default.not-Normal (sym cons.value.code ∙ e)) cons.unchanged c.in_err-lay_pair-in_default.ensures.fault.registers;
+      moves = moves-after_read c.in_ok-cons.ensures.unchanged c.in_err-lay_pair-in_default.ensures.fault.moves;
     })
 
 pub returns-in_err-lay_pair-in_default-clause-refused : goal.returns-in_err-lay_pair-in_default-clause-refused
