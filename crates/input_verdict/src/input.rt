@@ -2,7 +2,7 @@
 ghost use Rattle.std.specs.Prelude.{◌≡◌};
 ghost use Rattle.input_verdict.specs.Input.{first_judge};
 
-use line_input::InputReader;
+use line_input::{InputReader, LineSpan};
 use lisp_graph::World;
 use std::alloc::Global;
 use world_text::WorldBuilder;
@@ -27,6 +27,13 @@ pub enum LineEffect {
     Opens,
     /// A command has to be run.
     Does,
+}
+
+/// A line that was judged: what it requests, and how long it is.
+#[derive(Clone, Copy, Debug, PartialEq, Eq)]
+pub struct JudgedLine {
+    pub effect: LineEffect,
+    pub found: LineSpan,
 }
 
 impl InputJudge {

@@ -1,19 +1,21 @@
 //! Judging one line.
 ghost use Rattle.std.specs.Prelude.{◌≡◌, ◌≢◌, ◌<◌, ◌≤◌, ◌+◌, ◌^◌, length, take, true, false, None, Ok, IfErr, IfOk, IfSome, OnErr, OnOk};
 ghost use Rattle.lisp_graph.specs.declared.command.Command.{Command as OneCommand};
+ghost use Rattle.lisp_graph.specs.Commands.{IsRunnable};
 ghost use Rattle.world_text.specs.Reader.{NamesArea, is_closed};
 ghost use Rattle.world_text.specs.Limits.{IsAccepted};
 ghost use Rattle.world_text.specs.Line.{line_at};
-ghost use Rattle.trace_text.specs.Commands.{trace_line};
+ghost use Rattle.world_text.specs.Fast.{IsLineBeforeFeed};
+ghost use Rattle.trace_text.specs.Commands.{Run, trace_line};
 ghost use Rattle.line_input.specs.Reader.{IsWholeLine};
 ghost use Rattle.line_input.specs.Statuses.{status_of};
-ghost use Rattle.input_verdict.specs.Events.{Does, event_of, events, trouble_at};
+ghost use Rattle.input_verdict.specs.Events.{event_of, events, trouble_at};
 ghost use Rattle.input_verdict.specs.Places.{IsPlace, Judged, MayDo};
 ghost use Rattle.input_verdict.specs.Verdict.{in_trace, judged_as, line_in, trace_next, world_next};
 
-use crate::input::{JudgedInput, LineEffect};
+use crate::input::{JudgedInput, JudgedLine, LineEffect};
 use line_input::{LineReader, LineSpan, RunError, Status, world_trouble};
-use lisp_graph::Request;
+use lisp_graph::{Request, World};
 use trace_text::{LineKind, read_fast, read_request};
 use world_text::WorldFault;
 
@@ -100,36 +102,63 @@ pub fn run_error_of(place: &JudgedInput, fault: WorldFault) -> RunError
     world_trouble(place.lines + 1, place.judge.world().areas.as_slice(), fault)
 }
 
-/// Goes past the next line if its line feed is buffered and it is one of the most frequent commands, which is written to `command`. It looks at
-/// each byte once. Otherwise the place is unchanged, and the line is judged by `judge_line`.
+/// The length of the line at the front of a text, if it is one of the most frequent commands and a line feed follows it. The command is
+/// written to `command`.
+#[inline(always)]
+fn command_before_feed(world: &World, text: &[u8], command: &mut Request) -> Option<usize>
+    requires { IsAccepted world.now }
+    ensures found { IfSome result (IsLineBeforeFeed text.now) }
+    ensures read { IfSome result (λ size. trace_line world.now.space world.now.areas (take size text.now) ≡ Ok (Run command.new)) }
+    ensures allowed { IfSome result (λ _. IsRunnable world.now command.new) }
+{
+    let rest = read_fast(&world.space, &world.areas, text, command)?;
+    if rest.is_empty() || rest[0] != b'\n' {
+        return None;
+    }
+    Some(text.len() - rest.len())
+}
+
+/// Goes past the next line if its line feed is buffered and it is one of the most frequent: in the world `cons AREA V V`, and in the trace a
+/// command, which is written to `command`. It looks at each byte once. Otherwise the place is unchanged, and the line is judged by
+/// `judge_line`.
 #[inline(always)]
 pub fn judge_buffered(
     place: &mut JudgedInput,
     reader: &LineReader,
     command: &mut Request,
-) -> Option<LineSpan>
+) -> Option<JudgedLine>
     requires { IsPlace place.old }
-    ensures found { IfSome result (IsWholeLine reader.now) }
+    ensures found { IfSome result (λ line. IsWholeLine reader.now line.found) }
     ensures at_most { IfSome result (λ _. length reader.now.bytes ≤ 32769) }
-    ensures judged { IfSome result (λ found. judged_as place.old (take found.length reader.now.bytes) found.size ≡ Ok (record { event = Does command.new; place = place.new })) }
+    ensures judged { IfSome result (λ line. judged_as place.old (take line.found.length reader.now.bytes) line.found.size
+        ≡ Ok (record { event = event_of line.effect command.new; place = place.new })) }
     ensures stays_sound { IsPlace place.new }
     ensures none { result ≡ None → place.new ≡ place.old }
-    ensures allowed { IfSome result (λ _. MayDo place.new.judge.builder.world (Does command.new)) }
+    ensures allowed { IfSome result (λ line. MayDo place.new.judge.builder.world (event_of line.effect command.new)) }
 {
-    if place.judge.ended || !place.judge.builder.is_closed() || !place.has_room_for_a_line() {
+    if place.judge.ended || !place.has_room_for_a_line() {
         return None;
     }
-    let world = place.judge.builder.world();
-    let bytes = reader.bytes();
-    let rest = read_fast(&world.space, &world.areas, bytes, command)?;
-    if rest.is_empty() || rest[0] != b'\n' {
-        return None;
+    let text = reader.bytes();
+    if place.judge.builder.is_closed() {
+        let length = command_before_feed(place.judge.builder.world(), text, command)?;
+        place.advance(length + 1);
+        return Some(JudgedLine {
+            effect: LineEffect::Does,
+            found: LineSpan {
+                length,
+                size: length + 1,
+            },
+        });
     }
-    let length = bytes.len() - rest.len();
+    let length = place.judge.builder.cons_before_feed(text)?;
     place.advance(length + 1);
-    Some(LineSpan {
-        length,
-        size: length + 1,
+    Some(JudgedLine {
+        effect: LineEffect::Nothing,
+        found: LineSpan {
+            length,
+            size: length + 1,
+        },
     })
 }
 

@@ -8,6 +8,6 @@ mod input;
 mod judge;
 mod laws;
 
-pub use input::{InputJudge, JudgedInput, LineEffect};
+pub use input::{InputJudge, JudgedInput, JudgedLine, LineEffect};
 pub use judge::{judge_buffered, judge_line, run_error_of};
 pub use laws::dumps_are_whole_inputs;

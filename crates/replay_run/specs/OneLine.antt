@@ -9,11 +9,11 @@ use Rattle.line_input.specs.declared.statuses.status.RunStop.TheVariants.{Tell}
 use Rattle.line_input.specs.declared.lines.found.LineSpan.{LineSpan}
 use Rattle.line_input.specs.Reader.{Buffered, IsFound}
 use Rattle.line_input.specs.Statuses.{status_of}
+use Rattle.input_verdict.specs.declared.input.JudgedLine.{JudgedLine}
 use Rattle.input_verdict.specs.Input.{JudgedInput}
 use Rattle.input_verdict.specs.Events.{Event, Nothing, Opens, Does, event_of}
 use Rattle.input_verdict.specs.Places.{Judged}
 use Rattle.input_verdict.specs.Verdict.{enough, judged_as, world_of}
-use Rattle.replay_run.specs.declared.run.JudgedLine.{JudgedLine}
 use Rattle.replay_run.specs.declared.halt.LoopExit.{LoopExit}
 use Rattle.replay_run.specs.declared.halt.LoopExit.TheVariants as halts
 use Rattle.replay_run.specs.Steps.{Acted, FailsInDump, Fetched, TakesAfter, stop_of}
@@ -49,7 +49,7 @@ pub record NextRefused (place : JudgedInput) (held : Buffered) (stop : RunStop) 
 -- a call that judged the next line
 abbrev pub JudgedNext : JudgedInput → JudgedInput → Buffered → List ℕ → Command → Result (Option JudgedLine) RunStop → Type 0
 JudgedNext place place' held pending command (Ok None) = (held.bytes ≡ []) × (held.ended ≡ true) × (place' ≡ place)
-JudgedNext place place' held pending command (Ok (Some line)) = NextAccepted place place' held line.size (event_of line.effect command)
+JudgedNext place place' held pending command (Ok (Some line)) = NextAccepted place place' held line.found.size (event_of line.effect command)
 JudgedNext place place' held pending command (Err stop) = NextMissing place held pending stop ⊎ NextRefused place held stop
 
 -- A line was accepted, and what it requests was done.

@@ -13,7 +13,7 @@ ghost use Rattle.replay_run.specs.Steps.{Acted, Fetched, Filled, IsIn, RanTo, Ta
 use crate::halt::LoopExit;
 use crate::line::act;
 use input_verdict::{
-    InputJudge, JudgedInput, LineEffect, judge_buffered, judge_line, run_error_of,
+    InputJudge, JudgedInput, JudgedLine, judge_buffered, judge_line, run_error_of,
 };
 use line_input::{InputReader, LineReader, LineSpan, RunError, RunStop, early_end};
 use lisp_graph::Request;
@@ -21,13 +21,6 @@ use outer_ports::{Sink, SinkBuffer, Source};
 use paged_machine::Engine;
 use std::alloc::Global;
 use world_text::Reason;
-
-/// A line that was judged: what it requests, and how many bytes it has, its line feed included.
-#[derive(Clone, Copy, Debug, PartialEq, Eq)]
-pub(crate) struct JudgedLine {
-    pub(crate) effect: LineEffect,
-    pub(crate) size: usize,
-}
 
 /// The next line, or a prefix of it that has enough bytes. More bytes are taken only if neither is buffered, one piece after another until one is,
 /// and after what is pending was given to the sink.
@@ -100,11 +93,8 @@ fn judge_next<S: Source, K: Sink>(
     ensures source_no_fault { result ≢ Err (RunStop.Tell RunError.Read) → S.faults source.new ≡ S.faults source.old }
     ensures sink_no_fault { result ≢ Err RunStop.Write → K.faults sink.new ≡ K.faults sink.old }
 {
-    if let Some(found) = judge_buffered(place, reader, command) {
-        return Ok(Some(JudgedLine {
-            effect: LineEffect::Does,
-            size: found.size,
-        }));
+    if let Some(line) = judge_buffered(place, reader, command) {
+        return Ok(Some(line));
     }
     let enough = place.bytes_to_decide(place.judge.ended);
     let found = match next_line(reader, buffer, source, sink, enough) {
@@ -114,10 +104,7 @@ fn judge_next<S: Source, K: Sink>(
     };
     let text = &reader.bytes()[..found.length];
     match judge_line(place, text, found.size, command) {
-        Ok(effect) => Ok(Some(JudgedLine {
-            effect,
-            size: found.size,
-        })),
+        Ok(effect) => Ok(Some(JudgedLine { effect, found })),
         Err(fault) => Err(RunStop::Tell(run_error_of(place, fault))),
     }
 }
@@ -180,7 +167,7 @@ pub fn run_trace<S: Source, K: Sink, E: Engine>(
             next.effect,
             &command,
         ) {
-            Ok(()) => reader.pass(next.size),
+            Ok(()) => reader.pass(next.found.size),
             Err(halt) => return Err(halt.stop()),
         }
     }

@@ -7,7 +7,7 @@ pub returns-in-Some-clause-filled : goal.returns-in-Some-clause-filled
 returns-in-Some-clause-filled g c = filled_here c.in-Some.ensures.at_most
 
 pub returns-in-Some-clause-judged : goal.returns-in-Some-clause-judged
-returns-in-Some-clause-judged g c = record { found = c.in-Some.found; here = inl c.in-Some.ensures.found; all = refl; accepted = c.in-Some.ensures.judged }
+returns-in-Some-clause-judged g c = record { found = c.in-Some.line.found; here = inl c.in-Some.ensures.found; all = refl; accepted = c.in-Some.ensures.judged }
 
 pub returns-in-Ok-None-clause-filled : goal.returns-in-Ok-None-clause-filled
 returns-in-Ok-None-clause-filled g c = let e = c.in-Ok-None.ensures in filled_by e.given e.ended e.at_most e.gathers
