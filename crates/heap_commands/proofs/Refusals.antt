@@ -12,7 +12,7 @@ use Rattle.block_store.specs.declared.fault.BlockFault.TheVariants.{NotABlock, N
 use Rattle.heap_state.specs.Reads.{is_fault, reply_of}
 use Rattle.heap_commands.specs.Refusals.{reply_to}
 
--- a reply tells a swap error if and only if one occurred
+-- a reply reports a swap error if and only if one occurred
 module _ (T : Type 0) where
   same_fault : (fault : BlockFault) → is_block_fault {T = T} (Err fault) ≡ is_fault (reply_of (reply_to fault))
   same_fault NotABlock = refl

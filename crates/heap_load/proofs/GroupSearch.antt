@@ -103,7 +103,7 @@ area_of area test object is =
     let p = and_parts (object.area == area && object.charge == 3) (has_cdr test object.body) is in
     eqb-true object.area area (and_parts (object.area == area) (object.charge == 3) p.0).0
 
--- objects that refer each to the next are in front of what begins behind them
+-- objects that refer each to the next precede the rest of the list
 linked_by : (area : ℕ) (objects : List Object) (count number : ℕ) → number + count ≤ length objects → ((i : ℕ) → number ≤ i → i < number + count → is_cell area (is_ref (i + 1)) (object_at objects i) ≡ true)
     → to_tail area number (drop number objects) ≡ further count (to_tail area (number + count) (drop (number + count) objects))
 linked_by area objects zero number low linked =
@@ -125,7 +125,7 @@ linked_later objects number later end order linked i from below =
     let area = area_of (object_at objects number).area (is_ref (later + 1)) (object_at objects later) (linked later order (omega arith)) in
     ap (λ (a : ℕ). is_cell a (is_ref (i + 1)) (object_at objects i)) area ∙ linked i (omega arith) below
 
--- a search goes on where the latest one ended
+-- a search continues from the end of the latest one
 module _ (objects : List Object) (number linked from at area : ℕ) (known : AreLinked objects number linked) (area_is : area ≡ (object_at objects number).area) (from_is : from ≡ max number linked)
     (skipped : (i : ℕ) → from ≤ i → i < at → is_cell area (is_ref (i + 1)) (object_at objects i) ≡ true) where
   linked_to : (i : ℕ) → number ≤ i → i < at → is_cell area (is_ref (i + 1)) (object_at objects i) ≡ true

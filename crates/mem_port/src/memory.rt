@@ -65,7 +65,7 @@ pub trait Memory {
         ensures cost { steps.new ≡ steps.old + 1 };
 
     /// Reads up to `count` words, at least one, one after another from an address on, and stops at the first that is
-    /// wanted. It returns how many come before that, or `count` if none is wanted. The words are on one page. Each
+    /// wanted. It returns how many precede that word, or `count` if none is wanted. The words are on one page. Each
     /// word that is read takes one memory access, the wanted one too. A swap error occurs only at the first word, and
     /// only if the page isn't held; it raises the count of swap errors.
     fn read_until<T: WordTest, L: Ledger>(

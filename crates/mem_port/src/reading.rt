@@ -15,7 +15,7 @@ pub trait WordTest {
         ensures { IsTrue result ↔ wanted self.now word };
 }
 
-/// How many of these words, at most 256, come before the first that is wanted: all of them if none is.
+/// How many of these words, at most 256, precede the first that is wanted: all of them if none is.
 #[inline]
 pub fn words_before<T: WordTest>(words: &[Word], test: &T) -> u32
     requires { length words.now ≤ 256 }

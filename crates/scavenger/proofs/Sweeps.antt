@@ -1,4 +1,4 @@
--- How far a sweep has come.
+-- What a sweep has scanned so far.
 use Rattle.std.proofs.Common.{◌≡◌, ℕ, ◌+◌, ◌<◌, ◌≤◌, List, Option, Some, None, sym, ◌∙◌, arith}
 use Rattle.std.specs.Prelude.{IfSome, IfNone}
 use Rattle.store_word.specs.Words.{Parts}
@@ -101,6 +101,6 @@ module _ {m m1 m2 : Store} {t t1 t2 : Table} {scan scan1 scan2 : Scan} {register
     remains = y;
   })
 
--- words that a pause allows are among those that were left
+-- words that a pause allows are among those that remained
 pub within-pause : (words allowed count : ℕ) → allowed ≤ words → count ≤ allowed → count ≤ words
 within-pause words allowed count few within = omega arith

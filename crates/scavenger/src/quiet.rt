@@ -46,7 +46,7 @@ fn may_be_old(table: &RegionTable, at: u32) -> bool
     table.is_old(at)
 }
 
-// How many words of a page, from this one on, come before the last used one. It is 0 unless the latest
+// How many words of a page, from this one on, precede the last used one. It is 0 unless the latest
 // transport ended on this page.
 #[inline]
 fn words_before_last(table: &RegionTable, at: u32) -> u32

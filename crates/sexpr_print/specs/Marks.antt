@@ -13,7 +13,7 @@ use Rattle.sexpr_print.specs.Sharing.{is_many, references_at}
 abbrev pub shared_in : List References → ℕ → Bool
 shared_in counts name = is_many (references_at counts name)
 
--- more than one reference is counted exactly to those objects to which more than one register or part of a reached object refers
+-- an object has more than one counted reference if and only if more than one register or part of a reached object refers to it
 pub record CountsReached (world : World) (counts : List References) : Type 0 where
   pub names : List ℕ
   pub reached : IsNumbering (keyed (opening world)) names

@@ -28,7 +28,7 @@ two_parts : (body : Body) → is_cons body ≡ true → width body ≡ 2
 two_parts (Cons car cdr) is = refl
 two_parts (Block code fields) is = absurd cc
 
--- what a content that begins a cons says of its shape and its parts
+-- the shape and the parts of a cons that begins with this content
 record BeginsCons (words : List Parts) (at : ℕ) (c : Content) : Type 0 where
   shape : (code : CdrCode) → shape_from c code ≡ cons_shape code
   part : (index : ℕ) → part_in words at index c ≡ (if index == 0 then car_in words at else cdr_in words at)

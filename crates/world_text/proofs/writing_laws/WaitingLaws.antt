@@ -22,7 +22,7 @@ same n = grind (arith, nat_tests)
 abbrev pub ending : ℕ → Value → Object
 ending area car = record { area = area; charge = 3; body = Cons car Nil }
 
--- Where the tail of a list is
+-- The place of the tail of a list
 
 link_goes : (area number : ℕ) (car : Value) (rest : List Object) → to_tail area number (link area number car ∷ rest) ≡ option_map (λ n. n + 1) (to_tail area (number + 1) rest)
 link_goes area number car rest = rw (same area, same (number + 1)) refl
@@ -229,7 +229,7 @@ group_written areas area first cars all left car text new next place more few pu
     length_last [] = refl
     length_last (x ∷ l) = ap suc (length_last l)
 
--- a cons waits behind the others
+-- a cons waits after the others
 pub link_waits : (areas : List AreaRule) (area first : ℕ) (cars all : List Value) (car : Value) (text : List ℕ) (more : List Object) → all ≡ cars ++ car ∷ []
     → text ++ text_of areas (object_lines_of 0 first (links area first all ++ more)) ≡ text ++ text_of areas (object_lines_of 0 first (links area first cars ++ link area (first + length cars) car ∷ more))
 link_waits areas area first cars all car text more pushed =
