@@ -205,7 +205,7 @@ fn rest_behind<M: Memory, L: Ledger>(
     requires in_range { at < length (M.seen mem.old).words }
     requires first { first ≡ word_at (M.seen mem.old).words at }
     requires whole { HasCdr (M.seen mem.old).words at }
-    requires shape { shape_of first ≡ cons_shape first.cdr }
+    requires pair { shape_of first ≡ cons_shape first.cdr }
     ensures cdr { IfOk result (λ rest. rest.0.content ≡ cdr_in (M.seen mem.old).words at) }
     ensures value { IfOk result (λ rest. rest.1 ≡ charge_at (M.seen mem.old).words at) }
     ensures unchanged { StoresNothing (M.seen mem.old) (M.seen mem.new) }

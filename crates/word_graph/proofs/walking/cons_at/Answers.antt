@@ -10,8 +10,8 @@ use Rattle.word_graph.proofs.ShownObjects.{object_classed}
 use Rattle.word_graph.proofs.ShownConses.{cons_shaped, car_can, cdr_can, car_told, cdr_told, cons_told}
 use Rattle.word_graph.proofs.walking.cons_at.Goals as goal
 
-pub rest_behind-requires-clause-shape : goal.rest_behind-requires-clause-shape
-rest_behind-requires-clause-shape g c =
+pub rest_behind-requires-clause-pair : goal.rest_behind-requires-clause-pair
+rest_behind-requires-clause-pair g c =
     let m = g.M.Memory.seen c.args.ground.now.mem in
     cons_shaped m c.args.ground.now.table c.args.key c.requires.object c.requires.pair c.in_ok-first.first (word_at-read m.words m.words c.args.key c.in_ok-first.first refl c.in_ok-first.ensures.value)
 
