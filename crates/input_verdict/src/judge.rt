@@ -108,7 +108,7 @@ pub fn run_error_of(place: &JudgedInput, fault: WorldFault) -> RunError
 fn command_before_feed(world: &World, text: &[u8], command: &mut Request) -> Option<usize>
     requires { IsAccepted world.now }
     ensures found { IfSome result (IsLineBeforeFeed text.now) }
-    ensures read { IfSome result (λ size. trace_line world.now.space world.now.areas (take size text.now) ≡ Ok (Run command.new)) }
+    ensures judged { IfSome result (λ size. trace_line world.now.space world.now.areas (take size text.now) ≡ Ok (Run command.new)) }
     ensures allowed { IfSome result (λ _. IsRunnable world.now command.new) }
 {
     let rest = read_fast(&world.space, &world.areas, text, command)?;

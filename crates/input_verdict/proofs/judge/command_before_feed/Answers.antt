@@ -10,8 +10,8 @@ returns-clause-found c =
     let some : 0 < length c.in_ok-rest.rest.now = search rules in
     command_line c.args.world.now c.args.text.now c.read_fast.new.command c.in_ok-rest.rest.now lead _ (omega (arith, ap length lead.is, length-append lead.line c.in_ok-rest.rest.now)) some c.if-rest-ne10.false
 
-pub returns-clause-read : goal.returns-clause-read
-returns-clause-read c =
+pub returns-clause-judged : goal.returns-clause-judged
+returns-clause-judged c =
     let lead = c.in_ok-rest.ensures in
     command_read c.args.world.now c.args.text.now c.read_fast.new.command c.in_ok-rest.rest.now lead _ (omega (arith, ap length lead.is, length-append lead.line c.in_ok-rest.rest.now))
 
