@@ -23,7 +23,7 @@ pub record StoresCdr (v v' : GroundView) (content : Content) (value : Parts) : T
   pub table : (at : ℕ) → IsConsPlace v content at → (word_at v.mem.store.words at).cdr ≡ Normal → v'.table ≡ v.table
   pub cells : (at : ℕ) → IsConsPlace v content at → (word_at v.mem.store.words at).cdr ≡ Normal → MovesAtMost v v' 0
 
--- what a refusal leaves: the cons, and each used word of a live region except that of a cell, which may be settled; at most one object moved
+-- what a call that fails leaves: the cons, and each used word of a live region except that of a cell, which may be settled; at most one object moved
 pub record FailsCdr (v v' : GroundView) (content : Content) : Type 0 where
   pub fault : KeepsCons v v' content
   pub registers : SettlesCellAtMost v v' content

@@ -1,4 +1,4 @@
--- Maps of names to objects and places, and what changes of them leave as it was.
+-- Maps of names to objects and places, and what a change of a map leaves unchanged.
 pub mod LaterMaps
 pub mod Puts
 pub mod Frames
