@@ -1,5 +1,6 @@
 pub mod NumberedMaps
 pub mod Cells
+pub mod StoredObjects
 pub mod GraphInvariant
 pub mod Persistence
 pub mod SameValues

@@ -6,6 +6,7 @@ pub mod Commands
 pub mod Request
 pub mod KeyedGraph
 pub mod Store
+pub mod Objects
 pub mod Fields
 pub mod Groups
 pub mod Flips

@@ -3,11 +3,12 @@ ghost use Rattle.std.specs.Prelude.{◌≡◌, length, IsSome, IfOk, OnErr};
 ghost use Rattle.lisp_graph.specs.Graph.{IsGraph, Lasts};
 ghost use Rattle.lisp_graph.specs.Effect.{Allocates, Answers, effect};
 ghost use Rattle.lisp_graph.specs.Commands.{InLimits, InRegisters};
+ghost use Rattle.lisp_graph.specs.Objects.{object_copied};
 ghost use Rattle.lisp_graph.specs.World.{opening};
 
 use crate::object_map::ObjectMap;
 use crate::store::Store;
-use crate::{Body, Command, Fields, Object, Reply, World};
+use crate::{Body, BodyRef, Command, Fields, Object, ObjectRef, Objects, Reply, World};
 use std::alloc::Global;
 use std::marker::Model;
 use store_word::NoMemory;
@@ -30,17 +31,14 @@ impl Model for GraphStore {
 }
 
 /// The same object in memory of its own.
-fn copy_of(alloc: Global, object: &Object) -> Result<Object, NoMemory>
-    ensures { IfOk result (λ copy. copy ≡ object.now) }
+fn copy_of(alloc: Global, object: ObjectRef<'_>) -> Result<Object, NoMemory>
+    ensures { IfOk result (λ copy. copy ≡ object_copied object.entry) }
 {
-    let body = match &object.body {
-        Body::Cons { car, cdr } => Body::Cons {
-            car: *car,
-            cdr: *cdr,
-        },
-        Body::Block { code, fields } => Body::Block {
-            code: *code,
-            fields: Fields::from_slice(alloc, fields.as_slice())?,
+    let body = match object.body {
+        BodyRef::Cons { car, cdr } => Body::Cons { car, cdr },
+        BodyRef::Block { code, fields } => Body::Block {
+            code,
+            fields: Fields::from_slice(alloc, fields)?,
         },
     };
     Ok(Object {
@@ -51,12 +49,12 @@ fn copy_of(alloc: Global, object: &Object) -> Result<Object, NoMemory>
 }
 
 /// The same objects in a map.
-fn map_of(alloc: Global, objects: &[Object]) -> Result<ObjectMap, NoMemory>
+fn map_of(alloc: Global, objects: &Objects) -> Result<ObjectMap, NoMemory>
     ensures { IfOk result (λ map. map ≡ objects.now) }
 {
     let mut map = ObjectMap::new(alloc);
-    for object in objects {
-        map.push(copy_of(alloc, object)?)?;
+    for name in 0..objects.len() {
+        map.push(copy_of(alloc, objects.at(name as usize))?)?;
     }
     Ok(map)
 }
@@ -69,7 +67,7 @@ impl GraphStore {
         ensures { IfOk result (λ store. store ≡ opening world.now) }
     {
         let registers = Fields::from_slice(alloc, world.roots.as_slice())?;
-        let objects = map_of(alloc, world.objects.as_slice())?;
+        let objects = map_of(alloc, &world.objects)?;
         let store = Store {
             alloc,
             registers,

@@ -2,7 +2,7 @@
 ghost use Rattle.std.specs.Prelude.{◌≡◌, ◌<◌, ◌≤◌, ◌-◌, ◌++◌, [], ◌∷◌, length, replicate, slice_get, slice_set, take, IfOk, OnOk, OnErr};
 ghost use Rattle.std.specs.Option.{option_copied};
 
-use crate::{AreaRule, Object, Value};
+use crate::{AreaRule, Value};
 use std::alloc::Global;
 use std::marker::Model;
 use store_word::NoMemory;
@@ -18,9 +18,6 @@ pub type Fields = Sequence<Value>;
 
 /// Area rules, in the order of their numbers.
 pub type Areas = Sequence<AreaRule>;
-
-/// Objects, each named by its place.
-pub type Objects = Sequence<Object>;
 
 /// Bytes.
 pub type Text = Sequence<u8>;

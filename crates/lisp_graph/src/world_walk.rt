@@ -1,10 +1,11 @@
 //! A walk over the graph of a world that its caller keeps.
 ghost use Rattle.std.specs.Prelude.{◌≡◌, ◌<◌, ◌≤◌, length};
-ghost use Rattle.lisp_graph.specs.Graph.{IsGraph, RefersBelow, object_at, width};
+ghost use Rattle.lisp_graph.specs.Graph.{IsGraph, RefersBelow, width};
 ghost use Rattle.lisp_graph.specs.KeyedGraph.{form_of, part_of, keyed_value};
+ghost use Rattle.lisp_graph.specs.Objects.{body_copied, object_copied};
 ghost use Rattle.lisp_graph.specs.World.{opening};
 
-use crate::{Body, Form, Object, Seen, SeenCons, Value, Walk, World};
+use crate::{BodyRef, Form, ObjectRef, Objects, Seen, SeenCons, Value, Walk, World};
 use std::marker::Model;
 use store_word::SwapFault;
 
@@ -26,36 +27,28 @@ impl<'a> Model for WorldWalk<'a> {
     ghost invariant = { λ w. IsGraph (opening w.world.now) × (length w.world.now.roots ≡ w.world.now.space.registers) };
 }
 
-/// The object with this name.
-pub fn object_at(objects: &[Object], name: u64) -> &Object
-    requires { name < length objects.now }
-    ensures { result.now ≡ object_at objects.now name }
-{
-    &objects[name as usize]
-}
-
 /// A value as a walk shows it.
-fn keyed_value(objects: &[Object], value: Value) -> Seen
+fn keyed_value(objects: &Objects, value: Value) -> Seen
     requires { RefersBelow (length objects.now) value }
     ensures { result ≡ keyed_value objects.now value }
 {
     match value {
         Value::Fix(number) => Seen::Fix(number),
         Value::Nil => Seen::Nil,
-        Value::Ref(name) => match object_at(objects, name).body {
-            Body::Cons { .. } => Seen::Cons(name),
-            Body::Block { .. } => Seen::Block(name),
+        Value::Ref(name) => match objects.body(name as usize) {
+            BodyRef::Cons { .. } => Seen::Cons(name),
+            BodyRef::Block { .. } => Seen::Block(name),
         },
     }
 }
 
-fn form_of(object: &Object) -> Form
-    requires { width object.now.body ≤ 2047 }
-    ensures { result ≡ form_of object.now }
+fn form_of(object: ObjectRef<'_>) -> Form
+    requires { width (body_copied object.body) ≤ 2047 }
+    ensures { result ≡ form_of (object_copied object.entry) }
 {
-    let (code, length) = match &object.body {
-        Body::Cons { .. } => (0, 2),
-        Body::Block { code, fields } => (*code, fields.len() as u16),
+    let (code, length) = match object.body {
+        BodyRef::Cons { .. } => (0, 2),
+        BodyRef::Block { code, fields } => (code, fields.len() as u16),
     };
     Form {
         area: object.area,
@@ -65,13 +58,13 @@ fn form_of(object: &Object) -> Form
     }
 }
 
-fn part_of(body: &Body, index: u32) -> Value
-    requires { index < width body.now }
-    ensures { result ≡ part_of body.now index }
+fn part_of(body: BodyRef<'_>, index: u32) -> Value
+    requires { index < width (body_copied body) }
+    ensures { result ≡ part_of (body_copied body.entry) index }
 {
     match body {
-        Body::Cons { car, cdr } => if index == 0 { *car } else { *cdr },
-        Body::Block { fields, .. } => fields.as_slice()[index as usize],
+        BodyRef::Cons { car, cdr } => if index == 0 { car } else { cdr },
+        BodyRef::Block { fields, .. } => fields[index as usize],
     }
 }
 
@@ -99,27 +92,27 @@ impl<'a> Walk for WorldWalk<'a> {
 
     fn value_of_register(&mut self, register: u32) -> Result<Seen, SwapFault> {
         let value = self.world.roots.as_slice()[register as usize];
-        Ok(keyed_value(self.world.objects.as_slice(), value))
+        Ok(keyed_value(&self.world.objects, value))
     }
 
     fn form_of(&mut self, key: u64) -> Result<Form, SwapFault> {
-        Ok(form_of(object_at(self.world.objects.as_slice(), key)))
+        Ok(form_of(self.world.objects.at(key as usize)))
     }
 
     fn field_of(&mut self, key: u64, index: u32) -> Result<Seen, SwapFault> {
-        let objects = self.world.objects.as_slice();
-        let value = part_of(&object_at(objects, key).body, index);
+        let objects = &self.world.objects;
+        let value = part_of(objects.body(key as usize), index);
         Ok(keyed_value(objects, value))
     }
 
     fn cons_of(&mut self, key: u64) -> Result<SeenCons, SwapFault> {
-        let objects = self.world.objects.as_slice();
-        let object = object_at(objects, key);
+        let objects = &self.world.objects;
+        let object = objects.at(key as usize);
         Ok(SeenCons {
             area: object.area,
             charge: object.charge,
-            car: keyed_value(objects, part_of(&object.body, 0)),
-            cdr: keyed_value(objects, part_of(&object.body, 1)),
+            car: keyed_value(objects, part_of(object.body, 0)),
+            cdr: keyed_value(objects, part_of(object.body, 1)),
         })
     }
 }

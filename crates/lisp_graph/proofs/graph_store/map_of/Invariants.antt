@@ -1,5 +1,5 @@
 use Rattle.std.proofs.Common.{◌≡◌, take}
 use Rattle.lisp_graph.proofs.graph_store.map_of.Given as goal
 
-abbrev pub invariant-loop-object : goal.invariant-loop-object
-invariant-loop-object l = l.map ≡ take l.object-index l.objects
+abbrev pub invariant-loop-name : goal.invariant-loop-name
+invariant-loop-name l = l.map ≡ take l.name l.objects
