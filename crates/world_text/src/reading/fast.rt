@@ -9,7 +9,7 @@ ghost use Rattle.world_text.specs.reading.Fast.{AreSpaced, BeginsBlock, BeginsRu
 ghost use Rattle.world_text.specs.writing.Spelling.{IsWritten, value_text};
 
 use crate::reading::leading::{behind, behind_space, leading_area, leading_number, leading_value};
-use crate::reading::objects::{add_object, add_run};
+use crate::reading::objects::{add_cons, add_object, add_run};
 use crate::{Section, WorldFault, WorldReader, WorldStep};
 use lisp_graph::{Areas, Body, Fields, Object, Value};
 use std::alloc::Global;
@@ -70,12 +70,7 @@ fn cons_at(place: &mut WorldReader, line: &[u8]) -> Option<Result<WorldStep, Wor
     if !rest.is_empty() {
         return None;
     }
-    let object = Object {
-        area: area as u8,
-        charge: 2,
-        body: Body::Cons { car, cdr },
-    };
-    Some(add_object(place, area, object))
+    Some(add_cons(place, area, car, cdr))
 }
 
 /// Takes the line at the front of a text, if it is `cons AREA V V`, a line feed follows it, and it is accepted. Returns how many bytes precede the
@@ -96,12 +91,7 @@ pub fn cons_before_feed(place: &mut WorldReader, text: &[u8]) -> Option<usize>
     if rest.is_empty() || rest[0] != b'\n' {
         return None;
     }
-    let object = Object {
-        area: area as u8,
-        charge: 2,
-        body: Body::Cons { car, cdr },
-    };
-    match add_object(place, area, object) {
+    match add_cons(place, area, car, cdr) {
         Ok(_) => Some(text.len() - rest.len()),
         Err(_) => None,
     }

@@ -1,9 +1,10 @@
 //! Numbers that occur in references, but are the number of no object.
 ghost use Rattle.std.specs.Prelude.{◌≡◌, ◌-◌, min, fold};
+ghost use Rattle.lisp_graph.specs.Objects.{body_copied};
 ghost use Rattle.world_text.specs.reading.Closing.{lesser, missing, missing_at, missing_body, missing_value, no_object};
 
 use crate::{Reason, Section, WorldFault, WorldReader};
-use lisp_graph::{Body, Object, Value};
+use lisp_graph::{BodyRef, Objects, Value};
 
 fn lesser(found: Option<u64>, number: u64) -> Option<u64>
     ensures { result ≡ lesser found number }
@@ -39,25 +40,25 @@ fn missing_fields(objects: u64, found: Option<u64>, fields: &[Value]) -> Option<
     found
 }
 
-fn missing_body(objects: u64, found: Option<u64>, body: &Body) -> Option<u64>
-    ensures { result ≡ missing_body objects found body.now }
+fn missing_body(objects: u64, found: Option<u64>, body: BodyRef<'_>) -> Option<u64>
+    ensures { result ≡ missing_body objects found (body_copied body.entry) }
 {
     match body {
-        Body::Cons { car, cdr } => {
-            let found = missing_value(objects, found, *car);
-            missing_value(objects, found, *cdr)
+        BodyRef::Cons { car, cdr } => {
+            let found = missing_value(objects, found, car);
+            missing_value(objects, found, cdr)
         }
-        Body::Block { code: _, fields } => missing_fields(objects, found, fields.as_slice()),
+        BodyRef::Block { code: _, fields } => missing_fields(objects, found, fields),
     }
 }
 
-fn missing(objects: &[Object]) -> Option<u64>
+fn missing(objects: &Objects) -> Option<u64>
     ensures { result ≡ missing objects.now }
 {
-    let count = objects.len() as u64;
+    let count = objects.len();
     let mut found = None;
-    for object in objects {
-        found = missing_body(count, found, &object.body);
+    for name in 0..count {
+        found = missing_body(count, found, objects.body(name as usize));
     }
     found
 }
@@ -69,7 +70,7 @@ pub fn missing_at(place: &WorldReader) -> Option<u64>
     if place.part == Section::Roots {
         None
     } else {
-        missing(place.world.objects.as_slice())
+        missing(&place.world.objects)
     }
 }
 

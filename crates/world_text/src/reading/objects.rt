@@ -4,7 +4,7 @@ ghost use Rattle.lisp_graph.specs.declared.object.Object.{Object as OneObject};
 ghost use Rattle.world_text.specs.reading.Words.{words_of};
 ghost use Rattle.world_text.specs.reading.Next.{Gives};
 ghost use Rattle.world_text.specs.reading.Reader.{IsReader, Judged};
-ghost use Rattle.lisp_graph.specs.Effect.{link, list_from};
+ghost use Rattle.lisp_graph.specs.Effect.{link, list_from, pair_of};
 ghost use Rattle.world_text.specs.reading.Objects.{added, block_line, charge_with, cons_line, quota_of, run_line};
 
 use crate::reading::next::{each_value, next_area, next_number, next_value};
@@ -42,7 +42,6 @@ fn charge_with(place: &WorldReader, area: usize, wanted: u32) -> Result<u32, Wor
 }
 
 /// Adds an object, whose charge the area's quota must allow.
-#[inline(always)]
 #[tactic(auto, unfolding(crate::specs::reading::Objects::added))]
 pub fn add_object(
     place: &mut WorldReader,
@@ -56,6 +55,27 @@ pub fn add_object(
 {
     let charged = charge_with(place, area, object.charge)?;
     place.world.objects.push(object)?;
+    place.charged[area] = charged;
+    place.part = Section::Objects;
+    Ok(WorldStep::Next)
+}
+
+/// Adds a cons of charge 2, which the area's quota must allow.
+#[inline(always)]
+#[tactic(auto, unfolding(crate::specs::reading::Objects::added))]
+pub fn add_cons(
+    place: &mut WorldReader,
+    area: usize,
+    car: Value,
+    cdr: Value,
+) -> Result<WorldStep, WorldFault>
+    requires area { area < 16 }
+    requires sound { IsReader place.old }
+    ensures judged { Judged place.old place.new result (added place.old area 2 (pair_of area car cdr ∷ [])) }
+    ensures stays_sound { IsReader place.new }
+{
+    let charged = charge_with(place, area, 2)?;
+    place.world.objects.push_cons(area as u8, 2, car, cdr)?;
     place.charged[area] = charged;
     place.part = Section::Objects;
     Ok(WorldStep::Next)
@@ -84,14 +104,7 @@ fn push_run(objects: &mut Objects, area: u8, cars: &[Value]) -> Result<(), NoMem
         if name == u64::MAX {
             return Err(NoMemory);
         }
-        objects.push(Object {
-            area,
-            charge: 3,
-            body: Body::Cons {
-                car: *car,
-                cdr: link(name, others),
-            },
-        })?;
+        objects.push_cons(area, 3, *car, link(name, others))?;
         rest = others;
     }
     Ok(())
@@ -149,12 +162,7 @@ pub fn cons_line(
     let (area, rest) = next_area(&place.world.areas, text)?;
     let (car, rest) = next_value(rest)?;
     let (cdr, _) = next_value(rest)?;
-    let object = Object {
-        area: area as u8,
-        charge: 2,
-        body: Body::Cons { car, cdr },
-    };
-    add_object(place, area, object)
+    add_cons(place, area, car, cdr)
 }
 
 #[tactic(auto, unfolding(crate::specs::reading::Objects::block_line))]

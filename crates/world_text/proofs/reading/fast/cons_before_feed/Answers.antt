@@ -8,18 +8,18 @@ returns-in-Ok-clause-found c =
     let w = c.in_ok-area in
     let part : c.args.place.now.part ≡ AtObjects = search rules in
     let some : 0 < length w.rest.now = search rules in
-    (cons_fed c.args.place.now c.add_object.new.place c.args.text.now w.area w.car w.cdr w.rest.now c.in-Ok.field-0 part w.ensures.value some c.if-rest-ne10.false c.in-Ok.ensures.judged).0
+    (cons_fed c.args.place.now c.add_cons.new.place c.args.text.now w.area w.car w.cdr w.rest.now c.in-Ok.field-0 part w.ensures.value some c.if-rest-ne10.false c.in-Ok.ensures.judged).0
 
 pub returns-in-Ok-clause-judged : goal.returns-in-Ok-clause-judged
 returns-in-Ok-clause-judged c =
     let w = c.in_ok-area in
     let part : c.args.place.now.part ≡ AtObjects = search rules in
     let some : 0 < length w.rest.now = search rules in
-    (cons_fed c.args.place.now c.add_object.new.place c.args.text.now w.area w.car w.cdr w.rest.now c.in-Ok.field-0 part w.ensures.value some c.if-rest-ne10.false c.in-Ok.ensures.judged).1
+    (cons_fed c.args.place.now c.add_cons.new.place c.args.text.now w.area w.car w.cdr w.rest.now c.in-Ok.field-0 part w.ensures.value some c.if-rest-ne10.false c.in-Ok.ensures.judged).1
 
 pub returns-in-Ok-clause-place : goal.returns-in-Ok-clause-place
 returns-in-Ok-clause-place c =
     let w = c.in_ok-area in
     let part : c.args.place.now.part ≡ AtObjects = search rules in
     let some : 0 < length w.rest.now = search rules in
-    (part, (cons_fed c.args.place.now c.add_object.new.place c.args.text.now w.area w.car w.cdr w.rest.now c.in-Ok.field-0 part w.ensures.value some c.if-rest-ne10.false c.in-Ok.ensures.judged).2)
+    (part, (cons_fed c.args.place.now c.add_cons.new.place c.args.text.now w.area w.car w.cdr w.rest.now c.in-Ok.field-0 part w.ensures.value some c.if-rest-ne10.false c.in-Ok.ensures.judged).2)
