@@ -2,7 +2,7 @@
 use crate::begun::{Inside, begin};
 use crate::grammar::{closes, is_dot, misplaced, refusal, surplus};
 use crate::labels::Labels;
-use crate::made::{block_with, cons_in, hole};
+use crate::made::{block_with, push_cons, push_hole, set_cons};
 use crate::piece_reader::PieceReader;
 use crate::task::ParseTask;
 use crate::{Bracket, SexprFault};
@@ -61,7 +61,7 @@ impl<'a> Forms<'a> {
             }
             Inside::Block { area, code } => {
                 let name = self.objects.len();
-                self.objects.push(hole())?;
+                push_hole(&mut self.objects)?;
                 self.tasks.push(ParseTask::Fields {
                     name,
                     area,
@@ -83,8 +83,7 @@ impl<'a> Forms<'a> {
             return Err(SexprFault::NoMemory);
         };
         let first = begin(&mut self.labels, &mut self.pieces, next)?;
-        self.objects
-            .push(cons_in(area, bracket, first.value, Value::Nil))?;
+        push_cons(&mut self.objects, area, bracket, first.value, Value::Nil)?;
         self.tasks.push(ParseTask::Behind {
             name,
             area,
@@ -110,8 +109,7 @@ impl<'a> Forms<'a> {
     {
         self.pieces.advance();
         let first = begin(&mut self.labels, &mut self.pieces, self.objects.len())?;
-        self.objects
-            .set(name as usize, cons_in(area, bracket, car, first.value));
+        set_cons(&mut self.objects, name, area, bracket, car, first.value);
         self.tasks.push(ParseTask::Close { bracket })?;
         self.enter(first.inside)?;
         Ok(())
@@ -135,13 +133,11 @@ impl<'a> Forms<'a> {
         }
         if closes(bracket, token) {
             self.pieces.advance();
-            self.objects
-                .set(name as usize, cons_in(area, bracket, car, Value::Nil));
+            set_cons(&mut self.objects, name, area, bracket, car, Value::Nil);
             return Ok(());
         }
         let next = Value::Ref(self.objects.len());
-        self.objects
-            .set(name as usize, cons_in(area, bracket, car, next));
+        set_cons(&mut self.objects, name, area, bracket, car, next);
         self.cons(area, bracket)
     }
 
@@ -169,7 +165,7 @@ impl<'a> Forms<'a> {
         if closes(Bracket::Curly, token) {
             self.pieces.advance();
             self.objects
-                .set(name as usize, block_with(area, code, fields));
+                .set(name as usize, block_with(area, code, fields))?;
             return Ok(());
         }
         if fields.len() >= 2047 {

@@ -18,5 +18,5 @@ pub returns-clause-ok : goal.returns-clause-ok
 returns-clause-ok c =
     cons_steps c.args.area c.args.bracket c.args.self.now.tasks.items c.enter.new.self.tasks.items (state_of c.args.self.now) (state_of c.enter.new.self) (beginning c.in_ok-first.first c.begin.new.labels c.begin.new.pieces) c.in-Some.next
     c.in_ok-first.ensures (search rules)
-    (cc (c.in_ok-enter.ensures.after, c.in_ok-push-2.ensures.items, c.in_ok-push.ensures.ok, c.len-name.ensures, c.cons_in.ensures))
-    (cc (c.in_ok-enter.ensures.made, c.in_ok-enter.ensures.labels, c.in_ok-enter.ensures.unchanged, c.in_ok-push.ensures.ok, c.cons_in.ensures))
+    (cc (c.in_ok-enter.ensures.after, c.in_ok-push.ensures.items, c.in_ok-push_cons.ensures.ok, c.len-name.ensures))
+    (cc (c.in_ok-enter.ensures.made, c.in_ok-enter.ensures.labels, c.in_ok-enter.ensures.unchanged, c.in_ok-push_cons.ensures.ok))

@@ -24,5 +24,5 @@ returns-clause-ok c =
     dot_steps c.args.name c.args.area c.args.bracket c.args.car c.args.self.now.tasks.items c.enter.new.self.tasks.items old (state_of c.enter.new.self) b
     c.requires.made (at_dot c.args.bracket (token_at old.pieces) c.requires.agrees) c.requires.agrees
     (begun_at old.labels c.len.result (length old.objects) c.advance.new.self (drop 1 old.pieces) b c.len.ensures c.advance.ensures c.in_ok-first.ensures)
-    (cc (c.in_ok-enter.ensures.after, c.in_ok-push.ensures.items, c.set.ensures, c.cons_in.ensures))
-    (cc (c.in_ok-enter.ensures.made, c.in_ok-enter.ensures.labels, c.in_ok-enter.ensures.unchanged, c.set.ensures, c.cons_in.ensures))
+    (cc (c.in_ok-enter.ensures.after, c.in_ok-push.ensures.items, c.set_cons.ensures))
+    (cc (c.in_ok-enter.ensures.made, c.in_ok-enter.ensures.labels, c.in_ok-enter.ensures.unchanged, c.set_cons.ensures))

@@ -17,7 +17,7 @@ returns-then-closes-clause-ok c =
     let old = state_of c.args.self.now in
     block_steps c.args.name c.args.area c.args.code c.args.fields c.args.self.now.tasks.items old (state c.set.new.self old.labels c.advance.new.self)
     (same_token (closes Curly) old.pieces c.token-token.result true c.token-token.ensures c.if-closes.ensures)
-    (cc (c.set.ensures, c.block_with.ensures, c.advance.ensures))
+    (cc (c.in_ok-set.ensures.ok, c.block_with.ensures, c.advance.ensures))
 
 pub returns-then-len-ge2047-clause-err : goal.returns-then-len-ge2047-clause-err
 returns-then-len-ge2047-clause-err c =
@@ -30,10 +30,10 @@ returns-then-len-ge2047-clause-err c =
 
 pub returns-in_err-first-clause-err : goal.returns-in_err-first-clause-err
 returns-in_err-first-clause-err c =
-    let p = err_from_is_err_and c.from_residual.result c.from_residual.ensures.1 in
+    let p = err_from_is_err_and c.from_residual-in_err-first.result c.from_residual-in_err-first.ensures.1 in
     let old = state_of c.args.self.now in
     let fault = c.in_err-first.field-0.0 in
-    passed_on c.from_residual.result fault (Fails (Fields c.args.name c.args.area c.args.code c.args.fields) old) p.0 p.1 p.2
+    passed_on c.from_residual-in_err-first.result fault (Fails (Fields c.args.name c.args.area c.args.code c.args.fields) old) p.0 p.1 p.2
     (field_fails fault c.args.name c.args.area c.args.code c.args.fields old
     (same_token (closes Curly) old.pieces c.token-token.result false c.token-token.ensures c.if-closes.ensures) (omega (arith, c.len.ensures))
     (fault_at fault old.labels c.len-2.result (length old.objects) old.pieces old.pieces c.len-2.ensures refl c.in_err-first.ensures))
