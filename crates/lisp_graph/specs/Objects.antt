@@ -11,7 +11,6 @@ use Rattle.lisp_graph.specs.declared.objects.Kind.TheVariants as K
 use Rattle.lisp_graph.specs.declared.objects.Shape.{Shape}
 use Rattle.lisp_graph.specs.declared.objects.Shape.TheVariants as S
 use Rattle.lisp_graph.specs.declared.objects.Cell.{Cell}
-use Rattle.lisp_graph.specs.declared.objects.StoredBlock.{StoredBlock}
 use Rattle.lisp_graph.specs.declared.objects.BodyRef.{BodyRef}
 use Rattle.lisp_graph.specs.declared.objects.BodyRef.TheVariants as R
 use Rattle.lisp_graph.specs.declared.objects.ObjectRef.{ObjectRef}
@@ -44,25 +43,17 @@ value_in K.Fix number = V.Fix (cast_signed w32 (number % 2 ^ 32))
 value_in K.Nil number = V.Nil
 value_in K.Ref number = V.Ref number
 
--- what is read as the block past the last one
-abbrev pub no_block : StoredBlock
-no_block = record { code = 0; fields = [] }
-
--- a block as an object's body
-abbrev pub stored_body : StoredBlock → Body
-stored_body block = B.Block block.code block.fields
-
--- what an object of this shape with these two numbers is made of
-abbrev pub shaped_body : List StoredBlock → Shape → ℕ → ℕ → Body
+-- what an object of this shape with these two numbers is made of: the fields of a block have the first as their place, and the low 16 bits of the second are its code
+abbrev pub shaped_body : List (List Value) → Shape → ℕ → ℕ → Body
 shaped_body blocks (S.Cons car cdr) first second = B.Cons (value_in car first) (value_in cdr second)
-shaped_body blocks S.Block first second = stored_body (slice_index_or blocks first no_block)
+shaped_body blocks S.Block first second = B.Block (second % 2 ^ 16) (slice_index_or blocks first [])
 
 -- what the object in a cell is made of
-abbrev pub body_in : List StoredBlock → Cell → Body
+abbrev pub body_in : List (List Value) → Cell → Body
 body_in blocks cell = shaped_body blocks cell.shape cell.first cell.second
 
 -- the object in a cell
-abbrev pub object_in : List StoredBlock → Cell → Object
+abbrev pub object_in : List (List Value) → Cell → Object
 object_in blocks cell = record { area = cell.area; charge = cell.charge; body = body_in blocks cell }
 
 -- the number of a block is that of one of the first `count` blocks

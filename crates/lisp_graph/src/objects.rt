@@ -2,8 +2,7 @@
 ghost use Rattle.std.specs.Prelude.{◌≡◌, ℕ, ◌<◌, ◌++◌, [], ◌∷◌, List, length, slice_set, take, IfOk, OnOk, OnErr};
 ghost use Rattle.lisp_graph.specs.Graph.{object_at};
 ghost use Rattle.lisp_graph.specs.Objects.{IsCell, body_copied, body_in, cons_object, cons_parts, object_copied, object_in, value_in};
-ghost use Rattle.lisp_graph.specs.declared.objects.Cell.{Cell as a_cell};
-ghost use Rattle.lisp_graph.specs.declared.objects.StoredBlock.{StoredBlock as a_block};
+ghost use Rattle.lisp_graph.specs.declared.object.Value.{Value as a_value};
 
 use crate::{Body, Fields, Object, Value};
 use std::alloc::Global;
@@ -25,8 +24,8 @@ enum Shape {
     Block,
 }
 
-/// An object in 24 bytes. The numbers of a cons are those of its car and of its cdr: the bits of a number, or a name. The first
-/// number of a block is its place among the blocks.
+/// An object in 24 bytes. The numbers of a cons are those of its car and of its cdr: the bits of a number, or a name. Those of a
+/// block are the place of its fields among the fields of blocks, and its code.
 #[derive(Clone, Copy, Debug)]
 struct Cell {
     area: u8,
@@ -38,18 +37,11 @@ struct Cell {
 
 const _: () = prove!(size_of::<Cell>() == 24);
 
-/// The code and the fields of a block.
-#[derive(Debug, Drop)]
-struct StoredBlock {
-    code: u16,
-    fields: Fields,
-}
-
 /// Objects, each named by its place. A cons takes 24 bytes.
 #[derive(Debug, Drop)]
 pub struct Objects {
     cells: Vec<Cell>,
-    blocks: Vec<StoredBlock>,
+    blocks: Vec<Fields>,
 }
 
 impl Model for Objects {
@@ -107,7 +99,7 @@ fn value_in(kind: Kind, number: u64) -> Value
 /// The cell of a cons.
 #[inline(always)]
 fn cons_cell(area: u8, charge: u32, car: Value, cdr: Value) -> Cell
-    ensures value { (blocks : List a_block) → object_in blocks result ≡ cons_object area charge car cdr }
+    ensures value { (blocks : List (List a_value)) → object_in blocks result ≡ cons_object area charge car cdr }
     ensures sound { (count : ℕ) → IsCell count result }
 {
     let (car, first) = number_of(car);
@@ -121,24 +113,24 @@ fn cons_cell(area: u8, charge: u32, car: Value, cdr: Value) -> Cell
     }
 }
 
-/// The cell of an object. The code and the fields of a block are added to the blocks.
-fn cell_of(blocks: &mut Vec<StoredBlock>, object: Object) -> Result<Cell, NoMemory>
+/// The cell of an object. The fields of a block are added to the blocks.
+fn cell_of(blocks: &mut Vec<Fields>, object: Object) -> Result<Cell, NoMemory>
     ensures value { IfOk result (λ cell. object_in blocks.new.items cell ≡ object) }
     ensures sound { IfOk result (λ cell. IsCell (length blocks.new.items) cell) }
-    ensures grows { (more : List a_block) × (blocks.new.items ≡ blocks.old.items ++ more) }
+    ensures grows { (more : List (List a_value)) × (blocks.new.items ≡ blocks.old.items ++ more) }
 {
     let Object { area, charge, body } = object;
     match body {
         Body::Cons { car, cdr } => Ok(cons_cell(area, charge, car, cdr)),
         Body::Block { code, fields } => {
             let first = blocks.len() as u64;
-            blocks.push(StoredBlock { code, fields })?;
+            blocks.push(fields)?;
             Ok(Cell {
                 area,
                 shape: Shape::Block,
                 charge,
                 first,
-                second: 0,
+                second: u64::from(code),
             })
         }
     }
@@ -146,7 +138,7 @@ fn cell_of(blocks: &mut Vec<StoredBlock>, object: Object) -> Result<Cell, NoMemo
 
 /// What the object in a cell is made of.
 #[inline(always)]
-fn body_in(blocks: &[StoredBlock], cell: Cell) -> BodyRef<'_>
+fn body_in(blocks: &[Fields], cell: Cell) -> BodyRef<'_>
     requires { IsCell (length blocks.now) cell }
     ensures { body_copied result ≡ body_in blocks.now cell }
 {
@@ -155,13 +147,10 @@ fn body_in(blocks: &[StoredBlock], cell: Cell) -> BodyRef<'_>
             car: value_in(car, cell.first),
             cdr: value_in(cdr, cell.second),
         },
-        Shape::Block => {
-            let block = &blocks[cell.first as usize];
-            BodyRef::Block {
-                code: block.code,
-                fields: block.fields.as_slice(),
-            }
-        }
+        Shape::Block => BodyRef::Block {
+            code: (cell.second % (1 << 16)) as u16,
+            fields: blocks[cell.first as usize].as_slice(),
+        },
     }
 }
 
@@ -196,6 +185,24 @@ impl Objects {
             charge: cell.charge,
             body: body_in(&self.blocks, cell),
         }
+    }
+
+    /// The area of the object with this name.
+    #[inline(always)]
+    pub fn area_of(&self, name: usize) -> u8
+        requires { name < length self.now }
+        ensures { result ≡ (object_at self.now name).area }
+    {
+        self.cells[name].area
+    }
+
+    /// What the object with this name is charged, in words.
+    #[inline(always)]
+    pub fn charge_of(&self, name: usize) -> u32
+        requires { name < length self.now }
+        ensures { result ≡ (object_at self.now name).charge }
+    {
+        self.cells[name].charge
     }
 
     /// What the object with this name is made of.

@@ -17,7 +17,7 @@ invariant_of-self-2 c =
     let cells = c.self.inside.cells.items in
     let blocks = c.cell_of.new.blocks.items in
     All-set (IsCell (length blocks)) cells c.args.name c.in_ok-cell.cell c.in_ok-cell.ensures.sound
-        (cells_stay c.self.inside.blocks.items blocks cells c.cell_of.ensures.grows c.self.invariant)
+    (cells_stay c.self.inside.blocks.items blocks cells c.cell_of.ensures.grows c.self.invariant)
 
 pub returns-clause-ok : goal.returns-clause-ok
 returns-clause-ok c =
@@ -26,4 +26,4 @@ returns-clause-ok c =
     map-set (object_in blocks) cells c.args.name c.in_ok-cell.cell
     ∙ ap (set (map (object_in blocks) cells) c.args.name) c.in_ok-cell.ensures.value
     ∙ ap (λ (objects : List Object). set objects c.args.name c.args.object)
-        (objects_stay c.self.inside.blocks.items blocks cells c.cell_of.ensures.grows c.self.invariant ∙ c.self.view_is)
+    (objects_stay c.self.inside.blocks.items blocks cells c.cell_of.ensures.grows c.self.invariant ∙ c.self.view_is)
