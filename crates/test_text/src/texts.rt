@@ -1,5 +1,5 @@
 //! Texts, and the worlds that they mean or why they mean none.
-use lisp_graph::{Body, Object, Value, World};
+use lisp_graph::{BodyRef, ObjectRef, Value, World};
 use sexpr_text::{SexprFault, SexprReason, compile_sexpr};
 use std::alloc::Global;
 use std::test::Fail;
@@ -8,24 +8,25 @@ use world_text::Reason;
 const HEADER: &str = "sexpr-world 1\nspace 16 32 8 1 2\narea work dynamic 100\ncapacity 0\n";
 
 /// Whether an object is a cons of this charge with this car and this cdr.
-fn is_cons(object: &Object, charge: u32, car: Value, cdr: Value) -> bool {
+fn is_cons(object: ObjectRef<'_>, charge: u32, car: Value, cdr: Value) -> bool {
     match object.body {
-        Body::Cons { car: a, cdr: d } => object.charge == charge && a == car && d == cdr,
-        _ => false,
+        BodyRef::Cons { car: a, cdr: d } => object.charge == charge && a == car && d == cdr,
+        BodyRef::Block { .. } => false,
     }
 }
 
 /// Whether a world has the three conses of the text, and one root.
 fn has_three_conses(world: &World) -> bool {
-    let [first, second, third] = world.objects.as_slice() else {
+    let objects = &world.objects;
+    if objects.len() != 3 {
         return false;
-    };
+    }
     let [nil, _, list, _, _, _, _, _] = world.roots.as_slice() else {
         return false;
     };
-    is_cons(first, 2, Value::Fix(1), Value::Ref(1))
-        && is_cons(second, 2, Value::Ref(0), Value::Ref(2))
-        && is_cons(third, 3, Value::Fix(7), Value::Nil)
+    is_cons(objects.at(0), 2, Value::Fix(1), Value::Ref(1))
+        && is_cons(objects.at(1), 2, Value::Ref(0), Value::Ref(2))
+        && is_cons(objects.at(2), 3, Value::Fix(7), Value::Nil)
         && *list == Value::Ref(0)
         && *nil == Value::Nil
 }
