@@ -19,6 +19,7 @@ mod ScanSequences
 mod MovedWords
 mod ScanOrder
 mod DistinctUnits
+mod FollowingWords
 mod QuietWords
 mod ReadScans
 mod Sweeps

@@ -73,7 +73,8 @@ the-word None (Some r) far a e = cc
 the-word None None (Some x) a e = inr (cc)
 the-word None None None a e = cc
 
-lowest-least : (p : ℕ → Bool) (n m : ℕ) → lowest p n ≡ Some m → (k : ℕ) → k < m → p k ≡ false
+-- no lower number passes than the lowest that does
+pub lowest-least : (p : ℕ → Bool) (n m : ℕ) → lowest p n ≡ Some m → (k : ℕ) → k < m → p k ≡ false
 unfolding lowest
 lowest-least p zero m e k l = cc
 lowest-least p (suc n) m e k l = go (λ is. lowest-least p n m is k l) (lowest p n) refl (p n) refl e

@@ -24,7 +24,8 @@ use Rattle.scavenger.specs.Moves.{WordMoves, MovesEach, none_moved}
 use Rattle.scavenger.specs.Scanning.{EndsPage, HasAfter, MayBeOld, ScansWord, StillCollects, page_done, stays, word, word_done, words_done}
 use Rattle.scavenger.specs.Sweeping.{ScansMany, ScansQuiet, nothing}
 use Rattle.scavenger.proofs.PageEnds.{ended-paged}
-use Rattle.scavenger.proofs.UnfinishedPages.{left-closed, left-next}
+use Rattle.scavenger.proofs.UnfinishedPages.{left-closed}
+use Rattle.scavenger.proofs.FollowingWords.{following-next}
 use Rattle.scavenger.proofs.NextUnits.{NextWord, next-word, next-first}
 use Rattle.scavenger.proofs.UnitScans.{word-scans}
 use Rattle.scavenger.proofs.ScanSequences.{collecting-after, one-more, still-twice}
@@ -80,9 +81,9 @@ module _ (m : Store) (t : Table) (scan : Scan) (registers : List Parts) (at : �
     ends = stays left refl refl;
   }
 
-  -- the next word is next, if the latest transport ended there
-  pub quiet-next : t.last ≡ Some (at / 256) → next_of (word_done scan at) t ≡ Some (Word (at + 1))
-  quiet-next last = left-next m m t t scan at ending x.collects.kept.table.used_size paged here.going left inside last
+  -- the following word is next
+  pub quiet-next : next_of (word_done scan at) t ≡ Some (Word (at + 1))
+  quiet-next = following-next scan t at is inside left
 
 -- A reference to an old address is an address in an old region
 
@@ -119,9 +120,9 @@ done-more scan at n low =
     rw (page, first) (set-twice scan.pages (at / 256) (at % 256 + n) (at % 256 + (n + 1))) in
     ap (λ (ps : List ℕ). (let r : Scan = record scan { pages = ps; done = scan.done + n + 1 } in r)) set ∙ ap (λ (d : ℕ). (let r : Scan = record scan { pages = slice_set scan.pages (at / 256) (at % 256 + (n + 1)); done = d } in r)) more
 
-passed-more : (m : Store) (t : Table) (scan : Scan) (registers : List Parts) (at n : ℕ) → IsCollecting m t scan registers → t.last ≡ Some (at / 256) → HasAfter t at (n + 1) → (RefersToOld t (word_at m.words (at + n)) → ⊥)
+passed-more : (m : Store) (t : Table) (scan : Scan) (registers : List Parts) (at n : ℕ) → IsCollecting m t scan registers → HasAfter t at (n + 1) → (RefersToOld t (word_at m.words (at + n)) → ⊥)
     → Passed m t scan registers at n → Passed m t scan registers at (n + 1)
-passed-more m t scan registers at n x last after young p =
+passed-more m t scan registers at n x after young p =
     let low = after.0 in
     let used = after.1 in
     let page : (at + n) / 256 ≡ at / 256 = omega arith in
@@ -132,7 +133,7 @@ passed-more m t scan registers at n x last after young p =
     let going = collecting-after m m t t scan now registers registers n x p.still in
     let one = quiet-scans m t now registers (at + n) going p.next young (one_low, one_used) in
     let moved = next-moves m m t t now registers registers (next_of now t) (Some (Word (at + n))) p.next (quiet-moves m t now registers (at + n) going p.next young (one_low, one_used)) in
-    let next = quiet-next m t now registers (at + n) going p.next young (one_low, one_used) (last ∙ ap (λ (q : ℕ). Some q) (sym page)) in
+    let next = quiet-next m t now registers (at + n) going p.next young (one_low, one_used) in
     let same = done-more scan at n low in
     let to : at + n + 1 ≡ at + (n + 1) = omega arith in
     record {
@@ -143,9 +144,9 @@ passed-more m t scan registers at n x last after young p =
     }
 
 -- so the words before the first that has an old address
-pub quiet-passed : (m : Store) (t : Table) (scan : Scan) (registers : List Parts) (at k : ℕ) → IsCollecting m t scan registers → next_of scan t ≡ Some (Word at) → t.last ≡ Some (at / 256) → HasAfter t at (k + 1)
+pub quiet-passed : (m : Store) (t : Table) (scan : Scan) (registers : List Parts) (at k : ℕ) → IsCollecting m t scan registers → next_of scan t ≡ Some (Word at) → HasAfter t at (k + 1)
     → ((i : ℕ) → i < k + 1 → RefersToOld t (word_at m.words (at + i)) → ⊥) → Passed m t scan registers at (k + 1)
-quiet-passed m t scan registers at zero x is last after young =
+quiet-passed m t scan registers at zero x is after young =
     let e : at + 0 ≡ at = omega arith in
     let here : RefersToOld t (word_at m.words at) → ⊥ = subst (λ (b : ℕ). RefersToOld t (word_at m.words b) → ⊥) e (young 0 (omega arith)) in
     let one = quiet-scans m t scan registers at x is here after in
@@ -153,24 +154,24 @@ quiet-passed m t scan registers at zero x is last after young =
       many = one-more m m m t t t scan scan (word_done scan at) registers registers registers 0 nothing (word at one);
       each = moves-one m m m t t t scan scan (word_done scan at) registers registers registers 0 none_moved (word at one) (next-moves m m t t scan registers registers (next_of scan t) (Some (Word at)) is (quiet-moves m t scan registers at x is here after));
       still = one.still;
-      next = quiet-next m t scan registers at x is here after last;
+      next = quiet-next m t scan registers at x is here after;
     }
-quiet-passed m t scan registers at (suc k) x is last after young =
+quiet-passed m t scan registers at (suc k) x is after young =
     let e : suc k + 1 ≡ k + 1 + 1 = omega arith in
     let before : HasAfter t at (k + 1) = (let low = after.0 in let used = after.1 in (omega arith, omega arith)) in
-    subst (λ (n : ℕ). Passed m t scan registers at n) (sym e) (passed-more m t scan registers at (k + 1) x last (subst (λ (n : ℕ). HasAfter t at n) e after) (young (k + 1) (omega arith))
-    (quiet-passed m t scan registers at k x is last before (λ j low. young j (omega arith))))
+    subst (λ (n : ℕ). Passed m t scan registers at n) (sym e) (passed-more m t scan registers at (k + 1) x (subst (λ (n : ℕ). HasAfter t at n) e after) (young (k + 1) (omega arith))
+    (quiet-passed m t scan registers at k x is before (λ j low. young j (omega arith))))
 
 -- no word was passed, or some
-pub quiet-words : {m : Store} {t : Table} {scan scan' : Scan} {registers : List Parts} (at count passed : ℕ) → IsCollecting m t scan registers → next_of scan t ≡ Some (Word at) → t.last ≡ Some (at / 256) → HasAfter t at count → passed ≤ count → 0 < passed
+pub quiet-words : {m : Store} {t : Table} {scan scan' : Scan} {registers : List Parts} (at count passed : ℕ) → IsCollecting m t scan registers → next_of scan t ≡ Some (Word at) → HasAfter t at count → passed ≤ count → 0 < passed
     → Passes m.words (λ w. MayBeOld t w) at count passed → scan' ≡ words_done scan at passed → ScansQuiet m t scan registers scan' passed × (next_of scan' t ≡ Some (Word (at + passed)))
-quiet-words {m} {t} {scan} {scan'} {registers} at count passed x is last after few some read done =
+quiet-words {m} {t} {scan} {scan'} {registers} at count passed x is after few some read done =
     let k : ℕ = passed - 1 in
     let e : k + 1 ≡ passed = omega arith in
     let low = after.0 in
     let used = after.1 in
     let p : Passed m t scan registers at passed =
-    subst (λ (n : ℕ). Passed m t scan registers at n) e (quiet-passed m t scan registers at k x is last (omega arith, omega arith) (λ i l. passed-young m.words t at count passed read i (omega arith))) in
+    subst (λ (n : ℕ). Passed m t scan registers at n) e (quiet-passed m t scan registers at k x is (omega arith, omega arith) (λ i l. passed-young m.words t at count passed read i (omega arith))) in
     subst (λ (s : Scan). ScansQuiet m t scan registers s passed × (next_of s t ≡ Some (Word (at + passed)))) (sym done) (record { many = p.many; each = p.each }, p.next)
 
 -- the words and the page that they are on

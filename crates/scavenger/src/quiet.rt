@@ -46,29 +46,24 @@ fn may_be_old(table: &RegionTable, at: u32) -> bool
     table.is_old(at)
 }
 
-// How many words of a page, from this one on, precede the last used one. It is 0 unless the latest
-// transport ended on this page.
+// How many words of a page, from this one on, precede the last used one.
 #[inline]
 fn words_before_last(table: &RegionTable, at: u32) -> u32
     requires { at / 256 / 16 < table.now.regions }
-    ensures last { 0 < result → table.now.last ≡ Some (at / 256) }
-    ensures after { (count : ℕ) → 0 < count → count ≤ result → HasAfter table.now at count }
+    ensures { (count : ℕ) → 0 < count → count ≤ result → HasAfter table.now at count }
 {
     let page = at / 256;
-    match table.last_moved() {
-        Some(last) if last == page => {
-            let used = table.used(page / 16).saturating_sub(256 * (page % 16));
-            used.min(256).saturating_sub(at % 256 + 1)
-        }
-        _ => 0,
-    }
+    let used = table.used(page / 16).saturating_sub(256 * (page % 16));
+    used.min(256).saturating_sub(at % 256 + 1)
 }
 
-/// The words that a scan has passed, and the one that is next after them if it is known.
+/// The words that a scan has passed, the one that is next after them if it is known, and whether they were read and
+/// none was passed.
 #[derive(Clone, Copy)]
 pub(crate) struct Passed {
     pub(crate) count: u64,
     pub(crate) near: Option<u32>,
+    pub(crate) missed: bool,
 }
 
 impl ScanSet {
@@ -106,17 +101,26 @@ impl ScanSet {
         ensures cost_at_most { OnErr result (steps.new ≤ steps.old + 1) }
         ensures accounted { AccountsForFaults (shown M.Memory mem.old) (shown M.Memory mem.new) steps.old steps.new result }
     {
-        let Some(at) = near else {
-            return Ok(Passed { count: 0, near });
+        let none = Passed {
+            count: 0,
+            near,
+            missed: false,
         };
+        let Some(at) = near else {
+            return Ok(none);
+        };
+        if limit == 0 {
+            return Ok(none);
+        }
         let words = limit.min(u64::from(words_before_last(table, at))) as u32;
         if words == 0 {
-            return Ok(Passed { count: 0, near });
+            return Ok(none);
         }
         let passed = self.pass_words(mem, table, Span { at, words }, steps)?;
         Ok(Passed {
             count: u64::from(passed),
             near: Some(at + passed),
+            missed: passed == 0,
         })
     }
 
@@ -131,7 +135,6 @@ impl ScanSet {
     ) -> Result<u32, SwapFault>
         requires at_least { 0 < span.words }
         requires agrees { next_of self.old table.now ≡ Some (InWord span.at) }
-        requires last { table.now.last ≡ Some (span.at / 256) }
         requires after { HasAfter table.now span.at span.words }
         requires collecting { (registers : List Parts) × IsCollecting (M.seen mem.old) table.now self.old registers }
 

@@ -29,18 +29,21 @@ returns-in_err-passed-clause-fault g c = on-err c.from_residual.result (λ regis
 pub returns-in_default-clause-scans : goal.returns-in_default-clause-scans
 returns-in_default-clause-scans g c = λ registers x. record { many = nothing; each = none_moved }
 
+pub returns-then-limit-eq0-clause-scans : goal.returns-then-limit-eq0-clause-scans
+returns-then-limit-eq0-clause-scans g c = λ registers x. record { many = nothing; each = none_moved }
+
 pub returns-then-words-eq0-clause-scans : goal.returns-then-words-eq0-clause-scans
 returns-then-words-eq0-clause-scans g c = λ registers x. record { many = nothing; each = none_moved }
 
 pub pass_words-requires-clause-after : goal.pass_words-requires-clause-after
-pass_words-requires-clause-after g c = c.words_before_last.ensures.after c.min-words.result (omega (arith, c.if-words-eq0.false)) (omega (arith, c.min-words.ensures, c.from.ensures))
+pass_words-requires-clause-after g c = c.words_before_last.ensures c.min-words.result (omega (arith, c.if-words-eq0.false)) (omega (arith, c.min-words.ensures, c.from.ensures))
 
 pub overflow_add-result : goal.overflow_add-result
 overflow_add-result g c =
     let is = subst (λ (o : Option ℕ). IfSome o (λ at. next_of c.args.self.now c.args.table.now ≡ Some (Word at))) c.in-Some.is c.requires.agrees in
     let low = (next-word c.args.self.now c.args.table.now c.in-Some.at is).low in
     let few = c.requires.collecting.1.collects.kept.table.few_regions in
-    let page = (c.words_before_last.ensures.after c.min-words.result (omega (arith, c.if-words-eq0.false)) (omega (arith, c.min-words.ensures, c.from.ensures))).0 in
+    let page = (c.words_before_last.ensures c.min-words.result (omega (arith, c.if-words-eq0.false)) (omega (arith, c.min-words.ensures, c.from.ensures))).0 in
     let passed = c.in_ok-passed.ensures.at_most in
     omega arith
 

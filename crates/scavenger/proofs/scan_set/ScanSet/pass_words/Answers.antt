@@ -33,10 +33,10 @@ mark_words-requires-clause-at_most g c =
     few-done c.args.self.now x.kept.table x.clean next.going (subst (λ (s : Scan). s.begun < 2 ^ 32) c.self.view_is c.self.invariant.few_units)
 
 pub returns-clause-scans : goal.returns-clause-scans
-returns-clause-scans g c = λ registers x. (quiet-words c.args.span.at c.args.span.words c.in_ok-passed.passed x c.requires.agrees c.requires.last c.requires.after c.in_ok-passed.ensures.value.at_most (omega (arith, c.if-passed-eq0.false)) c.in_ok-passed.ensures.value c.mark_words.ensures).0
+returns-clause-scans g c = λ registers x. (quiet-words c.args.span.at c.args.span.words c.in_ok-passed.passed x c.requires.agrees c.requires.after c.in_ok-passed.ensures.value.at_most (omega (arith, c.if-passed-eq0.false)) c.in_ok-passed.ensures.value c.mark_words.ensures).0
 
 pub returns-clause-near : goal.returns-clause-near
-returns-clause-near g c = (quiet-words c.args.span.at c.args.span.words c.in_ok-passed.passed c.requires.collecting.1 c.requires.agrees c.requires.last c.requires.after c.in_ok-passed.ensures.value.at_most (omega (arith, c.if-passed-eq0.false)) c.in_ok-passed.ensures.value c.mark_words.ensures).1
+returns-clause-near g c = (quiet-words c.args.span.at c.args.span.words c.in_ok-passed.passed c.requires.collecting.1 c.requires.agrees c.requires.after c.in_ok-passed.ensures.value.at_most (omega (arith, c.if-passed-eq0.false)) c.in_ok-passed.ensures.value c.mark_words.ensures).1
 
 pub returns-clause-count : goal.returns-clause-count
 returns-clause-count g c = ap (λ (s : Scan). s.done) c.mark_words.ensures
