@@ -1,6 +1,7 @@
 //! A parcel gets a place in the live class of its survivors, and is written there.
-ghost use Rattle.std.specs.Prelude.{◌≡◌, ◌+◌, ◌-◌, ◌*◌, ◌/◌, ◌<◌, ◌≤◌, IfOk, OnOk, OnErr, IfSome, IfNone};
-ghost use Rattle.mem_port.specs.View.{AccountsForFaults};
+ghost use Rattle.std.specs.Prelude.{◌≡◌, ◌+◌, ◌-◌, ◌*◌, ◌/◌, ◌<◌, ◌≤◌, IfOk, OnOk, OnErr, IfSome, IfNone, length};
+ghost use Rattle.mem_port.specs.Spans.{HoldsSpan};
+ghost use Rattle.mem_port.specs.View.{AccountsForFaults, shown};
 ghost use Rattle.area_space.specs.View.{view};
 ghost use Rattle.area_space.specs.Views.{IsGround, NamesNoFree};
 ghost use Rattle.lisp_ground.specs.Views.{Opens};
@@ -16,7 +17,7 @@ ghost use Rattle.transporter.specs.Relocations.{Commits, IsOldClass, Moves, Open
 use crate::copying::move_words;
 use crate::parcel::{Pair, Parcel};
 use area_space::{Class, Ground, Origin, Placed, RegionTable};
-use mem_port::{Memory, Span, hold_spans};
+use mem_port::{Memory, Span, assert_invariant, hold_spans};
 use std::sync::ledger::Ledger;
 use store_word::{Steps, SwapFault};
 
@@ -65,6 +66,32 @@ pub fn place_for<M: Memory>(ground: &mut Ground<M>, area: u8, level: u8, words: 
     placed
 }
 
+// Holds the pages of a parcel's old words and of its new ones. Most parcels are pairs on one page at each place, whose
+// pages are held without a look at how many there are. At most 18 memory accesses.
+#[inline(always)]
+fn hold_places<M: Memory, L: Ledger>(
+    mem: &mut M,
+    from: Span,
+    to: Span,
+    steps: &mut Steps<L>,
+) -> Result<(), SwapFault>
+    requires first { from.words ≤ 2048 }
+    requires second { to.words ≤ 2048 }
+    requires first_in_range { from.at + from.words ≤ length (M.seen mem.old).words }
+    requires second_in_range { to.at + to.words ≤ length (M.seen mem.old).words }
+    ensures first_held { OnOk result (HoldsSpan (M.held mem.new) from) }
+    ensures second_held { OnOk result (HoldsSpan (M.held mem.new) to) }
+    ensures unchanged { StoresNothing (M.seen mem.old) (M.seen mem.new) }
+    ensures accounted { AccountsForFaults (shown M.Memory mem.old) (shown M.Memory mem.new) steps.old steps.new result }
+    ensures at_most { steps.new ≤ steps.old + 18 }
+{
+    assert_invariant(mem);
+    if from.words == 2 && to.words == 2 && from.at % 256 < 255 && to.at % 256 < 255 {
+        return mem.hold(&[from.at / 256, to.at / 256], steps);
+    }
+    hold_spans(mem, from, to, steps)
+}
+
 // Writes a parcel at a place of its survivors' class, and commits it. A swap error occurs only
 // before anything is written or committed.
 #[inline(always)]
@@ -95,7 +122,7 @@ fn put<M: Memory, L: Ledger>(
         at: placed.at,
         words,
     };
-    hold_spans(&mut ground.mem, from, to, steps)?;
+    hold_places(&mut ground.mem, from, to, steps)?;
     ground.commit(placed, words, parcel.charge, Origin::Moved(class));
     move_words(&mut ground.mem, parcel, pair, placed.at, steps)?;
     ground.table.note_moved((placed.at + words - 1) / 256);

@@ -10,8 +10,8 @@ use Rattle.transporter.proofs.Parcels.{pair-stays}
 use Rattle.transporter.proofs.Places.{end_inside, end_apart, some_words, origin_allowed, moves-after_read, commits-noted}
 use Rattle.transporter.proofs.relocation.put.Goals as goal
 
-pub hold_spans-requires-clause-second_in_range : goal.hold_spans-requires-clause-second_in_range
-hold_spans-requires-clause-second_in_range g c =
+pub hold_places-requires-clause-second_in_range : goal.hold_places-requires-clause-second_in_range
+hold_places-requires-clause-second_in_range g c =
     let r = c.requires.can in
     let size = c.new_words-words.ensures in
     let room = end_inside c.args.ground.now.table (slot_of c.args.ground.now.table c.args.class.area (survivor c.args.ground.now.table c.args.class.level)) c.args.placed.now.at (word_count_of c.args.parcel.now) _ r.sound r.end r.size in
@@ -33,8 +33,8 @@ move_words-requires-clause-can g c =
     let a = fits.some in
     let b = fits.each in
     let room = end_inside c.args.ground.now.table (slot_of c.args.ground.now.table c.args.class.area (survivor c.args.ground.now.table c.args.class.level)) c.args.placed.now.at (word_count_of c.args.parcel.now) _ r.sound r.end r.size in
-    let held = c.in_ok-hold_spans.ensures in
-    let words : length (g.M.Memory.seen c.hold_spans.new.mem).words ≡ length (g.M.Memory.seen c.args.ground.now.mem).words = ap length held.unchanged.words in
+    let held = c.in_ok-hold_places.ensures in
+    let words : length (g.M.Memory.seen c.hold_places.new.mem).words ≡ length (g.M.Memory.seen c.args.ground.now.mem).words = ap length held.unchanged.words in
     rw c.commit.ensures.memory (record {
       fits = r.fits;
       from_inside = (let within = r.inside in omega arith);
@@ -42,11 +42,11 @@ move_words-requires-clause-can g c =
       rest_inside = subst (λ (ws : List Parts). IfSome c.args.parcel.now.rest (λ rest. rest < length ws)) (sym held.unchanged.words) r.rest_inside;
       apart = end_apart t _ to (word_count_of c.args.parcel.now) _ c.args.parcel.now.at c.args.parcel.now.words r.sound r.end r.old.region r.one_region (omega arith);
       from_held = held.first_held;
-      to_held = subst (λ (n : ℕ). HoldsSpan (g.M.Memory.held c.hold_spans.new.mem) (record { at = c.args.placed.now.at; words = n })) c.new_words-words.ensures held.second_held;
+      to_held = subst (λ (n : ℕ). HoldsSpan (g.M.Memory.held c.hold_places.new.mem) (record { at = c.args.placed.now.at; words = n })) c.new_words-words.ensures held.second_held;
     })
 
 pub move_words-requires-clause-pair : goal.move_words-requires-clause-pair
-move_words-requires-clause-pair g c = rw c.commit.ensures.memory (pair-stays c.args.parcel.now c.args.pair c.in_ok-hold_spans.ensures.unchanged.words c.requires.pair)
+move_words-requires-clause-pair g c = rw c.commit.ensures.memory (pair-stays c.args.parcel.now c.args.pair c.in_ok-hold_places.ensures.unchanged.words c.requires.pair)
 
 pub note_moved-requires : goal.note_moved-requires
 note_moved-requires g c =
@@ -60,7 +60,7 @@ note_moved-requires g c =
 pub returns-clause-moved : goal.returns-clause-moved
 returns-clause-moved g c =
     let moved = c.in_ok-move_words.ensures.moved in
-    moves-after_read c.in_ok-hold_spans.ensures.unchanged (rw (← c.commit.ensures.memory) moved)
+    moves-after_read c.in_ok-hold_places.ensures.unchanged (rw (← c.commit.ensures.memory) moved)
 
 pub returns-clause-placed : goal.returns-clause-placed
 returns-clause-placed g c =
