@@ -52,9 +52,9 @@ fn words_before_last(table: &RegionTable, at: u32) -> u32
     requires { at / 256 / 16 < table.now.regions }
     ensures { (count : ℕ) → 0 < count → count ≤ result → HasAfter table.now at count }
 {
-    let page = at / 256;
-    let used = table.used(page / 16).saturating_sub(256 * (page % 16));
-    used.min(256).saturating_sub(at % 256 + 1)
+    let page_end = at % 4096 - at % 256 + 256;
+    let end = table.used(at / 256 / 16).min(page_end);
+    end.saturating_sub(at % 4096 + 1)
 }
 
 /// The words that a scan has passed, the one that is next after them if it is known, and whether they were read and
