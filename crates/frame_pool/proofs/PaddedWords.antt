@@ -117,6 +117,17 @@ stored_set n e at at' xs mid word is h low inside place =
     ∙ sym (set-append_left mid (replicate (n - length mid) null_word) at word (omega (arith, r.far)))
     ∙ ap (λ (ws : List Parts). set ws at word) r.same ∙ ap (λ (k : ℕ). set (padded n xs) k word) place
 
+-- or two
+pub stored_two : (n e at one two : ℕ) (xs mid : List Parts) (first second : Parts) → mid ≡ xs ++ replicate (e - length xs) null_word → length xs ≤ n → e ≤ n → at + 1 < e → at ≡ one → at + 1 ≡ two
+    → padded n (set (set mid at first) (at + 1) second) ≡ set (set (padded n xs) one first) two second
+stored_two n e at one two xs mid first second is h low inside place next =
+    let r = reached n e xs mid is h low in
+    let size = length-set mid at first in
+    ap (λ (k : ℕ). set (set mid at first) (at + 1) second ++ replicate (n - k) null_word) (length-set (set mid at first) (at + 1) second)
+    ∙ sym (set-append_left (set mid at first) (replicate (n - length (set mid at first)) null_word) (at + 1) second (omega (arith, r.far, size)))
+    ∙ ap (λ (ws : List Parts). set ws (at + 1) second) (stored_set n e at one xs mid first is h low (omega arith) place)
+    ∙ ap (λ (k : ℕ). set (set (padded n xs) one first) k second) next
+
 -- a frame whose words aren't stored
 pub padded_blank : (n frame k : ℕ) (xs blank : List Parts) → length xs % 256 ≡ 0 → length xs ≤ n → length xs ≤ frame * 256 → 256 * frame + 256 ≤ n → blank ≡ replicate 256 null_word → k < 256
     → slice_get blank k ≡ slice_get (padded n xs) (256 * frame + k)

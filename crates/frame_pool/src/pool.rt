@@ -253,6 +253,17 @@ impl FramePool {
         self.words.set(frame, offset, word);
     }
 
+    /// Changes two consecutive words of a frame. Both offsets are below 256.
+    pub fn set_two(&mut self, frame: u32, offset: u32, first: Word, second: Word)
+        requires frame { frame < frames_of self.old }
+        requires in_range { offset + 1 < 256 }
+        ensures set { self.new
+            ≡ record (self.old) { words = slice_set (slice_set self.old.words (256 * frame + offset) first) (256 * frame + (offset + 1)) second } }
+        ensures sound { IsPool self.new }
+    {
+        self.words.set_two(frame, offset, first, second);
+    }
+
     /// The 256 words of a frame become those of a slice.
     pub fn fill(&mut self, frame: u32, from: &[Word])
         requires frame { frame < frames_of self.old }

@@ -86,6 +86,19 @@ impl FrameWords {
         self.stored[start + offset as usize] = word;
     }
 
+    /// Changes two consecutive words of a frame.
+    pub(crate) fn set_two(&mut self, frame: u32, offset: u32, first: Word, second: Word)
+        requires frame { 256 * frame + 256 ≤ length self.old }
+        requires in_range { offset + 1 < 256 }
+        ensures { self.new ≡ slice_set (slice_set self.old (256 * frame + offset) first) (256 * frame + (offset + 1)) second }
+    {
+        let start = frame as usize * PAGE_WORDS;
+        reach(&mut self.stored, start + PAGE_WORDS);
+        let at = start + offset as usize;
+        self.stored[at] = first;
+        self.stored[at + 1] = second;
+    }
+
     /// The words of one frame become those of a slice.
     pub(crate) fn fill(&mut self, frame: u32, from: &[Word])
         requires in_range { 256 * frame + 256 ≤ length self.old }

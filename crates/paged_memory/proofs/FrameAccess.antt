@@ -17,7 +17,7 @@ use Rattle.page_map.specs.declared.place.PagePlace.{PagePlace}
 use Rattle.page_map.specs.declared.place.PagePlace.TheVariants.{Empty, InFrame, Swapped}
 use Rattle.page_map.specs.Map.{place_at}
 use Rattle.frame_pool.specs.Pool.{Pool, IsPool, page_at, tag_of}
-use Rattle.paged_memory.specs.Paging.{Paging, stored_pool, word_in, word_at, size_of, words_of, marks_in, marks_of, store_of, resident_of, IsPaged}
+use Rattle.paged_memory.specs.Paging.{Paging, stored_pool, StoresPair, word_in, word_at, size_of, words_of, marks_in, marks_of, store_of, resident_of, IsPaged}
 use Rattle.paged_memory.specs.Order.{HasLeft, Uses}
 use Rattle.paged_memory.proofs.Places.{frame_same}
 use Rattle.paged_memory.proofs.FrameChanges.{with_pool, repooled}
@@ -201,19 +201,56 @@ passes_framed p stored words wanted at frame count passed page inside here size 
     ∙ sym (word_framed p stored (at / 256) (at % 256 + i) frame (omega arith) here) ∙ ap (word_at p stored) whole
     ∙ sym (get_or-map-range_with_len (word_at p stored) 0 (256 * size_of p) (at + i) (at + i) null_word (omega arith) (omega arith))) x
 
+-- words and tags of the frames are written
+resized : (p : Pool) (words : List Parts) (tags : List Bool) → IsPool p → length words ≡ length p.words → length tags ≡ length p.tags → IsPool (record p { words = words; tags = tags })
+resized p words tags h w t = record {
+  few = h.few;
+  tag_each = t ∙ h.tag_each;
+  words_each = w ∙ h.words_each;
+  each = h.each;
+  free_in = h.free_in;
+  used_in = h.used_in;
+  apart = h.apart;
+  free_once = h.free_once;
+  used_once = h.used_once;
+  all = h.all;
+}
+
+-- the frames once the tag of one is set if this holds
+abbrev tag_or : Pool → ℕ → Bool → Pool
+tag_or pool frame young = record pool { tags = slice_set pool.tags frame (tag_of pool frame || young) }
+
+-- two words are stored, and then tagged one after the other
+pub stores_pair : (old one two new : Pool) (levels : List ℕ) (frame offset : ℕ) (first second : Parts) → IsPool one
+    → one ≡ record old { words = slice_set (slice_set old.words (256 * frame + offset) first) (256 * frame + (offset + 1)) second }
+    → two ≡ record one { tags = slice_set one.tags frame (tag_of one frame || nat_lt 0 (level_of_word levels first)) }
+    → new ≡ record two { tags = slice_set two.tags frame (tag_of two frame || nat_lt 0 (level_of_word levels second)) } → StoresPair old new levels frame offset first second
+stores_pair old one two new levels frame offset first second sound one_is two_is new_is =
+    let words = slice_set old.words (256 * frame + offset) first in
+    let tags = slice_set old.tags frame (tag_of old frame || nat_lt 0 (level_of_word levels first)) in
+    let many : length words ≡ length one.words = sym (length-set words (256 * frame + (offset + 1)) second) ∙ sym (ap (λ (p : Pool). length p.words) one_is) in
+    let each : length tags ≡ length one.tags = length-set old.tags frame _ ∙ sym (ap (λ (p : Pool). length p.tags) one_is) in
+    record {
+      between = stored_pool old frame offset first (tag_of old frame || nat_lt 0 (level_of_word levels first));
+      sound = subst (λ (p : Pool). IsPool (record p { words = words; tags = tags })) one_is (resized one words tags sound many each);
+      front = refl;
+      back = new_is ∙ ap (λ (p : Pool). tag_or p frame (nat_lt 0 (level_of_word levels second))) (two_is ∙ ap (λ (p : Pool). tag_or p frame (nat_lt 0 (level_of_word levels first))) one_is);
+    }
+
 -- two consecutive words of a page, one after the other
 pub record PutsTwo (p : Paging) (stored : List Parts) (pool pool' : Pool) (frame at : ℕ) (first second : Parts) : Type 0 where
   pub front : PutsWord p stored pool frame at first (tag_of p.pool frame || nat_lt 0 (level_of_word p.levels first))
   pub back : PutsWord (with_pool p pool) stored pool' frame (at + 1) second (tag_of pool frame || nat_lt 0 (level_of_word p.levels second))
 
-pub puts_two : (p : Paging) (stored : List Parts) (pool pool' : Pool) (frame at : ℕ) (first second : Parts) → place_at p.places (at / 256) ≡ InFrame frame → at % 256 < 255 → at + 1 < 256 * size_of p
-    → IsPool pool → pool ≡ stored_pool p.pool frame (at % 256) first (tag_of p.pool frame || nat_lt 0 (level_of_word p.levels first))
-    → IsPool pool' → pool' ≡ stored_pool pool frame ((at + 1) % 256) second (tag_of pool frame || nat_lt 0 (level_of_word p.levels second)) → PutsTwo p stored pool pool' frame at first second
-puts_two p stored pool pool' frame at first second here page inside sound is sound' is' =
+pub puts_two : (p : Paging) (stored : List Parts) (pool : Pool) (frame at : ℕ) (first second : Parts) → place_at p.places (at / 256) ≡ InFrame frame → at % 256 < 255 → at + 1 < 256 * size_of p
+    → IsPool pool → (pair : StoresPair p.pool pool p.levels frame (at % 256) first second) → PutsTwo p stored pair.between pool frame at first second
+puts_two p stored pool frame at first second here page inside sound pair =
     let same : (at + 1) / 256 ≡ at / 256 = omega arith in
+    let next : at % 256 + 1 ≡ (at + 1) % 256 = omega arith in
+    let is = pair.back ∙ ap (λ (k : ℕ). stored_pool pair.between frame k second (tag_of pair.between frame || nat_lt 0 (level_of_word p.levels second))) next in
     record {
-      front = puts_word p stored pool frame at first here (omega arith) sound is;
-      back = puts_word (with_pool p pool) stored pool' frame (at + 1) second (ap (place_at p.places) same ∙ here) inside sound' is';
+      front = puts_word p stored pair.between frame at first here (omega arith) pair.sound pair.front;
+      back = puts_word (with_pool p pair.between) stored pool frame (at + 1) second (ap (place_at p.places) same ∙ here) inside sound is;
     }
 
 pub two_paged : (p : Paging) (stored : List Parts) (pool pool' : Pool) (frame at : ℕ) (first second : Parts) → IsPaged p stored → PutsTwo p stored pool pool' frame at first second → IsPaged (with_pool p pool') stored

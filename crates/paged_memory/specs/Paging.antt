@@ -1,5 +1,5 @@
 -- A memory whose pages are empty, in frames, or on a swap device.
-use Rattle.std.specs.Prelude.{ℕ, ◌≡◌, ◌≢◌, ◌+◌, ◌*◌, ◌/◌, ◌%◌, ◌<◌, ◌≤◌, ◌↔◌, Bool, true, false, List, filter, map, length, slice_index, slice_index_or, slice_set, Contains}
+use Rattle.std.specs.Prelude.{ℕ, ◌≡◌, ◌≢◌, ◌+◌, ◌*◌, ◌/◌, ◌%◌, ◌<◌, ◌≤◌, ◌↔◌, ◌||◌, nat_lt, Bool, true, false, List, filter, map, length, slice_index, slice_index_or, slice_set, Contains}
 use Rattle.std.specs.List.{range_with_len}
 use Rattle.store_word.specs.Words.{Parts, null_word}
 use Rattle.store_word.specs.Sets.{HasLevel}
@@ -35,6 +35,13 @@ word_at p stored at = word_in p.pool stored at (place_at p.places (at / 256))
 -- the frames once a word is stored into one, at an offset; the tag of this frame is set to a value
 abbrev pub stored_pool : Pool → ℕ → ℕ → Parts → Bool → Pool
 stored_pool pool frame offset word tag = record pool { words = slice_set pool.words (256 * frame + offset) word; tags = slice_set pool.tags frame tag }
+
+-- two words are stored into a frame, one after the other; each sets the tag if it has an address of level 1 or more
+pub record StoresPair (old new : Pool) (levels : List ℕ) (frame offset : ℕ) (first second : Parts) : Type 0 where
+  pub between : Pool
+  pub sound : IsPool between
+  pub front : between ≡ stored_pool old frame offset first (tag_of old frame || nat_lt 0 (level_of_word levels first))
+  pub back : new ≡ stored_pool between frame (offset + 1) second (tag_of between frame || nat_lt 0 (level_of_word levels second))
 
 -- how many pages there are
 abbrev pub size_of : Paging → ℕ

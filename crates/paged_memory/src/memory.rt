@@ -196,10 +196,7 @@ impl<D: Swap> Memory for PagedMemory<D> {
             .use_page(&mut self.buffer, &mut self.swap, at / 256)?;
         self.pager
             .levels
-            .store_word(&mut self.pager.pool, frame, at % 256, first);
-        self.pager
-            .levels
-            .store_word(&mut self.pager.pool, frame, (at + 1) % 256, second);
+            .store_two(&mut self.pager.pool, frame, at % 256, first, second);
         Ok(())
     }
 

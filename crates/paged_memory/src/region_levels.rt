@@ -1,9 +1,9 @@
 //! The level of each region, and the words whose addresses have one of 1 or more.
-ghost use Rattle.std.specs.Prelude.{ℕ, List, ◌≡◌, ◌<◌, ◌↔◌, ◌⊎◌, ◌||◌, IfOk, IsTrue, length, nat_lt, replicate, slice_set};
+ghost use Rattle.std.specs.Prelude.{ℕ, List, ◌≡◌, ◌+◌, ◌<◌, ◌↔◌, ◌⊎◌, ◌||◌, IfOk, IsTrue, length, nat_lt, replicate, slice_set};
 ghost use Rattle.frame_pool.specs.Pool.{frames_of, tag_of, IsPool};
 ghost use Rattle.mem_port.specs.Store.{level_of_word};
 ghost use Rattle.mem_port.specs.Tags.{HasEphemeral};
-ghost use Rattle.paged_memory.specs.Paging.{stored_pool};
+ghost use Rattle.paged_memory.specs.Paging.{stored_pool, StoresPair};
 
 use frame_pool::FramePool;
 use mem_port::{tag_after, tag_with};
@@ -93,6 +93,26 @@ impl RegionLevels {
     {
         pool.set_word(frame, offset, word);
         self.tag_word(pool, frame, word);
+    }
+
+    /// Stores two words into a frame, at consecutive offsets below 256, and sets the tag of the frame if one of them has an address
+    /// of level 1 or more.
+    pub(crate) fn store_two(
+        &self,
+        pool: &mut FramePool,
+        frame: u32,
+        offset: u32,
+        first: Word,
+        second: Word,
+    )
+        requires frame { frame < frames_of pool.old }
+        requires in_range { offset + 1 < 256 }
+        ensures written { StoresPair pool.old pool.new self.now frame offset first second }
+        ensures sound { IsPool pool.new }
+    {
+        pool.set_two(frame, offset, first, second);
+        self.tag_word(pool, frame, first);
+        self.tag_word(pool, frame, second);
     }
 
     /// Whether a page is tagged once these words are stored into it. They are looked at only if it was not tagged before, and a
