@@ -166,6 +166,20 @@ impl FramePool {
         self.latest_frame = frame;
     }
 
+    /// A frame that a page has taken becomes the most recently used. This is faster than `touch`, unless it is that already.
+    pub fn touch_page(&mut self, frame: u32, page: u32)
+        requires used { Contains self.old.used frame }
+        requires page { page_at self.old frame ≡ page }
+        ensures after { self.new ≡ with_latest self.old frame }
+        ensures used { Contains self.new.used frame }
+        ensures in_range { frame < frames_of self.new }
+        ensures sound { IsPool self.new }
+    {
+        self.chains.move_back(frame);
+        self.latest_page = page as u64;
+        self.latest_frame = frame;
+    }
+
     /// The most recently used frame, if this page has taken it; None if another page has, or no frame is taken. To touch the frame
     /// returned would change nothing.
     pub fn latest_of(&self, page: u32) -> Option<u32>

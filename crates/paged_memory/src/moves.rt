@@ -178,7 +178,7 @@ impl Pager {
     {
         match self.places.place_of(page) {
             PagePlace::InFrame(frame) => {
-                self.pool.touch(frame);
+                self.pool.touch_page(frame, page);
                 Ok(frame)
             }
             _ => self.use_absent(buffer, swap, page),
