@@ -1,9 +1,9 @@
 -- A search level by level: what is true when the objects of one depth were found, and those to which they refer were not.
-use Rattle.std.proofs.Common.{◌≡◌, ℕ, zero, suc, ◌+◌, ◌-◌, ◌<◌, ◌≤◌, ◌⊎◌, inl, inr, true, refl, sym, ◌∙◌, ap, subst, arith, List, [], ◌++◌, length, get_or, drop, replicate, Option, Some, None, Contains, All, unwrap_or, length-append, drop_of_length-le}
+use Rattle.std.proofs.Common.{◌≡◌, ℕ, zero, suc, ◌+◌, ◌-◌, ◌<◌, ◌≤◌, ◌⊎◌, inl, inr, true, refl, sym, ◌∙◌, ap, subst, arith, List, [], ◌++◌, length, get_or, set, drop, replicate, Option, Some, None, Contains, All, unwrap_or, length-append, length-set, drop_of_length-le}
 use Rattle.std.proofs.Math.Seq.{drop-append_seam}
 use Rattle.std.proofs.lemmas.Bool.{cases_eq, cases_lt}
 use Rattle.std.proofs.lemmas.List.{length-replicate, get_or_default, get_or_past}
-use Rattle.std.proofs.lemmas.List.Sums.{sum_by-cons, sum_by-le}
+use Rattle.std.proofs.lemmas.List.Sums.{sum_by-cons, sum_by-le, sum_by-set}
 use Rattle.lisp_graph.specs.declared.object.Object.{Object}
 use Rattle.lisp_graph.specs.Graph.{Graph, body_refers, object_at, refers_in}
 use Rattle.why_held.specs.declared.search.Search.{Search}
@@ -51,6 +51,13 @@ one_at_most (Some x) = omega arith
 
 pub found_few : (depths : List (Option ℕ)) → found_in depths ≤ length depths
 found_few depths = let x = sum_by-le one_where 1 depths (λ k d l. one_at_most (get_or depths k d)) in omega arith
+
+-- not all objects are found while one of them has no depth
+pub found_fewer : (depths : List (Option ℕ)) (object : ℕ) → object < length depths → depth_at depths object ≡ None → found_in depths < length depths
+found_fewer depths object within fresh =
+    let one : found_in (set depths object (Some 0)) + one_where (depth_at depths object) ≡ found_in depths + 1 = sum_by-set one_where depths object (Some 0) None within in
+    let none : one_where (depth_at depths object) ≡ 0 = ap one_where fresh in
+    omega (arith, one, none, found_few (set depths object (Some 0)), length-set depths object (Some 0))
 
 -- The objects of this depth are found from `start` on, and all that are less deep are found and refer to found ones.
 pub record Level (graph : Graph) (depth start : ℕ) (s : Search) : Type 0 where

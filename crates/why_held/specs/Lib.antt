@@ -5,6 +5,7 @@ pub mod Checking
 pub mod Choice
 pub mod Nearest
 pub mod Reached
+pub mod OptionalNumbers
 pub mod Search
 pub mod Tallies
 pub mod WhyText

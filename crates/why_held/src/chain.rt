@@ -1,4 +1,5 @@
 //! Chains of references, and the answer to why an object is held.
+use crate::optional_numbers::OptionalNumbers;
 use lisp_graph::Sequence;
 
 /// The place of a reference: a register, or a part of an object.
@@ -22,7 +23,7 @@ pub type Hops = Sequence<Hop>;
 
 /// A depth for each object that has one, in the order of the objects' numbers: how many references follow the register in
 /// the shortest chain to the object.
-pub type Depths = Sequence<Option<u32>>;
+pub type Depths = OptionalNumbers;
 
 /// Whether a register leads to an object.
 #[derive(Debug, Drop)]

@@ -8,7 +8,7 @@ ghost use Rattle.why_held.specs.Checking.{IsAnswered, has_length};
 ghost use Rattle.why_held.specs.Choice.{IsWhy};
 ghost use Rattle.why_held.specs.Search.{AreBounds, AreNextWithin, AreWithin, IsNextWithin, parts_of};
 
-use crate::chain::{Held, Hop, Part, Why};
+use crate::chain::{Depths, Held, Hop, Part, Why};
 use crate::holding::is_ref;
 use crate::search::{depth_at, object_at};
 use lisp_graph::{Body, Object, Value, World};
@@ -16,7 +16,7 @@ use lisp_graph::{Body, Object, Value, World};
 // Depths
 
 /// Whether the object to which a value refers, if there is one, has a depth of at most `most`.
-fn is_within(depths: &[Option<u32>], most: u64, value: Value) -> bool
+fn is_within(depths: &Depths, most: u64, value: Value) -> bool
     requires { RefersBelow (length depths.now) value }
     ensures { IsTrue result ↔ AreWithin depths.now most (value ∷ []) }
 {
@@ -30,7 +30,7 @@ fn is_within(depths: &[Option<u32>], most: u64, value: Value) -> bool
 }
 
 /// Whether the objects to which these values refer do.
-fn are_within(depths: &[Option<u32>], most: u64, values: &[Value]) -> bool
+fn are_within(depths: &Depths, most: u64, values: &[Value]) -> bool
     requires { All (RefersBelow (length depths.now)) values.now }
     ensures { IsTrue result ↔ AreWithin depths.now most values.now }
 {
@@ -43,7 +43,7 @@ fn are_within(depths: &[Option<u32>], most: u64, values: &[Value]) -> bool
 }
 
 /// Whether the objects to which the parts of an object refer do.
-fn parts_within(depths: &[Option<u32>], most: u64, body: &Body) -> bool
+fn parts_within(depths: &Depths, most: u64, body: &Body) -> bool
     requires { PartsReferBelow (length depths.now) body.now }
     ensures { IsTrue result ↔ AreWithin depths.now most (parts_of body.now) }
 {
@@ -54,7 +54,7 @@ fn parts_within(depths: &[Option<u32>], most: u64, body: &Body) -> bool
 }
 
 /// Whether each reference in this object leads at most one deeper.
-fn is_next_within(depths: &[Option<u32>], objects: &[Object], from: u64) -> bool
+fn is_next_within(depths: &Depths, objects: &[Object], from: u64) -> bool
     requires from { from < length objects.now }
     requires size { length depths.now ≡ length objects.now }
     requires sound { All (IsObject (length objects.now)) objects.now }
@@ -67,7 +67,7 @@ fn is_next_within(depths: &[Option<u32>], objects: &[Object], from: u64) -> bool
 }
 
 /// Whether each reference leads at most one deeper.
-fn are_next_within(depths: &[Option<u32>], objects: &[Object]) -> bool
+fn are_next_within(depths: &Depths, objects: &[Object]) -> bool
     requires size { length depths.now ≡ length objects.now }
     requires sound { All (IsObject (length objects.now)) objects.now }
     ensures { IsTrue result ↔ AreNextWithin objects.now depths.now }
@@ -83,7 +83,7 @@ fn are_next_within(depths: &[Option<u32>], objects: &[Object]) -> bool
 }
 
 /// Whether no chain to an object is shorter than its depth.
-fn are_bounds(depths: &[Option<u32>], world: &World) -> bool
+fn are_bounds(depths: &Depths, world: &World) -> bool
     requires size { length depths.now ≡ length world.now.objects }
     requires graph { IsGraph (opening world.now) }
     ensures { IsTrue result ↔ AreBounds (opening world.now) depths.now }
@@ -177,7 +177,7 @@ fn has_length(depth: Option<u32>, hops: usize) -> bool
 }
 
 /// Whether the answer is a chain as long as the object is deep, or `Free` for an object without a depth.
-fn is_answered(world: &World, depths: &[Option<u32>], object: u64, held: &Held) -> bool
+fn is_answered(world: &World, depths: &Depths, object: u64, held: &Held) -> bool
     requires { object < length depths.now }
     ensures { IsTrue result ↔ IsAnswered (opening world.now) depths.now object held.now }
 {
@@ -199,7 +199,7 @@ pub fn check_why(world: &World, object: u64, answer: &Why) -> bool
     ensures sound { IsTrue result → IsHeld (opening world.now) object answer.now.held }
     ensures whole { IsWhy (opening world.now) object answer.now → IsTrue result }
 {
-    let depths = answer.depths.as_slice();
+    let depths = &answer.depths;
     if depths.len() != world.objects.as_slice().len() {
         return false;
     }

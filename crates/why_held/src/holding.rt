@@ -8,8 +8,9 @@ ghost use Rattle.why_held.specs.Choice.{IsChosen, IsChosenPath, IsFirst, IsFirst
 ghost use Rattle.why_held.specs.Nearest.{nearest_at};
 ghost use Rattle.why_held.specs.Search.{AreLevels};
 
-use crate::chain::{Held, Hop, Hops, Part, Why};
+use crate::chain::{Depths, Held, Hop, Hops, Part, Why};
 use crate::nearest::{nearest_at, nearest_of};
+use crate::optional_numbers::OptionalNumbers;
 use crate::search::{depth_at, depths_of, object_at};
 use lisp_graph::{Body, NoMemory, Value, World};
 use std::alloc::Global;
@@ -71,13 +72,13 @@ fn first_hop(registers: &[Value], object: u64) -> Hop
 }
 
 /// The object that was found for another one.
-fn found_for(nearest: &[Option<u64>], object: u64) -> u64
+fn found_for(nearest: &OptionalNumbers, object: u64) -> u64
     requires in_range { object < length nearest.now }
     requires at_least { IsSome (nearest_at nearest.now object) }
     ensures { nearest_at nearest.now object ≡ Some result }
 {
     match nearest_at(nearest, object) {
-        Some(from) => from,
+        Some(from) => u64::from(from),
         None => unreachable!(),
     }
 }
@@ -86,7 +87,7 @@ fn found_for(nearest: &[Option<u64>], object: u64) -> u64
 fn chain_to(
     alloc: Global,
     world: &World,
-    depths: &[Option<u32>],
+    depths: &Depths,
     object: u64,
     depth: u32,
 ) -> Result<Hops, NoMemory>
@@ -99,7 +100,7 @@ fn chain_to(
 {
     let objects = world.objects.as_slice();
     let found = nearest_of(alloc, objects, depths, depth)?;
-    let nearest = found.as_slice();
+    let nearest = &found;
     let mut hops = Hops::new(alloc);
     let last = Hop {
         part: Part::Car,
@@ -120,12 +121,7 @@ fn chain_to(
 }
 
 /// A shortest chain to an object, if there is one.
-fn held_of(
-    alloc: Global,
-    world: &World,
-    depths: &[Option<u32>],
-    object: u64,
-) -> Result<Held, NoMemory>
+fn held_of(alloc: Global, world: &World, depths: &Depths, object: u64) -> Result<Held, NoMemory>
     requires graph { IsGraph (opening world.now) }
     requires registers { length world.now.roots ≤ 256 }
     requires levels { AreLevels (opening world.now) depths.now }
@@ -154,6 +150,6 @@ pub fn why(alloc: Global, world: &World, object: u64) -> Result<Why, NoMemory>
     ensures { IfOk result (λ why. IsWhy (opening world.now) object why) }
 {
     let depths = depths_of(alloc, world)?;
-    let held = held_of(alloc, world, depths.as_slice(), object)?;
+    let held = held_of(alloc, world, &depths, object)?;
     Ok(Why { held, depths })
 }

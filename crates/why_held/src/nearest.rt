@@ -7,8 +7,10 @@ ghost use Rattle.why_held.specs.Choice.{is_one_less};
 ghost use Rattle.why_held.specs.Nearest.{AreNearest, Offered, is_less_deep, nearest_at};
 ghost use Rattle.why_held.specs.Search.{parts_of};
 
-use crate::search::{depth_at, object_at};
-use lisp_graph::{Body, NoMemory, Object, Sequence, Value};
+use crate::chain::Depths;
+use crate::optional_numbers::OptionalNumbers;
+use crate::search::depth_at;
+use lisp_graph::{Body, NoMemory, Object, Value};
 use std::alloc::Global;
 
 /// Whether the first depth is one less than the second.
@@ -22,15 +24,15 @@ fn is_one_less(less: Option<u32>, more: Option<u32>) -> bool
 }
 
 /// What was found for an object so far.
-pub(crate) fn nearest_at(nearest: &[Option<u64>], object: u64) -> Option<u64>
+pub(crate) fn nearest_at(nearest: &OptionalNumbers, object: u64) -> Option<u32>
     requires { object < length nearest.now }
     ensures { result ≡ nearest_at nearest.now object }
 {
-    nearest[object as usize]
+    nearest.get(object as usize)
 }
 
 /// Records the object `from` for the object to which a value in it refers, if that is one deeper and none was recorded for it.
-fn offer(nearest: &mut Sequence<Option<u64>>, depths: &[Option<u32>], from: u64, value: Value)
+fn offer(nearest: &mut OptionalNumbers, depths: &Depths, from: u64, value: Value)
     requires size { length depths.now ≡ length nearest.old }
     requires from { from < length nearest.old }
     requires refers { RefersBelow (length nearest.old) value }
@@ -38,20 +40,15 @@ fn offer(nearest: &mut Sequence<Option<u64>>, depths: &[Option<u32>], from: u64,
 {
     if let Value::Ref(to) = value {
         if is_one_less(depth_at(depths, from), depth_at(depths, to)) {
-            if let None = nearest_at(nearest.as_slice(), to) {
-                nearest.set(to as usize, Some(from));
+            if let None = nearest.get(to as usize) {
+                nearest.set(to as usize, from as u32);
             }
         }
     }
 }
 
 /// Does this for each of these values.
-fn offer_all(
-    nearest: &mut Sequence<Option<u64>>,
-    depths: &[Option<u32>],
-    from: u64,
-    values: &[Value],
-)
+fn offer_all(nearest: &mut OptionalNumbers, depths: &Depths, from: u64, values: &[Value])
     requires size { length depths.now ≡ length nearest.old }
     requires from { from < length nearest.old }
     requires refers { All (RefersBelow (length nearest.old)) values.now }
@@ -63,7 +60,7 @@ fn offer_all(
 }
 
 /// Does this for each part of the object `from`.
-fn offer_parts(nearest: &mut Sequence<Option<u64>>, depths: &[Option<u32>], from: u64, body: &Body)
+fn offer_parts(nearest: &mut OptionalNumbers, depths: &Depths, from: u64, body: &Body)
     requires size { length depths.now ≡ length nearest.old }
     requires from { from < length nearest.old }
     requires refers { PartsReferBelow (length nearest.old) body.now }
@@ -90,9 +87,9 @@ fn is_less_deep(depth: Option<u32>, most: u32) -> bool
 
 /// Does this for each part of the object `from`, if it is less than `most` deep.
 fn offer_object(
-    nearest: &mut Sequence<Option<u64>>,
+    nearest: &mut OptionalNumbers,
     objects: &[Object],
-    depths: &[Option<u32>],
+    depths: &Depths,
     most: u32,
     from: usize,
 )
@@ -112,15 +109,14 @@ fn offer_object(
 pub(crate) fn nearest_of(
     alloc: Global,
     objects: &[Object],
-    depths: &[Option<u32>],
+    depths: &Depths,
     most: u32,
-) -> Result<Sequence<Option<u64>>, NoMemory>
+) -> Result<OptionalNumbers, NoMemory>
     requires size { length depths.now ≡ length objects.now }
     requires sound { All (IsObject (length objects.now)) objects.now }
     ensures { IfOk result (λ nearest. AreNearest objects.now depths.now most (length objects.now) nearest) }
 {
-    let mut nearest = Sequence::new(alloc);
-    nearest.pad(objects.len(), None)?;
+    let mut nearest = OptionalNumbers::none(alloc, depths.len())?;
     let mut from = 0;
     while from < objects.len() {
         offer_object(&mut nearest, objects, depths, most, from);

@@ -4,7 +4,7 @@ ghost use Rattle.std.specs.List.{All};
 ghost use Rattle.lisp_graph.specs.Graph.{IsGraph, IsObject, PartsReferBelow, RefersBelow, object_at};
 ghost use Rattle.lisp_graph.specs.World.{opening};
 ghost use Rattle.why_held.specs.Chains.{depth_at};
-ghost use Rattle.why_held.specs.Search.{AreLevels, Finds, all_parts, parts_of};
+ghost use Rattle.why_held.specs.Search.{AreLevels, Finds, all_parts, found_in, parts_of};
 
 use crate::chain::Depths;
 use lisp_graph::{Body, NoMemory, Object, Sequence, Value, World};
@@ -14,7 +14,7 @@ use std::alloc::Global;
 #[derive(Drop)]
 pub(crate) struct Search {
     depths: Depths,
-    found: Sequence<u64>,
+    found: Sequence<u32>,
 }
 
 /// The object with this number.
@@ -26,25 +26,26 @@ pub(crate) fn object_at(objects: &[Object], object: u64) -> &Object
 }
 
 /// The depth of an object.
-pub(crate) fn depth_at(depths: &[Option<u32>], object: u64) -> Option<u32>
+pub(crate) fn depth_at(depths: &Depths, object: u64) -> Option<u32>
     requires { object < length depths.now }
     ensures { result ≡ depth_at depths.now object }
 {
-    depths[object as usize]
+    depths.get(object as usize)
 }
 
 /// Gives a depth to the object to which a value refers, if there is one and it has none.
 fn find(search: &mut Search, value: Value, depth: u32) -> Result<(), NoMemory>
-    requires { RefersBelow (length search.old.depths) value }
+    requires refers { RefersBelow (length search.old.depths) value }
+    requires shallow { depth ≤ found_in search.old.depths }
     ensures { OnOk result (Finds depth (value ∷ []) search.old search.new) }
 {
     match value {
         Value::Ref(object) => {
-            match depth_at(search.depths.as_slice(), object) {
+            match search.depths.get(object as usize) {
                 Some(_) => Ok(()),
                 None => {
-                    search.depths.set(object as usize, Some(depth));
-                    search.found.push(object)?;
+                    search.depths.set(object as usize, depth);
+                    search.found.push(object as u32)?;
                     Ok(())
                 }
             }
@@ -55,7 +56,8 @@ fn find(search: &mut Search, value: Value, depth: u32) -> Result<(), NoMemory>
 
 /// Does this for the objects to which these values refer.
 fn find_all(search: &mut Search, values: &[Value], depth: u32) -> Result<(), NoMemory>
-    requires { All (RefersBelow (length search.old.depths)) values.now }
+    requires refers { All (RefersBelow (length search.old.depths)) values.now }
+    requires shallow { depth ≤ found_in search.old.depths }
     ensures { OnOk result (Finds depth values.now search.old search.new) }
 {
     for value in values {
@@ -66,7 +68,8 @@ fn find_all(search: &mut Search, values: &[Value], depth: u32) -> Result<(), NoM
 
 /// Does this for the objects to which the parts of an object refer.
 fn find_parts(search: &mut Search, body: &Body, depth: u32) -> Result<(), NoMemory>
-    requires { PartsReferBelow (length search.old.depths) body.now }
+    requires refers { PartsReferBelow (length search.old.depths) body.now }
+    requires shallow { depth ≤ found_in search.old.depths }
     ensures { OnOk result (Finds depth (parts_of body.now) search.old search.new) }
 {
     match body {
@@ -86,6 +89,7 @@ fn find_next(
     depth: u32,
 ) -> Result<(), NoMemory>
     requires at_most { start ≤ length search.old.found }
+    requires shallow { depth ≤ found_in search.old.depths }
     requires size { length search.old.depths ≡ length objects.now }
     requires sound { All (IsObject (length objects.now)) objects.now }
     requires in_range { All (λ object. object < length objects.now) (drop start search.old.found) }
@@ -94,7 +98,7 @@ fn find_next(
     let end = search.found.len() as usize;
     let mut place = start;
     while place < end {
-        let object = search.found.as_slice()[place];
+        let object = u64::from(search.found.as_slice()[place]);
         find_parts(search, &object_at(objects, object).body, depth)?;
         place += 1;
     }
@@ -108,11 +112,9 @@ pub(crate) fn depths_of(alloc: Global, world: &World) -> Result<Depths, NoMemory
     ensures { IfOk result (λ depths. AreLevels (opening world.now) depths) }
 {
     let objects = world.objects.as_slice();
-    let mut search = Search {
-        depths: Depths::new(alloc),
-        found: Sequence::new(alloc),
-    };
-    search.depths.pad(objects.len(), None)?;
+    let depths = Depths::none(alloc, objects.len())?;
+    let found = Sequence::new(alloc);
+    let mut search = Search { depths, found };
     find_all(&mut search, world.roots.as_slice(), 0)?;
     let mut start = 0;
     let mut depth = 0;

@@ -2,7 +2,7 @@
 ghost use Rattle.std.specs.Prelude.{◌≡◌, ◌++◌, OnOk, IfOk};
 ghost use Rattle.why_held.specs.WhyText.{held_text, hop_line, hop_lines, level_line, level_lines, part_text, why_text};
 
-use crate::chain::{Held, Hop, Part, Why};
+use crate::chain::{Depths, Held, Hop, Part, Why};
 use lisp_graph::{NoMemory, Text};
 use std::alloc::Global;
 use world_text::{push_number, push_spaced};
@@ -66,16 +66,15 @@ fn push_held(text: &mut Text, held: &Held) -> Result<(), NoMemory>
 
 /// The line of an object with this depth.
 #[tactic(auto, using(std::proofs::Common::append_assoc))]
-fn push_level(text: &mut Text, object: u64, depth: Option<u32>) -> Result<(), NoMemory>
+fn push_level(text: &mut Text, object: u32, depth: Option<u32>) -> Result<(), NoMemory>
     ensures { OnOk result (text.new ≡ text.old ++ level_line object depth) }
 {
     match depth {
         None => Ok(()),
         Some(depth) => {
-            text.push_all(b"level ")?;
-            push_number(text, object)?;
-            text.push(b' ')?;
-            push_number(text, u64::from(depth))?;
+            text.push_all(b"level")?;
+            push_spaced(text, object)?;
+            push_spaced(text, depth)?;
             text.push(b'\n')
         }
     }
@@ -83,12 +82,12 @@ fn push_level(text: &mut Text, object: u64, depth: Option<u32>) -> Result<(), No
 
 /// A line for each object that has a depth.
 #[tactic(auto, using(std::proofs::Common::append_assoc))]
-fn push_levels(text: &mut Text, depths: &[Option<u32>]) -> Result<(), NoMemory>
+fn push_levels(text: &mut Text, depths: &Depths) -> Result<(), NoMemory>
     ensures { OnOk result (text.new ≡ text.old ++ level_lines 0 depths.now) }
 {
     let mut object = 0;
     while object < depths.len() {
-        push_level(text, object as u64, depths[object])?;
+        push_level(text, object as u32, depths.get(object))?;
         object += 1;
     }
     Ok(())
@@ -102,7 +101,7 @@ pub fn why_text(alloc: Global, why: &Why) -> Result<Text, NoMemory>
 {
     let mut text = Text::new(alloc);
     push_held(&mut text, &why.held)?;
-    push_levels(&mut text, why.depths.as_slice())?;
+    push_levels(&mut text, &why.depths)?;
     text.push_all(b"end-why\n")?;
     Ok(text)
 }

@@ -16,7 +16,7 @@ loop-place-init c =
     let size : length c.pad.new.self ≡ c.args.depth + 1 =
     ap length (padded (c.args.depth + 1) (c.args.depth + 1) _ c.new-hops.result c.pad.new.self c.in_ok-pad.ensures.ok c.new-hops.ensures refl) ∙ length-replicate (c.args.depth + 1) _ in (
       c.as_slice-objects.ensures,
-      near_along c.as_slice-objects.result.now c.args.world.now.objects c.args.depths.now c.in_ok-found.found c.as_slice-nearest.result.now c.args.depth c.in_ok-found.ensures c.as_slice-objects.ensures c.as_slice-nearest.ensures,
+      near_along c.as_slice-objects.result.now c.args.world.now.objects c.args.depths.now c.in_ok-found.found c.in_ok-found.found c.args.depth c.in_ok-found.ensures c.as_slice-objects.ensures refl,
       ending_first (opening c.args.world.now) c.args.depths.now c.requires.levels c.args.object c.args.depth c.pad.new.self size c.requires.agrees,
     )
 
@@ -29,20 +29,20 @@ pub found_for-from-requires-clause-at_least : goal.found_for-from-requires-claus
 found_for-from-requires-clause-at_least c =
     let deep : depth_at c.args.depths.now c.loop-place.to ≡ Some (suc (c.loop-place.place - 1)) =
     c.loop-place.invariant.2.deep ∙ (let e : c.loop-place.place ≡ suc (c.loop-place.place - 1) = omega (arith, c.loop-place-test.true) in ap Some e) in
-    nearest_some (opening c.args.world.now) c.args.depths.now c.requires.levels c.args.depth c.as_slice-nearest.result.now c.loop-place.invariant.1 c.loop-place.to (c.loop-place.place - 1) deep (omega (arith, c.loop-place-test.true, c.loop-place.invariant.2.within))
+    nearest_some (opening c.args.world.now) c.args.depths.now c.requires.levels c.args.depth c.in_ok-found.found c.loop-place.invariant.1 c.loop-place.to (c.loop-place.place - 1) deep (omega (arith, c.loop-place-test.true, c.loop-place.invariant.2.within))
 
 pub object_at-requires : goal.object_at-requires
 object_at-requires c =
     let deep : depth_at c.args.depths.now c.loop-place.to ≡ Some (suc (c.loop-place.place - 1)) =
     c.loop-place.invariant.2.deep ∙ (let e : c.loop-place.place ≡ suc (c.loop-place.place - 1) = omega (arith, c.loop-place-test.true) in ap Some e) in
-    let n = nearest_is (opening c.args.world.now) c.args.depths.now c.requires.levels c.args.depth c.as_slice-nearest.result.now c.loop-place.invariant.1 c.loop-place.to c.found_for-from.result (c.loop-place.place - 1) deep (omega (arith, c.loop-place-test.true, c.loop-place.invariant.2.within)) c.found_for-from.ensures in
+    let n = nearest_is (opening c.args.world.now) c.args.depths.now c.requires.levels c.args.depth c.in_ok-found.found c.loop-place.invariant.1 c.loop-place.to c.found_for-from.result (c.loop-place.place - 1) deep (omega (arith, c.loop-place-test.true, c.loop-place.invariant.2.within)) c.found_for-from.ensures in
     omega (arith, n.0, ap length c.loop-place.invariant.0)
 
 pub first_part-part-requires-clause-refers : goal.first_part-part-requires-clause-refers
 first_part-part-requires-clause-refers c =
     let deep : depth_at c.args.depths.now c.loop-place.to ≡ Some (suc (c.loop-place.place - 1)) =
     c.loop-place.invariant.2.deep ∙ (let e : c.loop-place.place ≡ suc (c.loop-place.place - 1) = omega (arith, c.loop-place-test.true) in ap Some e) in
-    let n = nearest_is (opening c.args.world.now) c.args.depths.now c.requires.levels c.args.depth c.as_slice-nearest.result.now c.loop-place.invariant.1 c.loop-place.to c.found_for-from.result (c.loop-place.place - 1) deep (omega (arith, c.loop-place-test.true, c.loop-place.invariant.2.within)) c.found_for-from.ensures in
+    let n = nearest_is (opening c.args.world.now) c.args.depths.now c.requires.levels c.args.depth c.in_ok-found.found c.loop-place.invariant.1 c.loop-place.to c.found_for-from.result (c.loop-place.place - 1) deep (omega (arith, c.loop-place-test.true, c.loop-place.invariant.2.within)) c.found_for-from.ensures in
     let same : c.object_at.result.now ≡ object_at c.args.world.now.objects c.found_for-from.result = c.object_at.ensures ∙ ap (λ (os : List Object). object_at os c.found_for-from.result) c.loop-place.invariant.0 in
     ap (λ (o : Object). body_refers c.loop-place.to o.body) same ∙ n.3
 
@@ -53,7 +53,7 @@ pub loop-place-preserved : goal.loop-place-preserved
 loop-place-preserved c =
     let e : c.loop-place.place ≡ suc (c.loop-place.place - 1) = omega (arith, c.loop-place-test.true) in
     let deep : depth_at c.args.depths.now c.loop-place.to ≡ Some (suc (c.loop-place.place - 1)) = c.loop-place.invariant.2.deep ∙ ap Some e in
-    let n = nearest_is (opening c.args.world.now) c.args.depths.now c.requires.levels c.args.depth c.as_slice-nearest.result.now c.loop-place.invariant.1 c.loop-place.to c.found_for-from.result (c.loop-place.place - 1) deep (omega (arith, c.loop-place-test.true, c.loop-place.invariant.2.within)) c.found_for-from.ensures in
+    let n = nearest_is (opening c.args.world.now) c.args.depths.now c.requires.levels c.args.depth c.in_ok-found.found c.loop-place.invariant.1 c.loop-place.to c.found_for-from.result (c.loop-place.place - 1) deep (omega (arith, c.loop-place-test.true, c.loop-place.invariant.2.within)) c.found_for-from.ensures in
     let same : c.object_at.result.now ≡ object_at c.args.world.now.objects c.found_for-from.result = c.object_at.ensures ∙ ap (λ (os : List Object). object_at os c.found_for-from.result) c.loop-place.invariant.0 in
     let first : IsFirstPart (object_at c.args.world.now.objects c.found_for-from.result).body c.loop-place.to c.first_part-part.result =
     (let P : Object → Type 0 = λ o. IsFirstPart o.body c.loop-place.to c.first_part-part.result in subst P same c.first_part-part.ensures) in (

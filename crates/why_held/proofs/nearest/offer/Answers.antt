@@ -1,4 +1,4 @@
-use Rattle.std.proofs.Common.{◌≡◌, true, false, Option, Some, List, ℕ, ap, ap₂, sym, ◌∙◌}
+use Rattle.std.proofs.Common.{◌≡◌, true, false, Some, ap₂, sym, ◌∙◌}
 use Rattle.why_held.specs.Chains.{depth_at}
 use Rattle.why_held.specs.Choice.{is_one_less}
 use Rattle.why_held.specs.Nearest.{nearest_at}
@@ -8,15 +8,15 @@ use Rattle.why_held.proofs.nearest.offer.Goals as goal
 pub returns-in-None : goal.returns-in-None
 returns-in-None c =
     let within = rw c.in-Ref.is at c.requires.refers in
-    let fresh = sym (ap (λ (xs : List (Option ℕ)). nearest_at xs c.in-Ref.to) c.as_slice.ensures) ∙ sym c.nearest_at.ensures ∙ c.in-None.is in
+    let fresh = sym c.get.ensures.value ∙ c.in-None.is in
     let less : is_one_less (depth_at c.args.depths.now c.args.from) (depth_at c.args.depths.now c.in-Ref.to) ≡ true =
     sym (ap₂ is_one_less c.depth_at.ensures c.depth_at-in-Ref.ensures) ∙ sym c.is_one_less.ensures ∙ c.if-is_one_less.true in
     rw c.in-Ref.is (offered_new c.args.depths.now c.args.from c.in-Ref.to c.args.nearest.now c.set.new.self within fresh less c.set.ensures)
 
-pub returns-in_default-nearest_at : goal.returns-in_default-nearest_at
-returns-in_default-nearest_at c =
-    let known : nearest_at c.args.nearest.now c.in-Ref.to ≡ Some c.in_default-nearest_at.field-0 = sym (ap (λ (xs : List (Option ℕ)). nearest_at xs c.in-Ref.to) c.as_slice.ensures) ∙ sym c.nearest_at.ensures ∙ c.in_default-nearest_at.is in
-    rw c.in-Ref.is (offered_known c.args.depths.now c.args.from c.in-Ref.to c.in_default-nearest_at.field-0 c.args.nearest.now known)
+pub returns-in_default-get : goal.returns-in_default-get
+returns-in_default-get c =
+    let known : nearest_at c.args.nearest.now c.in-Ref.to ≡ Some c.in_default-get.field-0 = sym c.get.ensures.value ∙ c.in_default-get.is in
+    rw c.in-Ref.is (offered_known c.args.depths.now c.args.from c.in-Ref.to c.in_default-get.field-0 c.args.nearest.now known)
 
 pub returns-else-is_one_less : goal.returns-else-is_one_less
 returns-else-is_one_less c =

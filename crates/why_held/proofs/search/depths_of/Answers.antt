@@ -1,16 +1,24 @@
-use Rattle.std.proofs.Common.{◌≡◌, List, refl, ap, subst, arith, length, replicate, None}
+use Rattle.std.proofs.Common.{◌≡◌, ◌∙◌, List, refl, ap, subst, arith, length, replicate, None}
+use Rattle.lisp_graph.specs.declared.object.Object.{Object}
 use Rattle.lisp_graph.specs.declared.object.Value.{Value}
 use Rattle.lisp_graph.specs.World.{opening}
+use Rattle.why_held.specs.declared.search.Search.{Search}
 use Rattle.why_held.specs.Search.{Finds}
-use Rattle.why_held.proofs.Levels.{level_few, level_first, level_goes, level_last, level_within, padded}
+use Rattle.why_held.proofs.Levels.{level_few, level_first, level_goes, level_last, level_within}
 use Rattle.why_held.proofs.search.depths_of.Goals as goal
 
 pub loop-start-init : goal.loop-start-init
 loop-start-init c =
-    let e : c.pad.new.self ≡ replicate (length c.args.world.now.objects) None = padded (length c.as_slice-objects.result.now) (length c.args.world.now.objects) None c.new.result c.pad.new.self c.in_ok-pad.ensures.ok c.new.ensures (ap length c.as_slice-objects.ensures) in
-    let f : Finds 0 c.args.world.now.roots (record { depths = c.pad.new.self; found = c.new-2.result }) c.find_all.new.search =
-    (let P : List Value → Type 0 = λ vs. Finds 0 vs (record { depths = c.pad.new.self; found = c.new-2.result }) c.find_all.new.search in subst P c.as_slice.ensures c.in_ok-find_all.ensures) in
-    (c.as_slice-objects.ensures, level_first (opening c.args.world.now) (record { depths = c.pad.new.self; found = c.new-2.result }) c.find_all.new.search e c.new-2.ensures f)
+    let start : Search = record { depths = c.in_ok-depths.depths; found = c.new-found.result } in
+    let none : c.in_ok-depths.depths ≡ replicate (length c.args.world.now.objects) None = c.in_ok-depths.ensures ∙ ap (λ (os : List Object). replicate (length os) None) c.as_slice-objects.ensures in
+    let f : Finds 0 c.args.world.now.roots start c.find_all.new.search =
+    (let P : List Value → Type 0 = λ vs. Finds 0 vs start c.find_all.new.search in subst P c.as_slice.ensures c.in_ok-find_all.ensures) in
+    (c.as_slice-objects.ensures, level_first (opening c.args.world.now) start c.find_all.new.search none c.new-found.ensures f)
+
+pub find_next-requires-clause-shallow : goal.find_next-requires-clause-shallow
+find_next-requires-clause-shallow c =
+    let level = c.loop-start.invariant.1 in
+    omega (arith, level.ahead, level.counts, c.loop-start-test.true, c.len.ensures)
 
 pub overflow_add-depth : goal.overflow_add-depth
 overflow_add-depth c =

@@ -19,24 +19,27 @@ loop-place-init c =
 pub object_at-requires : goal.object_at-requires
 object_at-requires c =
     let w = found_within c.args.depth (length c.args.objects.now) _ c.args.search.now c.loop-place.search c.args.start c.loop-place.place c.loop-place.invariant.2 c.requires.in_range c.loop-place.invariant.0 (omega (arith, c.loop-place-test.true, c.len-end.ensures)) in
-    omega (arith, w, ap (λ (xs : List ℕ). get_or xs c.loop-place.place 0) c.as_slice.ensures)
+    omega (arith, w, ap (λ (xs : List ℕ). get_or xs c.loop-place.place 0) c.as_slice.ensures, c.from-object.ensures)
 
-pub find_parts-requires : goal.find_parts-requires
-find_parts-requires c =
-    let name = get_or c.as_slice.result.now c.loop-place.place 0 in
+pub find_parts-requires-clause-refers : goal.find_parts-requires-clause-refers
+find_parts-requires-clause-refers c =
+    let name = c.from-object.result in
     let w = found_within c.args.depth (length c.args.objects.now) _ c.args.search.now c.loop-place.search c.args.start c.loop-place.place c.loop-place.invariant.2 c.requires.in_range c.loop-place.invariant.0 (omega (arith, c.loop-place-test.true, c.len-end.ensures)) in
-    let l : name < length c.args.objects.now = omega (arith, w, ap (λ (xs : List ℕ). get_or xs c.loop-place.place 0) c.as_slice.ensures) in
+    let l : name < length c.args.objects.now = omega (arith, w, ap (λ (xs : List ℕ). get_or xs c.loop-place.place 0) c.as_slice.ensures, c.from-object.ensures) in
     let o = All-get_or (IsObject (length c.args.objects.now)) c.args.objects.now name no_object l c.requires.sound in
     let e : length c.loop-place.search.depths ≡ length c.args.objects.now = c.loop-place.invariant.2.size ∙ c.requires.size in
     rw c.object_at.ensures (rw e o.refers)
+
+pub find_parts-requires-clause-shallow : goal.find_parts-requires-clause-shallow
+find_parts-requires-clause-shallow c = omega (arith, c.loop-place.invariant.2.counts, c.requires.shallow)
 
 pub loop-place-preserved : goal.loop-place-preserved
 loop-place-preserved c =
     let names = drop c.args.start c.args.search.now.found in
     let k = c.loop-place.place - c.args.start in
-    let name = get_or c.as_slice.result.now c.loop-place.place 0 in
+    let name = c.from-object.result in
     let same = found_at c.args.depth _ c.args.search.now c.loop-place.search c.args.start c.loop-place.place c.loop-place.invariant.2 c.loop-place.invariant.0 (omega (arith, c.loop-place-test.true, c.len-end.ensures)) in
-    let e : get_or names k 0 ≡ name = sym same ∙ sym (ap (λ (xs : List ℕ). get_or xs c.loop-place.place 0) c.as_slice.ensures) in
+    let e : get_or names k 0 ≡ name = sym same ∙ sym (ap (λ (xs : List ℕ). get_or xs c.loop-place.place 0) c.as_slice.ensures) ∙ sym c.from-object.ensures in
     let l : k < length names = omega (arith, length-drop c.args.start c.args.search.now.found, c.loop-place-test.true, c.len-end.ensures, c.loop-place.invariant.0) in
     let f : Finds c.args.depth (parts_of (object_at c.args.objects.now name).body) c.loop-place.search c.find_parts.new.search =
     (let P : Object → Type 0 = λ o. Finds c.args.depth (parts_of o.body) c.loop-place.search c.find_parts.new.search in subst P c.object_at.ensures c.in_ok-find_parts.ensures) in (
