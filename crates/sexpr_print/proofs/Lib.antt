@@ -6,5 +6,6 @@ pub mod Steps
 pub mod FormStarts
 pub mod ListConses
 pub mod RootLines
+pub mod ReachedObjects
 pub mod SharedObjects
 pub mod WholePrint

@@ -123,6 +123,7 @@ labelled_next counts names entries label name are within first =
     let less = room_next entries name label below (are.given name below ∙ first) in
     let more : length (names ++ name ∷ []) ≡ length names + 1 = length-append names (name ∷ []) in
     record {
+      few = omega (arith, size, are.few);
       size = size ∙ are.size;
       given = λ other inside. given_next counts names entries label name other are fresh below (omega (arith, size)) (other == name) refl;
       next = ap (λ n. n + cond (shared_in counts name) 1 0) are.next ∙ sym (count_push (shared_in counts) names name (shared_in counts name) refl);

@@ -3,6 +3,7 @@ pub mod Printing
 pub mod Spelling
 pub mod Sharing
 pub mod Marks
+pub mod NameSets
 pub mod Writing
 pub mod Tasks
 pub mod Lines

@@ -1,5 +1,5 @@
 -- The objects that were printed, with their labels.
-use Rattle.std.specs.Prelude.{◌≡◌, ℕ, zero, suc, ◌<◌, ◌+◌, Bool, true, false, List, length, count_by, slice_index, Option, Some, None, if◌then◌else◌}
+use Rattle.std.specs.Prelude.{◌≡◌, ℕ, zero, suc, ◌<◌, ◌+◌, ◌^◌, Bool, true, false, List, length, count_by, slice_index, Option, Some, None, if◌then◌else◌}
 use Rattle.lisp_graph.specs.KeyedGraph.{keyed}
 use Rattle.lisp_graph.specs.World.{opening}
 use Rattle.lisp_graph.specs.declared.world.World.{World}
@@ -47,6 +47,7 @@ is_unmarked (suc label) = false
 
 -- each object that was printed has its label, and no other has one
 pub record AreLabelled (marks : Marks) (entries : List ℕ) (label : ℕ) : Type 0 where
+  pub few : length entries < 2 ^ 32
   pub size : length entries ≡ length marks.counts
   pub given : (name : ℕ) → name < length entries → entry_label (slice_index entries name) ≡ label_in marks name
   pub next : label ≡ count_by (shared_in marks.counts) marks.names

@@ -4,6 +4,7 @@
 //! stack of what remains to be printed; specs/Tasks says what its tasks print. Begin with `print`, then `printer`.
 #![tactic(auto)]
 
+mod name_set;
 mod print;
 mod printed;
 mod printer;

@@ -84,7 +84,7 @@ fn print_end(line: &mut TokenText, world: &World) -> Result<(), NoMemory>
 
 /// The text that a world is printed as: its header, a line for each register that isn't nil, and `end-sexpr`. A world may be
 /// nested as deep as memory allows; each of its objects and references is looked at a constant number of times. It fails only
-/// if memory runs out, or if the registers reach more than 2^32 - 1 objects.
+/// if memory runs out, or if the world has 2^32 objects or more.
 pub fn print_sexpr(alloc: Global, world: &World) -> Result<Text, NoMemory>
     requires { IsWorld world.now }
     ensures value { IfOk result (λ text. IsPrint world.now text) }

@@ -21,7 +21,7 @@ fn entry_label(entry: u32) -> Option<u32>
 #[derive(Drop)]
 pub struct Printed {
     counts: Sequence<References>,
-    names: Sequence<u64>,
+    names: Sequence<u32>,
     /// For each object 0 if it wasn't printed, or else its label plus 1.
     entries: Sequence<u32>,
     /// The label of the next shared object.
@@ -42,11 +42,15 @@ impl Printed {
     ghost use Rattle.std.specs.Prelude.{◌≡◌, ◌<◌, ◌≤◌, ◌++◌, [], ◌∷◌, length, IfOk, OnOk, None};
     ghost use Rattle.sexpr_print.specs.Marks.{label_in, new_label, shared_in};
 
-    /// Before any object is printed. Contracts see the references to each object, and the names that were printed.
+    /// Before any object is printed. Contracts see the references to each object, and the names that were printed. It fails if
+    /// memory runs out, and for 2^32 objects or more.
     pub fn new(alloc: Global, counts: Sequence<References>) -> Result<Printed, NoMemory>
         ensures value { IfOk result (λ printed. printed.counts ≡ counts) }
         ensures empty { IfOk result (λ printed. printed.names ≡ []) }
     {
+        if counts.len() > u64::from(u32::MAX) {
+            return Err(NoMemory);
+        }
         let mut entries = Sequence::new(alloc);
         entries.pad(counts.len() as usize, 0)?;
         Ok(Printed {
@@ -87,7 +91,7 @@ impl Printed {
             return Err(NoMemory);
         };
         let shared = self.is_shared(name);
-        self.names.push(name)?;
+        self.names.push(name as u32)?;
         self.entries.set(name as usize, entry);
         self.next = label + u32::from(shared);
         Ok(shared.then_some(label))

@@ -3,6 +3,7 @@ ghost use Rattle.std.specs.Prelude.{◌≡◌, ◌<◌, length, slice_get, IfSom
 ghost use Rattle.lisp_graph.specs.Groups.{is_nil};
 ghost use Rattle.lisp_graph.specs.Graph.{RefersBelow, object_at};
 ghost use Rattle.lisp_graph.specs.declared.object.Body.TheVariants.{Cons as a_cons};
+ghost use Rattle.lisp_graph.specs.Objects.{body_copied};
 ghost use Rattle.std.specs.Option.{option_map};
 ghost use Rattle.sexpr_print.specs.Marks.{shared_in};
 ghost use Rattle.sexpr_print.specs.Printing.{bracket_of, next_of};
@@ -11,7 +12,7 @@ ghost use Rattle.sexpr_print.specs.Tasks.{fields_in};
 use crate::printed::Printed;
 use crate::task::PrintTask;
 use crate::token_text::{TokenText, number_token};
-use lisp_graph::{AreaRule, Body, NoMemory, Object, Value, World, object_at};
+use lisp_graph::{AreaRule, BodyRef, NoMemory, Objects, Value, World};
 use sexpr_text::{Bracket, Token};
 
 /// The brackets of a list form.
@@ -41,7 +42,7 @@ struct Next {
 }
 
 /// The next cons of a list form: the cdr, if it is a cons of the same area and charge that is neither shared nor printed.
-fn next_of(objects: &[Object], printed: &Printed, area: u8, charge: u32, cdr: Value) -> Option<Next>
+fn next_of(objects: &Objects, printed: &Printed, area: u8, charge: u32, cdr: Value) -> Option<Next>
     requires size { length printed.now.counts ≡ length objects.now }
     requires refers { RefersBelow (length objects.now) cdr }
     ensures value { option_map (λ next. next.name) result ≡ next_of objects.now (shared_in printed.now.counts) printed.now.names area charge cdr }
@@ -51,8 +52,8 @@ fn next_of(objects: &[Object], printed: &Printed, area: u8, charge: u32, cdr: Va
     let Value::Ref(name) = cdr else {
         return None;
     };
-    let object = object_at(objects, name);
-    let Body::Cons { car, cdr } = object.body else {
+    let object = objects.at(name as usize);
+    let BodyRef::Cons { car, cdr } = object.body else {
         return None;
     };
     let goes = object.area == area
@@ -67,13 +68,13 @@ fn next_of(objects: &[Object], printed: &Printed, area: u8, charge: u32, cdr: Va
 }
 
 /// The field of a block at this index.
-fn field_at(body: &Body, index: u64) -> Option<Value>
-    ensures value { result ≡ slice_get (fields_in body.now) index }
-    ensures in_range { IfSome result (λ _. index < length (fields_in body.now)) }
+fn field_at(body: BodyRef<'_>, index: u64) -> Option<Value>
+    ensures value { result ≡ slice_get (fields_in (body_copied body.entry)) index }
+    ensures in_range { IfSome result (λ _. index < length (fields_in (body_copied body.entry))) }
 {
     match body {
-        Body::Cons { .. } => None,
-        Body::Block { fields, .. } => fields.get(index).copied(),
+        BodyRef::Cons { .. } => None,
+        BodyRef::Block { fields, .. } => fields.get(index as usize).copied(),
     }
 }
 
@@ -133,17 +134,17 @@ impl Printer {
         ensures { OnOk result (Opens world.now name self.old self.new) }
     {
         let areas = world.areas.as_slice();
-        let object = object_at(world.objects.as_slice(), name);
-        match &object.body {
-            Body::Cons { car, cdr } => {
+        let object = world.objects.at(name as usize);
+        match object.body {
+            BodyRef::Cons { car, cdr } => {
                 let open = Token::Open {
                     area: Some(object.area),
                     bracket: bracket_of(object.charge),
                 };
                 self.text.add(areas, open)?;
-                self.cons(object.area, object.charge, *car, *cdr)
+                self.cons(object.area, object.charge, car, cdr)
             }
-            Body::Block { code, .. } => self.block(areas, name, object.area, *code),
+            BodyRef::Block { code, .. } => self.block(areas, name, object.area, code),
         }
     }
 
@@ -211,7 +212,7 @@ impl Printer {
         ensures { OnOk result (Steps world.now (a_rest area charge cdr) self.old.tasks.items self.old self.new) }
     {
         let mut cdr = cdr;
-        while let Some(next) = next_of(world.objects.as_slice(), &self.printed, area, charge, cdr) {
+        while let Some(next) = next_of(&world.objects, &self.printed, area, charge, cdr) {
             self.printed.add(next.name)?;
             if let Value::Ref(_) = next.car {
                 return self.cons(area, charge, next.car, next.cdr);
@@ -229,8 +230,8 @@ impl Printer {
         requires in_range { name < length world.now.objects }
         ensures { OnOk result (Steps world.now (some_fields name index) self.old.tasks.items self.old self.new) }
     {
-        let object = object_at(world.objects.as_slice(), name);
-        let Some(value) = field_at(&object.body, index) else {
+        let object = world.objects.at(name as usize);
+        let Some(value) = field_at(object.body, index) else {
             let close = Token::Close(Bracket::Curly);
             return self.text.add(world.areas.as_slice(), close);
         };

@@ -2,15 +2,16 @@
 ghost use Rattle.std.specs.Prelude.{◌≡◌, ◌<◌, ◌∷◌, [], length, flat_map, IfOk};
 ghost use Rattle.std.specs.List.{All};
 ghost use Rattle.lisp_graph.specs.Graph.{IsGraph, IsObject, PartsReferBelow, RefersBelow, object_at};
+ghost use Rattle.lisp_graph.specs.Objects.{body_copied};
 ghost use Rattle.lisp_graph.specs.World.{opening};
 ghost use Rattle.sexpr_print.specs.Marks.{CountsReached};
 ghost use Rattle.sexpr_print.specs.Places.{held, parts};
 ghost use Rattle.sexpr_print.specs.Sharing.{AreCounted, Counts, is_many, one_more};
 
+use crate::name_set::NameSet;
 use crate::reaching::reached;
-use lisp_graph::{Body, NoMemory, Object, Sequence, Value, World, object_at};
+use lisp_graph::{BodyRef, NoMemory, Objects, Sequence, Value, World};
 use std::alloc::Global;
-use world_text::KeyNumbers;
 
 /// How many places refer to an object, counted up to two.
 #[derive(Clone, Copy, Debug, PartialEq, Eq)]
@@ -59,29 +60,29 @@ fn count_all(counts: &mut Sequence<References>, values: &[Value])
 }
 
 /// Counts what an object holds.
-fn count_parts(counts: &mut Sequence<References>, body: &Body)
-    requires { PartsReferBelow (length counts.old) body.now }
-    ensures { Counts (parts body.now) counts.old counts.new }
+fn count_parts(counts: &mut Sequence<References>, body: BodyRef<'_>)
+    requires { PartsReferBelow (length counts.old) (body_copied body) }
+    ensures { Counts (parts (body_copied body.entry)) counts.old counts.new }
 {
     match body {
-        Body::Cons { car, cdr } => {
-            count(counts, *car);
-            count(counts, *cdr);
+        BodyRef::Cons { car, cdr } => {
+            count(counts, car);
+            count(counts, cdr);
         }
-        Body::Block { fields, .. } => count_all(counts, fields.as_slice()),
+        BodyRef::Block { fields, .. } => count_all(counts, fields),
     }
 }
 
 /// Counts what the objects with these names hold.
-fn count_objects(counts: &mut Sequence<References>, objects: &[Object], names: &KeyNumbers)
+fn count_objects(counts: &mut Sequence<References>, objects: &Objects, names: &NameSet)
     requires size { length counts.old ≡ length objects.now }
     requires sound { All (IsObject (length objects.now)) objects.now }
-    requires in_range { All (λ name. name < length objects.now) names.now }
-    ensures { Counts (flat_map (λ name. parts (object_at objects.now name).body) names.now) counts.old counts.new }
+    requires in_range { All (λ name. name < length objects.now) names.now.names }
+    ensures { Counts (flat_map (λ name. parts (object_at objects.now name).body) names.now.names) counts.old counts.new }
 {
     let mut number = 0;
-    while let Some(name) = names.key(number) {
-        count_parts(counts, &object_at(objects, name).body);
+    while let Some(name) = names.name(number) {
+        count_parts(counts, objects.body(name as usize));
         number += 1;
     }
 }
@@ -90,16 +91,16 @@ fn count_objects(counts: &mut Sequence<References>, objects: &[Object], names: &
 fn references_of(
     alloc: Global,
     world: &World,
-    names: &KeyNumbers,
+    names: &NameSet,
 ) -> Result<Sequence<References>, NoMemory>
     requires graph { IsGraph (opening world.now) }
-    requires in_range { All (λ name. name < length world.now.objects) names.now }
-    ensures value { IfOk result (λ counts. AreCounted (held (opening world.now) names.now) counts) }
+    requires in_range { All (λ name. name < length world.now.objects) names.now.names }
+    ensures value { IfOk result (λ counts. AreCounted (held (opening world.now) names.now.names) counts) }
     ensures size { IfOk result (λ counts. length counts ≡ length world.now.objects) }
 {
-    let objects = world.objects.as_slice();
+    let objects = &world.objects;
     let mut counts = Sequence::new(alloc);
-    counts.pad(objects.len(), References::No)?;
+    counts.pad(objects.len() as usize, References::No)?;
     count_all(&mut counts, world.roots.as_slice());
     count_objects(&mut counts, objects, names);
     Ok(counts)
@@ -108,11 +109,10 @@ fn references_of(
 /// How many registers, and places in the objects that the registers reach, refer to each object. What the registers reach is
 /// kept only until these are counted.
 pub fn reached_references(alloc: Global, world: &World) -> Result<Sequence<References>, NoMemory>
-    requires graph { IsGraph (opening world.now) }
-    requires size { length world.now.roots ≡ world.now.space.registers }
+    requires { IsGraph (opening world.now) }
     ensures { IfOk result (CountsReached world.now) }
 {
-    let numbering = reached(alloc, world)?;
-    let counts = references_of(alloc, world, &numbering.keys)?;
+    let names = reached(alloc, world)?;
+    let counts = references_of(alloc, world, &names)?;
     Ok(counts)
 }

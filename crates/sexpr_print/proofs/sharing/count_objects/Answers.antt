@@ -7,5 +7,5 @@ use Rattle.sexpr_print.proofs.sharing.count_objects.Goals as goal
 pub loop-name-preserved : goal.loop-name-preserved
 loop-name-preserved c =
     let holds = λ (name : ℕ). parts (object_at c.args.objects.now name).body in
-    counts_object holds c.args.names.now c.loop-name.number c.in-Some.name c.args.counts.now c.loop-name.counts c.count_parts.new.counts (sym c.key.ensures.value ∙ c.in-Some.is) c.loop-name.invariant
-    (rw c.object_at.ensures at c.count_parts.ensures)
+    counts_object holds c.args.names.now.names c.loop-name.number c.in-Some.name c.args.counts.now c.loop-name.counts c.count_parts.new.counts (sym c.name.ensures.value ∙ c.in-Some.is) c.loop-name.invariant
+    (rw c.body.ensures at c.count_parts.ensures)

@@ -6,7 +6,7 @@ use Rattle.sexpr_print.specs.Sharing.{Counts}
 use Rattle.sexpr_print.proofs.sharing.count_objects.Given as goal
 
 abbrev pub invariant-loop-name : goal.invariant-loop-name
-invariant-loop-name l = Counts (flat_map (λ name. parts (object_at l.objects name).body) (take l.number l.names)) l.fn.counts l.counts
+invariant-loop-name l = Counts (flat_map (λ name. parts (object_at l.objects name).body) (take l.number l.names.names)) l.fn.counts l.counts
 
 abbrev pub decreases-loop-name : goal.decreases-loop-name
-decreases-loop-name l = length l.names - l.number
+decreases-loop-name l = length l.names.names - l.number

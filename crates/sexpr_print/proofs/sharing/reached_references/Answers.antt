@@ -4,10 +4,10 @@ use Rattle.sexpr_print.proofs.sharing.reached_references.Goals as goal
 pub returns : goal.returns
 returns c =
     let world = c.args.world.now in
-    let names = c.in_ok-numbering.numbering.keys in
+    let names = c.in_ok-names.names.names in
     record {
       names = names;
-      reached = c.in_ok-numbering.ensures.value;
-      shared = same_shared world names c.in_ok-counts.counts c.requires.graph c.in_ok-numbering.ensures.in_range c.in_ok-counts.ensures.value c.in_ok-counts.ensures.size;
+      reached = c.in_ok-names.ensures.value;
+      shared = same_shared world names c.in_ok-counts.counts c.requires c.in_ok-names.ensures.in_range c.in_ok-counts.ensures.value c.in_ok-counts.ensures.size;
       size = c.in_ok-counts.ensures.size;
     }

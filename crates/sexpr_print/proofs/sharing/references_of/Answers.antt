@@ -1,7 +1,6 @@
 use Rattle.std.proofs.Common.{◌-◌, ◌∙◌, ap, subst, List, ◌++◌, length}
 use Rattle.std.specs.Prelude.{replicate, flat_map}
 use Rattle.lisp_graph.specs.Graph.{object_at}
-use Rattle.lisp_graph.specs.declared.object.Object.{Object}
 use Rattle.lisp_graph.specs.declared.object.Value.{Value}
 use Rattle.sexpr_print.specs.Places.{parts}
 use Rattle.sexpr_print.specs.Sharing.{Counts}
@@ -18,7 +17,6 @@ returns-clause-value c =
     let roots = c.args.world.now.roots in
     let objects = c.args.world.now.objects in
     let P : List Value → Type 0 = λ vs. Counts vs first middle in
-    let Q : List Object → Type 0 = λ os. Counts (flat_map (λ name. parts (object_at os name).body) c.args.names.now) middle last in
-    let f : List References → List References = λ l. l ++ replicate (length c.as_slice-objects.result.now - length l) No in
-    counted_all (roots ++ flat_map (λ name. parts (object_at objects name).body) c.args.names.now) _ first last (c.in_ok-pad.ensures.ok ∙ ap f c.new-counts.ensures)
-    (counts_then roots (flat_map (λ name. parts (object_at objects name).body) c.args.names.now) first middle last (subst P c.as_slice.ensures c.count_all.ensures) (subst Q c.as_slice-objects.ensures c.count_objects.ensures))
+    let f : List References → List References = λ l. l ++ replicate (c.len.result - length l) No in
+    counted_all (roots ++ flat_map (λ name. parts (object_at objects name).body) c.args.names.now.names) _ first last (c.in_ok-pad.ensures.ok ∙ ap f c.new-counts.ensures)
+    (counts_then roots (flat_map (λ name. parts (object_at objects name).body) c.args.names.now.names) first middle last (subst P c.as_slice.ensures c.count_all.ensures) c.count_objects.ensures)

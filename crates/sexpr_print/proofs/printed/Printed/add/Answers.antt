@@ -18,3 +18,6 @@ invariant_of-self-2 c =
 
 pub returns-clause-room : goal.returns-clause-room
 returns-clause-room c = let are = invariant_of-self-2 c in omega (arith, are.room)
+
+pub overflow_cast-name : goal.overflow_cast-name
+overflow_cast-name c = omega (arith, c.self.invariant.size, c.self.invariant.few, (rw (← c.self.view_is) at c.requires.in_range))

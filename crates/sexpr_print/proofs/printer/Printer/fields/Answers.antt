@@ -1,5 +1,6 @@
-use Rattle.std.proofs.Common.{◌≡◌, ◌∷◌, ◌++◌, ◌+◌, ◌<◌, [], ◌∙◌, append_assoc, List, Some, None, refl, sym, ap, arith, length}
+use Rattle.std.proofs.Common.{◌≡◌, ◌∷◌, ◌++◌, ◌+◌, ◌<◌, [], ◌∙◌, append_assoc, Some, None, refl, sym, ap, subst, arith, length}
 use Rattle.lisp_graph.specs.Graph.{object_at}
+use Rattle.lisp_graph.specs.Objects.{object_copied}
 use Rattle.lisp_graph.specs.declared.object.Object.{Object}
 use Rattle.std.specs.Prelude.{slice_get}
 use Rattle.sexpr_text.specs.declared.bracket.Bracket.TheVariants.{Curly}
@@ -17,12 +18,12 @@ pub returns-in_default : goal.returns-in_default
 returns-in_default c =
     let world = c.args.world.now in
     let old = c.args.self.now in
-    let at : c.object_at-object.result.now ≡ object_at world.objects c.args.name = c.object_at-object.ensures ∙ ap (λ (os : List Object). object_at os c.args.name) c.as_slice.ensures in
+    let at : object_copied c.at-object.result ≡ object_at world.objects c.args.name = c.at-object.ensures in
     let none : slice_get (fields_in (object_at world.objects c.args.name).body) c.args.index ≡ None =
     ap (λ (o : Object). slice_get (fields_in o.body) c.args.index) (sym at) ∙ sym c.field_at.ensures.value ∙ c.in_default.is in
     let new = record old { text = c.add.new.self } in
-    on_ok c.add.result (Adds c.as_slice-in_default.result.now (Close Curly ∷ []) old.text c.add.new.self) (Steps world (K.Fields c.args.name c.args.index) old.tasks.items old new)
-    (λ adds. steps_end world (K.Fields c.args.name c.args.index) old.tasks.items old new (Close Curly ∷ []) refl (rw c.as_slice-in_default.ensures at adds) refl
+    on_ok c.add.result (Adds c.as_slice.result.now (Close Curly ∷ []) old.text c.add.new.self) (Steps world (K.Fields c.args.name c.args.index) old.tasks.items old new)
+    (λ adds. steps_end world (K.Fields c.args.name c.args.index) old.tasks.items old new (Close Curly ∷ []) refl (rw c.as_slice.ensures at adds) refl
     (fields_end world.objects (shared_in old.printed.counts) c.args.name c.args.index old.printed.names none) (omega arith))
     c.add.ensures
 
@@ -30,11 +31,12 @@ pub returns : goal.returns
 returns c =
     let world = c.args.world.now in
     let old = c.args.self.now in
-    let at : c.object_at-object.result.now ≡ object_at world.objects c.args.name = c.object_at-object.ensures ∙ ap (λ (os : List Object). object_at os c.args.name) c.as_slice.ensures in
+    let at : object_copied c.at-object.result ≡ object_at world.objects c.args.name = c.at-object.ensures in
     let some : slice_get (fields_in (object_at world.objects c.args.name).body) c.args.index ≡ Some c.in-Some.value =
     ap (λ (o : Object). slice_get (fields_in o.body) c.args.index) (sym at) ∙ sym c.field_at.ensures.value ∙ c.in-Some.is in
     let sound = object_sound world c.args.name c.requires.graph c.requires.in_range in
-    let within : c.args.index < length (fields_in (object_at world.objects c.args.name).body) = rw at at c.in-Some.ensures.in_range in
+    let within : c.args.index < length (fields_in (object_at world.objects c.args.name).body) =
+    (let P : Object → Type 0 = λ o. c.args.index < length (fields_in o.body) in subst P at c.in-Some.ensures.in_range) in
     let last = K.Fields c.args.name (c.args.index + 1) in
     let next = K.Value c.in-Some.value in
     steps_level world (K.Fields c.args.name c.args.index) old.tasks.items (last ∷ next ∷ []) old (record old { tasks = c.push-2.new.self }) []

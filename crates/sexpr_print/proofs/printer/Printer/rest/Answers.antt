@@ -1,6 +1,5 @@
 use Rattle.std.proofs.Common.{◌≡◌, ◌∷◌, ◌++◌, ◌<◌, [], ◌∙◌, List, Some, refl, sym, ap, subst, arith, length, length-append}
 use Rattle.lisp_graph.specs.Graph.{object_at}
-use Rattle.lisp_graph.specs.declared.object.Object.{Object}
 use Rattle.lisp_graph.specs.declared.object.Body.TheVariants as B
 use Rattle.lisp_graph.specs.declared.world.AreaRule.{AreaRule}
 use Rattle.sexpr_text.specs.declared.token.Token.TheVariants.{Atom}
@@ -18,10 +17,10 @@ use Rattle.sexpr_print.proofs.Writes.{adds_none}
 use Rattle.sexpr_print.proofs.printer.Printer.rest.Goals as goal
 
 pub next_of-requires-clause-size : goal.next_of-requires-clause-size
-next_of-requires-clause-size c = ap length c.loop-next.invariant.counts ∙ c.requires.size ∙ ap length (sym c.as_slice.ensures)
+next_of-requires-clause-size c = ap length c.loop-next.invariant.counts ∙ c.requires.size
 
 pub next_of-requires-clause-refers : goal.next_of-requires-clause-refers
-next_of-requires-clause-refers c = rw c.as_slice.ensures c.loop-next.invariant.refers
+next_of-requires-clause-refers c = c.loop-next.invariant.refers
 
 pub loop-next-init : goal.loop-next-init
 loop-next-init c = along_none c.args.world.now c.args.area c.args.charge c.args.cdr c.args.self.now c.requires.refers
@@ -36,9 +35,9 @@ returns-in-Ref c =
     let cdr = c.loop-next.cdr in
     let task = K.Rest c.args.area c.args.charge cdr in
     let is : next_of world.objects shared old.printed.names c.args.area c.args.charge cdr ≡ Some next.name =
-    ap (λ (os : List Object). next_of os shared old.printed.names c.args.area c.args.charge cdr) (sym c.as_slice.ensures) ∙ next_some c.next_of.result next _ c.in-Some.is c.next_of.ensures.value in
-    let body : (object_at world.objects next.name).body ≡ B.Cons next.car next.cdr = ap (λ (os : List Object). (object_at os next.name).body) (sym c.as_slice.ensures) ∙ c.in-Some.ensures.some in
-    let within : next.name < length world.objects = rw c.as_slice.ensures at c.in-Some.ensures.in_range in
+    next_some c.next_of.result next _ c.in-Some.is c.next_of.ensures.value in
+    let body : (object_at world.objects next.name).body ≡ B.Cons next.car next.cdr = c.in-Some.ensures.some in
+    let within : next.name < length world.objects = c.in-Some.ensures.in_range in
     let pushed = K.Rest c.args.area c.args.charge next.cdr ∷ K.Value next.car ∷ [] in
     let A : TokenText → Type 0 = λ t. Adds world.areas [] old.text t in
     on_ok c.cons.result (new.tasks.items ≡ old.tasks.items ++ pushed) (Steps world (K.Rest c.args.area c.args.charge c.args.cdr) c.args.self.now.tasks.items c.args.self.now new)
@@ -59,12 +58,12 @@ loop-next-preserved c =
     let next = c.in-Some.next in
     let cdr = c.loop-next.cdr in
     let is : next_of world.objects shared old.printed.names c.args.area c.args.charge cdr ≡ Some next.name =
-    ap (λ (os : List Object). next_of os shared old.printed.names c.args.area c.args.charge cdr) (sym c.as_slice.ensures) ∙ next_some c.next_of.result next _ c.in-Some.is c.next_of.ensures.value in
-    let body : (object_at world.objects next.name).body ≡ B.Cons next.car next.cdr = ap (λ (os : List Object). (object_at os next.name).body) (sym c.as_slice.ensures) ∙ c.in-Some.ensures.some in
-    let within : next.name < length world.objects = rw c.as_slice.ensures at c.in-Some.ensures.in_range in
+    next_some c.next_of.result next _ c.in-Some.is c.next_of.ensures.value in
+    let body : (object_at world.objects next.name).body ≡ B.Cons next.car next.cdr = c.in-Some.ensures.some in
+    let within : next.name < length world.objects = c.in-Some.ensures.in_range in
     let P : List AreaRule → Type 0 = λ areas. Adds areas (Atom next.car ∷ []) old.text c.add-in-Some.new.self in
     along_more world c.args.area c.args.charge c.args.cdr cdr next.car next.cdr next.name c.args.self.now old (record old { printed = c.add.new.self; text = c.add-in-Some.new.self }) c.loop-next.invariant is body c.in_default-car.not-Ref
-    refl (subst P c.as_slice-in-Some.ensures c.in_ok-add-2.ensures) c.in_ok-add.ensures.unchanged c.in_ok-add.ensures.after
+    refl (subst P c.as_slice.ensures c.in_ok-add-2.ensures) c.in_ok-add.ensures.unchanged c.in_ok-add.ensures.after
     (cdr_sound (length world.objects) (object_at world.objects next.name) next.car next.cdr body (object_sound world next.name c.requires.graph within))
 
 pub loop-next-smaller : goal.loop-next-smaller
@@ -80,7 +79,7 @@ last-requires-clause-refers c = c.loop-next.invariant.refers
 pub last-requires-clause-none : goal.last-requires-clause-none
 last-requires-clause-none c =
     let old = c.loop-next.self in
-    ap (λ (os : List Object). next_of os (shared_in old.printed.counts) old.printed.names c.args.area c.args.charge c.loop-next.cdr) (sym c.as_slice.ensures) ∙ next_none c.next_of.result _ c.in_default.is c.next_of.ensures.value
+    next_none c.next_of.result _ c.in_default.is c.next_of.ensures.value
 
 pub returns : goal.returns
 returns c =
