@@ -3,7 +3,6 @@ use Rattle.std.proofs.Common.{◌≡◌, ℕ, suc, ◌+◌, ◌<◌, ◌≤◌, 
 use Rattle.std.proofs.lemmas.Bool.{and_from, and_parts, eqb-true, eq-eqb}
 use Rattle.std.proofs.lemmas.List.{drop_at, length-take-le, set_split}
 use Rattle.lisp_graph.specs.declared.object.Value.TheVariants.{Ref}
-use Rattle.lisp_graph.specs.declared.object.Object.{Object}
 use Rattle.lisp_graph.specs.Graph.{Graph, body_refers, is_ref, object_at, value_at}
 use Rattle.why_held.specs.declared.chain.Part.{Part}
 use Rattle.why_held.specs.declared.chain.Hop.{Hop}
@@ -39,12 +38,6 @@ pub record Ending (graph : Graph) (depths : List (Option ℕ)) (object depth : �
   pub deep : depth_at depths to ≡ Some place
   pub leads : Leads graph.objects to (drop (suc place) hops) object
   pub chosen : AreFirstReferences graph.objects depths to (drop (suc place) hops)
-
-pub near_along : (objects others : List Object) (depths nearest same : List (Option ℕ)) (most : ℕ) → AreNearest objects depths most (length objects) nearest → objects ≡ others → same ≡ nearest → AreNearest others depths most (length others) same
-near_along objects others depths nearest same most near e f =
-    let P : List Object → Type 0 = λ os. AreNearest os depths most (length os) same in
-    let Q : List (Option ℕ) → Type 0 = λ xs. AreNearest objects depths most (length objects) xs in
-    subst P e (subst Q (sym f) near)
 
 module _ (graph : Graph) (depths : List (Option ℕ)) (levels : AreLevels graph depths) where
   -- What was found for an object that isn't at depth 0

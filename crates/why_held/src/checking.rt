@@ -2,6 +2,7 @@
 ghost use Rattle.std.specs.Prelude.{◌≡◌, ◌↔◌, ◌+◌, ◌<◌, ◌∷◌, [], length, IsTrue};
 ghost use Rattle.std.specs.List.{All};
 ghost use Rattle.lisp_graph.specs.Graph.{IsGraph, IsObject, PartsReferBelow, RefersBelow};
+ghost use Rattle.lisp_graph.specs.Objects.{body_copied};
 ghost use Rattle.lisp_graph.specs.World.{opening};
 ghost use Rattle.why_held.specs.Chains.{IsChain, IsHeld, Leads, Refers, depth_at, register_value, value_in};
 ghost use Rattle.why_held.specs.Checking.{IsAnswered, has_length};
@@ -10,8 +11,8 @@ ghost use Rattle.why_held.specs.Search.{AreBounds, AreNextWithin, AreWithin, IsN
 
 use crate::chain::{Depths, Held, Hop, Part, Why};
 use crate::holding::is_ref;
-use crate::search::{depth_at, object_at};
-use lisp_graph::{Body, Object, Value, World};
+use crate::search::depth_at;
+use lisp_graph::{BodyRef, Objects, Value, World};
 
 // Depths
 
@@ -43,37 +44,37 @@ fn are_within(depths: &Depths, most: u64, values: &[Value]) -> bool
 }
 
 /// Whether the objects to which the parts of an object refer do.
-fn parts_within(depths: &Depths, most: u64, body: &Body) -> bool
-    requires { PartsReferBelow (length depths.now) body.now }
-    ensures { IsTrue result ↔ AreWithin depths.now most (parts_of body.now) }
+fn parts_within(depths: &Depths, most: u64, body: BodyRef<'_>) -> bool
+    requires { PartsReferBelow (length depths.now) (body_copied body) }
+    ensures { IsTrue result ↔ AreWithin depths.now most (parts_of (body_copied body.entry)) }
 {
     match body {
-        Body::Cons { car, cdr } => are_within(depths, most, &[*car, *cdr]),
-        Body::Block { fields, .. } => are_within(depths, most, fields.as_slice()),
+        BodyRef::Cons { car, cdr } => are_within(depths, most, &[car, cdr]),
+        BodyRef::Block { fields, .. } => are_within(depths, most, fields),
     }
 }
 
 /// Whether each reference in this object leads at most one deeper.
-fn is_next_within(depths: &Depths, objects: &[Object], from: u64) -> bool
+fn is_next_within(depths: &Depths, objects: &Objects, from: u64) -> bool
     requires from { from < length objects.now }
     requires size { length depths.now ≡ length objects.now }
     requires sound { All (IsObject (length objects.now)) objects.now }
     ensures { IsTrue result ↔ IsNextWithin objects.now depths.now from }
 {
     match depth_at(depths, from) {
-        Some(depth) => parts_within(depths, u64::from(depth) + 1, &object_at(objects, from).body),
+        Some(depth) => parts_within(depths, u64::from(depth) + 1, objects.body(from as usize)),
         None => true,
     }
 }
 
 /// Whether each reference leads at most one deeper.
-fn are_next_within(depths: &Depths, objects: &[Object]) -> bool
+fn are_next_within(depths: &Depths, objects: &Objects) -> bool
     requires size { length depths.now ≡ length objects.now }
     requires sound { All (IsObject (length objects.now)) objects.now }
     ensures { IsTrue result ↔ AreNextWithin objects.now depths.now }
 {
     let mut from = 0;
-    while from < objects.len() {
+    while from < objects.len() as usize {
         if !is_next_within(depths, objects, from as u64) {
             return false;
         }
@@ -91,20 +92,20 @@ fn are_bounds(depths: &Depths, world: &World) -> bool
     if !are_within(depths, 0, world.roots.as_slice()) {
         return false;
     }
-    are_next_within(depths, world.objects.as_slice())
+    are_next_within(depths, &world.objects)
 }
 
 // Chains
 
 /// The value in a part of an object; nil if it has no such part.
-fn value_in(body: &Body, part: Part) -> Value
-    ensures { result ≡ value_in body.now part }
+fn value_in(body: BodyRef<'_>, part: Part) -> Value
+    ensures { result ≡ value_in (body_copied body.entry) part }
 {
     match (body, part) {
-        (Body::Cons { car, .. }, Part::Car) => *car,
-        (Body::Cons { cdr, .. }, Part::Cdr) => *cdr,
-        (Body::Block { fields, .. }, Part::Field(index)) => {
-            match fields.get(u64::from(index)) {
+        (BodyRef::Cons { car, .. }, Part::Car) => car,
+        (BodyRef::Cons { cdr, .. }, Part::Cdr) => cdr,
+        (BodyRef::Block { fields, .. }, Part::Field(index)) => {
+            match fields.get(index as usize) {
                 Some(value) => *value,
                 None => Value::Nil,
             }
@@ -114,17 +115,17 @@ fn value_in(body: &Body, part: Part) -> Value
 }
 
 /// Whether the part of the object `from` that the hop names refers to the object to which the hop leads.
-fn refers(objects: &[Object], from: u64, hop: Hop) -> bool
+fn refers(objects: &Objects, from: u64, hop: Hop) -> bool
     ensures { IsTrue result ↔ Refers objects.now from hop }
 {
-    if from >= objects.len() as u64 {
+    if from >= objects.len() {
         return false;
     }
-    is_ref(hop.to, value_in(&object_at(objects, from).body, hop.part))
+    is_ref(hop.to, value_in(objects.body(from as usize), hop.part))
 }
 
 /// Whether the references lead from one object to the other.
-fn leads(objects: &[Object], from: u64, hops: &[Hop], to: u64) -> bool
+fn leads(objects: &Objects, from: u64, hops: &[Hop], to: u64) -> bool
     ensures { IsTrue result ↔ Leads objects.now from hops.now to }
 {
     let mut at = from;
@@ -161,7 +162,7 @@ fn is_chain(world: &World, hops: &[Hop], object: u64) -> bool
     if !is_ref(first.to, register_value(world.roots.as_slice(), first.part)) {
         return false;
     }
-    leads(world.objects.as_slice(), first.to, &hops[1..], object)
+    leads(&world.objects, first.to, &hops[1..], object)
 }
 
 // Answers
@@ -200,7 +201,7 @@ pub fn check_why(world: &World, object: u64, answer: &Why) -> bool
     ensures whole { IsWhy (opening world.now) object answer.now → IsTrue result }
 {
     let depths = &answer.depths;
-    if depths.len() != world.objects.as_slice().len() {
+    if depths.len() as u64 != world.objects.len() {
         return false;
     }
     if !are_bounds(depths, world) {

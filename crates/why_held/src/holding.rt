@@ -2,6 +2,7 @@
 ghost use Rattle.std.specs.Prelude.{◌≡◌, ◌<◌, ◌≤◌, ◌^◌, length, true, Some, IsSome, IfOk};
 ghost use Rattle.lisp_graph.specs.declared.object.Value.TheVariants.{Ref};
 ghost use Rattle.lisp_graph.specs.Graph.{IsGraph, body_refers, is_ref, object_at, refers_in, value_at, width};
+ghost use Rattle.lisp_graph.specs.Objects.{body_copied};
 ghost use Rattle.lisp_graph.specs.World.{opening};
 ghost use Rattle.why_held.specs.Chains.{IsHeld, IsShortest, depth_at, register_value};
 ghost use Rattle.why_held.specs.Choice.{IsChosen, IsChosenPath, IsFirst, IsFirstPart, IsWhy, place_of};
@@ -11,8 +12,8 @@ ghost use Rattle.why_held.specs.Search.{AreLevels};
 use crate::chain::{Depths, Held, Hop, Hops, Part, Why};
 use crate::nearest::{nearest_at, nearest_of};
 use crate::optional_numbers::OptionalNumbers;
-use crate::search::{depth_at, depths_of, object_at};
-use lisp_graph::{Body, NoMemory, Value, World};
+use crate::search::{depth_at, depths_of};
+use lisp_graph::{BodyRef, NoMemory, Value, World};
 use std::alloc::Global;
 
 pub(crate) fn is_ref(object: u64, value: Value) -> bool
@@ -38,22 +39,20 @@ fn first_reference(values: &[Value], object: u64) -> usize
 }
 
 /// The first part of an object that refers to another object; one of its parts does.
-fn first_part(body: &Body, object: u64) -> Part
-    requires refers { body_refers object body.now ≡ true }
-    requires at_most { width body.now ≤ 2047 }
-    ensures { IsFirstPart body.now object result }
+fn first_part(body: BodyRef<'_>, object: u64) -> Part
+    requires refers { body_refers object (body_copied body) ≡ true }
+    requires at_most { width (body_copied body) ≤ 2047 }
+    ensures { IsFirstPart (body_copied body.entry) object result }
 {
     match body {
-        Body::Cons { car, .. } => {
-            if is_ref(object, *car) {
+        BodyRef::Cons { car, .. } => {
+            if is_ref(object, car) {
                 Part::Car
             } else {
                 Part::Cdr
             }
         }
-        Body::Block { fields, .. } => {
-            Part::Field(first_reference(fields.as_slice(), object) as u32)
-        }
+        BodyRef::Block { fields, .. } => { Part::Field(first_reference(fields, object) as u32) }
     }
 }
 
@@ -98,7 +97,7 @@ fn chain_to(
     ensures lowest { IfOk result (λ hops. IsShortest (opening world.now) hops object) }
     ensures value { IfOk result (λ hops. IsChosen (opening world.now) depths.now hops) }
 {
-    let objects = world.objects.as_slice();
+    let objects = &world.objects;
     let found = nearest_of(alloc, objects, depths, depth)?;
     let nearest = &found;
     let mut hops = Hops::new(alloc);
@@ -111,7 +110,7 @@ fn chain_to(
     let mut to = object;
     while place > 0 {
         let from = found_for(nearest, to);
-        let part = first_part(&object_at(objects, from).body, to);
+        let part = first_part(objects.body(from as usize), to);
         hops.set(place, Hop { part, to });
         to = from;
         place -= 1;

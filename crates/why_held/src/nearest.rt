@@ -2,6 +2,7 @@
 ghost use Rattle.std.specs.Prelude.{◌≡◌, ◌+◌, ◌<◌, ◌∷◌, [], length, IfOk};
 ghost use Rattle.std.specs.List.{All};
 ghost use Rattle.lisp_graph.specs.Graph.{IsObject, PartsReferBelow, RefersBelow};
+ghost use Rattle.lisp_graph.specs.Objects.{body_copied};
 ghost use Rattle.why_held.specs.Chains.{depth_at};
 ghost use Rattle.why_held.specs.Choice.{is_one_less};
 ghost use Rattle.why_held.specs.Nearest.{AreNearest, Offered, is_less_deep, nearest_at};
@@ -10,7 +11,7 @@ ghost use Rattle.why_held.specs.Search.{parts_of};
 use crate::chain::Depths;
 use crate::optional_numbers::OptionalNumbers;
 use crate::search::depth_at;
-use lisp_graph::{Body, NoMemory, Object, Value};
+use lisp_graph::{BodyRef, NoMemory, Objects, Value};
 use std::alloc::Global;
 
 /// Whether the first depth is one less than the second.
@@ -60,18 +61,18 @@ fn offer_all(nearest: &mut OptionalNumbers, depths: &Depths, from: u64, values: 
 }
 
 /// Does this for each part of the object `from`.
-fn offer_parts(nearest: &mut OptionalNumbers, depths: &Depths, from: u64, body: &Body)
+fn offer_parts(nearest: &mut OptionalNumbers, depths: &Depths, from: u64, body: BodyRef<'_>)
     requires size { length depths.now ≡ length nearest.old }
     requires from { from < length nearest.old }
-    requires refers { PartsReferBelow (length nearest.old) body.now }
-    ensures { Offered depths.now from (parts_of body.now) nearest.old nearest.new }
+    requires refers { PartsReferBelow (length nearest.old) (body_copied body) }
+    ensures { Offered depths.now from (parts_of (body_copied body.entry)) nearest.old nearest.new }
 {
     match body {
-        Body::Cons { car, cdr } => {
-            offer(nearest, depths, from, *car);
-            offer(nearest, depths, from, *cdr);
+        BodyRef::Cons { car, cdr } => {
+            offer(nearest, depths, from, car);
+            offer(nearest, depths, from, cdr);
         }
-        Body::Block { fields, .. } => offer_all(nearest, depths, from, fields.as_slice()),
+        BodyRef::Block { fields, .. } => offer_all(nearest, depths, from, fields),
     }
 }
 
@@ -88,7 +89,7 @@ fn is_less_deep(depth: Option<u32>, most: u32) -> bool
 /// Does this for each part of the object `from`, if it is less than `most` deep.
 fn offer_object(
     nearest: &mut OptionalNumbers,
-    objects: &[Object],
+    objects: &Objects,
     depths: &Depths,
     most: u32,
     from: usize,
@@ -100,7 +101,7 @@ fn offer_object(
     ensures { AreNearest objects.now depths.now most (from + 1) nearest.new }
 {
     if is_less_deep(depth_at(depths, from as u64), most) {
-        offer_parts(nearest, depths, from as u64, &objects[from].body);
+        offer_parts(nearest, depths, from as u64, objects.body(from));
     }
 }
 
@@ -108,7 +109,7 @@ fn offer_object(
 /// an object that is less deep is followed once.
 pub(crate) fn nearest_of(
     alloc: Global,
-    objects: &[Object],
+    objects: &Objects,
     depths: &Depths,
     most: u32,
 ) -> Result<OptionalNumbers, NoMemory>
@@ -118,7 +119,7 @@ pub(crate) fn nearest_of(
 {
     let mut nearest = OptionalNumbers::none(alloc, depths.len())?;
     let mut from = 0;
-    while from < objects.len() {
+    while from < objects.len() as usize {
         offer_object(&mut nearest, objects, depths, most, from);
         from += 1;
     }

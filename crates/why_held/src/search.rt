@@ -1,13 +1,14 @@
 //! The depths of objects, found by a search from the registers on, level by level.
 ghost use Rattle.std.specs.Prelude.{◌≡◌, ◌<◌, ◌≤◌, ◌^◌, [], ◌∷◌, length, drop, None, IfOk, OnOk};
 ghost use Rattle.std.specs.List.{All};
-ghost use Rattle.lisp_graph.specs.Graph.{IsGraph, IsObject, PartsReferBelow, RefersBelow, object_at};
+ghost use Rattle.lisp_graph.specs.Graph.{IsGraph, IsObject, PartsReferBelow, RefersBelow};
+ghost use Rattle.lisp_graph.specs.Objects.{body_copied};
 ghost use Rattle.lisp_graph.specs.World.{opening};
 ghost use Rattle.why_held.specs.Chains.{depth_at};
 ghost use Rattle.why_held.specs.Search.{AreLevels, Finds, all_parts, found_in, parts_of};
 
 use crate::chain::Depths;
-use lisp_graph::{Body, NoMemory, Object, Sequence, Value, World};
+use lisp_graph::{BodyRef, NoMemory, Objects, Sequence, Value, World};
 use std::alloc::Global;
 
 /// What was found so far: the depths of objects, and the objects that have one, in the order in which they were found.
@@ -15,14 +16,6 @@ use std::alloc::Global;
 pub(crate) struct Search {
     depths: Depths,
     found: Sequence<u32>,
-}
-
-/// The object with this number.
-pub(crate) fn object_at(objects: &[Object], object: u64) -> &Object
-    requires { object < length objects.now }
-    ensures { result.now ≡ object_at objects.now object }
-{
-    &objects[object as usize]
 }
 
 /// The depth of an object.
@@ -67,24 +60,24 @@ fn find_all(search: &mut Search, values: &[Value], depth: u32) -> Result<(), NoM
 }
 
 /// Does this for the objects to which the parts of an object refer.
-fn find_parts(search: &mut Search, body: &Body, depth: u32) -> Result<(), NoMemory>
-    requires refers { PartsReferBelow (length search.old.depths) body.now }
+fn find_parts(search: &mut Search, body: BodyRef<'_>, depth: u32) -> Result<(), NoMemory>
+    requires refers { PartsReferBelow (length search.old.depths) (body_copied body) }
     requires shallow { depth ≤ found_in search.old.depths }
-    ensures { OnOk result (Finds depth (parts_of body.now) search.old search.new) }
+    ensures { OnOk result (Finds depth (parts_of (body_copied body.entry)) search.old search.new) }
 {
     match body {
-        Body::Cons { car, cdr } => {
-            find(search, *car, depth)?;
-            find(search, *cdr, depth)
+        BodyRef::Cons { car, cdr } => {
+            find(search, car, depth)?;
+            find(search, cdr, depth)
         }
-        Body::Block { fields, .. } => find_all(search, fields.as_slice(), depth),
+        BodyRef::Block { fields, .. } => find_all(search, fields, depth),
     }
 }
 
 /// Does this for the objects to which those refer that were found from `start` on.
 fn find_next(
     search: &mut Search,
-    objects: &[Object],
+    objects: &Objects,
     start: usize,
     depth: u32,
 ) -> Result<(), NoMemory>
@@ -98,8 +91,8 @@ fn find_next(
     let end = search.found.len() as usize;
     let mut place = start;
     while place < end {
-        let object = u64::from(search.found.as_slice()[place]);
-        find_parts(search, &object_at(objects, object).body, depth)?;
+        let object = search.found.as_slice()[place] as usize;
+        find_parts(search, objects.body(object), depth)?;
         place += 1;
     }
     Ok(())
@@ -111,8 +104,8 @@ pub(crate) fn depths_of(alloc: Global, world: &World) -> Result<Depths, NoMemory
     requires at_most { length world.now.objects < 2 ^ 32 }
     ensures { IfOk result (λ depths. AreLevels (opening world.now) depths) }
 {
-    let objects = world.objects.as_slice();
-    let depths = Depths::none(alloc, objects.len())?;
+    let objects = &world.objects;
+    let depths = Depths::none(alloc, objects.len() as usize)?;
     let found = Sequence::new(alloc);
     let mut search = Search { depths, found };
     find_all(&mut search, world.roots.as_slice(), 0)?;

@@ -2,21 +2,21 @@ use Rattle.std.proofs.Common.{◌≡◌, ◌∙◌, ◌+◌, ◌-◌, ℕ, suc, 
 use Rattle.std.proofs.lemmas.List.{length-replicate}
 use Rattle.lisp_graph.specs.declared.object.Value.{Value}
 use Rattle.lisp_graph.specs.declared.object.Value.TheVariants.{Ref}
-use Rattle.lisp_graph.specs.declared.object.Object.{Object}
+use Rattle.lisp_graph.specs.declared.object.Body.{Body}
 use Rattle.lisp_graph.specs.Graph.{body_refers, is_ref, object_at, refers_in, value_at}
 use Rattle.lisp_graph.specs.World.{opening}
 use Rattle.why_held.specs.Chains.{depth_at, register_value}
 use Rattle.why_held.specs.Choice.{IsFirst, IsFirstPart, place_of}
 use Rattle.why_held.proofs.Levels.{depth_below, padded}
-use Rattle.why_held.proofs.ChosenChain.{Ending, ending_first, ending_last, ending_more, near_along, nearest_is, nearest_some}
+use Rattle.why_held.proofs.ChosenChain.{Ending, ending_first, ending_last, ending_more, nearest_is, nearest_some}
 use Rattle.why_held.proofs.holding.chain_to.Goals as goal
 
 pub loop-place-init : goal.loop-place-init
 loop-place-init c =
     let size : length c.pad.new.self ≡ c.args.depth + 1 =
     ap length (padded (c.args.depth + 1) (c.args.depth + 1) _ c.new-hops.result c.pad.new.self c.in_ok-pad.ensures.ok c.new-hops.ensures refl) ∙ length-replicate (c.args.depth + 1) _ in (
-      c.as_slice-objects.ensures,
-      near_along c.as_slice-objects.result.now c.args.world.now.objects c.args.depths.now c.in_ok-found.found c.in_ok-found.found c.args.depth c.in_ok-found.ensures c.as_slice-objects.ensures refl,
+      refl,
+      c.in_ok-found.ensures,
       ending_first (opening c.args.world.now) c.args.depths.now c.requires.levels c.args.object c.args.depth c.pad.new.self size c.requires.agrees,
     )
 
@@ -31,8 +31,8 @@ found_for-from-requires-clause-at_least c =
     c.loop-place.invariant.2.deep ∙ (let e : c.loop-place.place ≡ suc (c.loop-place.place - 1) = omega (arith, c.loop-place-test.true) in ap Some e) in
     nearest_some (opening c.args.world.now) c.args.depths.now c.requires.levels c.args.depth c.in_ok-found.found c.loop-place.invariant.1 c.loop-place.to (c.loop-place.place - 1) deep (omega (arith, c.loop-place-test.true, c.loop-place.invariant.2.within))
 
-pub object_at-requires : goal.object_at-requires
-object_at-requires c =
+pub body-requires : goal.body-requires
+body-requires c =
     let deep : depth_at c.args.depths.now c.loop-place.to ≡ Some (suc (c.loop-place.place - 1)) =
     c.loop-place.invariant.2.deep ∙ (let e : c.loop-place.place ≡ suc (c.loop-place.place - 1) = omega (arith, c.loop-place-test.true) in ap Some e) in
     let n = nearest_is (opening c.args.world.now) c.args.depths.now c.requires.levels c.args.depth c.in_ok-found.found c.loop-place.invariant.1 c.loop-place.to c.found_for-from.result (c.loop-place.place - 1) deep (omega (arith, c.loop-place-test.true, c.loop-place.invariant.2.within)) c.found_for-from.ensures in
@@ -43,8 +43,7 @@ first_part-part-requires-clause-refers c =
     let deep : depth_at c.args.depths.now c.loop-place.to ≡ Some (suc (c.loop-place.place - 1)) =
     c.loop-place.invariant.2.deep ∙ (let e : c.loop-place.place ≡ suc (c.loop-place.place - 1) = omega (arith, c.loop-place-test.true) in ap Some e) in
     let n = nearest_is (opening c.args.world.now) c.args.depths.now c.requires.levels c.args.depth c.in_ok-found.found c.loop-place.invariant.1 c.loop-place.to c.found_for-from.result (c.loop-place.place - 1) deep (omega (arith, c.loop-place-test.true, c.loop-place.invariant.2.within)) c.found_for-from.ensures in
-    let same : c.object_at.result.now ≡ object_at c.args.world.now.objects c.found_for-from.result = c.object_at.ensures ∙ ap (λ (os : List Object). object_at os c.found_for-from.result) c.loop-place.invariant.0 in
-    ap (λ (o : Object). body_refers c.loop-place.to o.body) same ∙ n.3
+    ap (body_refers c.loop-place.to) c.body.ensures ∙ n.3
 
 pub set-requires : goal.set-requires
 set-requires c = omega (arith, c.loop-place.invariant.2.size, c.loop-place.invariant.2.within)
@@ -54,9 +53,8 @@ loop-place-preserved c =
     let e : c.loop-place.place ≡ suc (c.loop-place.place - 1) = omega (arith, c.loop-place-test.true) in
     let deep : depth_at c.args.depths.now c.loop-place.to ≡ Some (suc (c.loop-place.place - 1)) = c.loop-place.invariant.2.deep ∙ ap Some e in
     let n = nearest_is (opening c.args.world.now) c.args.depths.now c.requires.levels c.args.depth c.in_ok-found.found c.loop-place.invariant.1 c.loop-place.to c.found_for-from.result (c.loop-place.place - 1) deep (omega (arith, c.loop-place-test.true, c.loop-place.invariant.2.within)) c.found_for-from.ensures in
-    let same : c.object_at.result.now ≡ object_at c.args.world.now.objects c.found_for-from.result = c.object_at.ensures ∙ ap (λ (os : List Object). object_at os c.found_for-from.result) c.loop-place.invariant.0 in
     let first : IsFirstPart (object_at c.args.world.now.objects c.found_for-from.result).body c.loop-place.to c.first_part-part.result =
-    (let P : Object → Type 0 = λ o. IsFirstPart o.body c.loop-place.to c.first_part-part.result in subst P same c.first_part-part.ensures) in (
+    (let P : Body → Type 0 = λ b. IsFirstPart b c.loop-place.to c.first_part-part.result in subst P c.body.ensures c.first_part-part.ensures) in (
       c.loop-place.invariant.0,
       c.loop-place.invariant.1,
       ending_more (opening c.args.world.now) c.args.depths.now c.requires.levels c.args.object c.args.depth c.loop-place.hops c.set.new.self c.loop-place.place (c.loop-place.place - 1) c.loop-place.to c.found_for-from.result c.first_part-part.result

@@ -1,8 +1,9 @@
-use Rattle.std.proofs.Common.{◌≡◌, ◌∙◌, false, ap, sym, refl}
-use Rattle.std.proofs.lemmas.List.{get_or_default}
-use Rattle.lisp_graph.specs.Graph.{no_object}
+use Rattle.std.proofs.Common.{◌≡◌, ◌∙◌, false, ap, sym, refl, subst}
+use Rattle.lisp_graph.specs.Graph.{object_at}
+use Rattle.lisp_graph.specs.declared.object.Body.{Body}
 use Rattle.why_held.specs.Chains.{depth_at}
-use Rattle.why_held.specs.Nearest.{is_less_deep}
+use Rattle.why_held.specs.Nearest.{Offered, is_less_deep}
+use Rattle.why_held.specs.Search.{parts_of}
 use Rattle.why_held.proofs.NearestObjects.{nearest_next, nearest_skip}
 use Rattle.why_held.proofs.nearest.offer_object.Goals as goal
 
@@ -14,5 +15,7 @@ returns-else-is_less_deep c =
 
 pub returns-then-is_less_deep : goal.returns-then-is_less_deep
 returns-then-is_less_deep c =
-    nearest_next c.args.objects.now c.args.depths.now c.args.most c.args.from _ _ c.args.nearest.now c.offer_parts.new.nearest c.requires.before
-    (get_or_default c.args.objects.now c.args.from c.index-objects-from.result no_object c.requires.from) refl c.offer_parts.ensures
+    let objects = c.args.objects.now in
+    let P : Body → Type 0 = λ b. Offered c.args.depths.now c.args.from (parts_of b) c.args.nearest.now c.offer_parts.new.nearest in
+    nearest_next objects c.args.depths.now c.args.most c.args.from _ (object_at objects c.args.from) c.args.nearest.now c.offer_parts.new.nearest c.requires.before
+    refl refl (subst P c.body.ensures c.offer_parts.ensures)

@@ -1,8 +1,8 @@
 use Rattle.std.proofs.Common.{◌≡◌, ◌≤◌, ◌-◌, ◌<◌, ℕ, List, ap, sym, ◌∙◌, subst, arith, get_or, length, drop, take, length-drop}
 use Rattle.std.proofs.lemmas.List.{take_all}
 use Rattle.std.proofs.lemmas.List.Elements.{All-get_or}
-use Rattle.lisp_graph.specs.Graph.{IsObject, no_object, object_at}
-use Rattle.lisp_graph.specs.declared.object.Object.{Object}
+use Rattle.lisp_graph.specs.Graph.{IsObject, PartsReferBelow, no_object, object_at}
+use Rattle.lisp_graph.specs.declared.object.Body.{Body}
 use Rattle.why_held.specs.Search.{Finds, all_parts, parts_of}
 use Rattle.why_held.proofs.SearchSteps.{finds_along, finds_next, finds_none, found_at, found_within}
 use Rattle.why_held.proofs.search.find_next.Goals as goal
@@ -16,19 +16,20 @@ loop-place-init c =
       (let P : ℕ → Type 0 = λ n. Finds c.args.depth (all_parts c.args.objects.now (take n names)) c.args.search.now c.args.search.now in subst P (sym none) (finds_none c.args.depth c.args.search.now)),
     )
 
-pub object_at-requires : goal.object_at-requires
-object_at-requires c =
+pub body-requires : goal.body-requires
+body-requires c =
     let w = found_within c.args.depth (length c.args.objects.now) _ c.args.search.now c.loop-place.search c.args.start c.loop-place.place c.loop-place.invariant.2 c.requires.in_range c.loop-place.invariant.0 (omega (arith, c.loop-place-test.true, c.len-end.ensures)) in
-    omega (arith, w, ap (λ (xs : List ℕ). get_or xs c.loop-place.place 0) c.as_slice.ensures, c.from-object.ensures)
+    omega (arith, w, ap (λ (xs : List ℕ). get_or xs c.loop-place.place 0) c.as_slice.ensures)
 
 pub find_parts-requires-clause-refers : goal.find_parts-requires-clause-refers
 find_parts-requires-clause-refers c =
-    let name = c.from-object.result in
+    let name = get_or c.as_slice.result.now c.loop-place.place 0 in
     let w = found_within c.args.depth (length c.args.objects.now) _ c.args.search.now c.loop-place.search c.args.start c.loop-place.place c.loop-place.invariant.2 c.requires.in_range c.loop-place.invariant.0 (omega (arith, c.loop-place-test.true, c.len-end.ensures)) in
-    let l : name < length c.args.objects.now = omega (arith, w, ap (λ (xs : List ℕ). get_or xs c.loop-place.place 0) c.as_slice.ensures, c.from-object.ensures) in
+    let l : name < length c.args.objects.now = omega (arith, w, ap (λ (xs : List ℕ). get_or xs c.loop-place.place 0) c.as_slice.ensures) in
     let o = All-get_or (IsObject (length c.args.objects.now)) c.args.objects.now name no_object l c.requires.sound in
     let e : length c.loop-place.search.depths ≡ length c.args.objects.now = c.loop-place.invariant.2.size ∙ c.requires.size in
-    rw c.object_at.ensures (rw e o.refers)
+    let P : Body → Type 0 = λ b. PartsReferBelow (length c.loop-place.search.depths) b in
+    subst P (sym c.body.ensures) (rw e o.refers)
 
 pub find_parts-requires-clause-shallow : goal.find_parts-requires-clause-shallow
 find_parts-requires-clause-shallow c = omega (arith, c.loop-place.invariant.2.counts, c.requires.shallow)
@@ -37,12 +38,12 @@ pub loop-place-preserved : goal.loop-place-preserved
 loop-place-preserved c =
     let names = drop c.args.start c.args.search.now.found in
     let k = c.loop-place.place - c.args.start in
-    let name = c.from-object.result in
+    let name = get_or c.as_slice.result.now c.loop-place.place 0 in
     let same = found_at c.args.depth _ c.args.search.now c.loop-place.search c.args.start c.loop-place.place c.loop-place.invariant.2 c.loop-place.invariant.0 (omega (arith, c.loop-place-test.true, c.len-end.ensures)) in
-    let e : get_or names k 0 ≡ name = sym same ∙ sym (ap (λ (xs : List ℕ). get_or xs c.loop-place.place 0) c.as_slice.ensures) ∙ sym c.from-object.ensures in
+    let e : get_or names k 0 ≡ name = sym same ∙ sym (ap (λ (xs : List ℕ). get_or xs c.loop-place.place 0) c.as_slice.ensures) in
     let l : k < length names = omega (arith, length-drop c.args.start c.args.search.now.found, c.loop-place-test.true, c.len-end.ensures, c.loop-place.invariant.0) in
     let f : Finds c.args.depth (parts_of (object_at c.args.objects.now name).body) c.loop-place.search c.find_parts.new.search =
-    (let P : Object → Type 0 = λ o. Finds c.args.depth (parts_of o.body) c.loop-place.search c.find_parts.new.search in subst P c.object_at.ensures c.in_ok-find_parts.ensures) in (
+    (let P : Body → Type 0 = λ b. Finds c.args.depth (parts_of b) c.loop-place.search c.find_parts.new.search in subst P c.body.ensures c.in_ok-find_parts.ensures) in (
       omega (arith, c.loop-place.invariant.0),
       omega (arith, c.loop-place-test.true),
       finds_next c.args.depth c.args.objects.now names k _ name c.args.search.now c.loop-place.search c.find_parts.new.search l e (omega (arith, c.loop-place.invariant.0)) c.loop-place.invariant.2 f,
