@@ -1,10 +1,10 @@
 -- More drafts are made.
-use Rattle.std.proofs.Common.{◌≡◌, ℕ, zero, suc, ◌+◌, ◌-◌, ◌<◌, ◌≤◌, ◌⊎◌, inl, inr, refl, sym, ap, ◌∙◌, subst, arith, List, [], ◌∷◌, ◌++◌, length, length-append, get_or, Bool, true, false, Some}
+use Rattle.std.proofs.Common.{◌≡◌, ℕ, zero, suc, ◌+◌, ◌-◌, ◌<◌, ◌≤◌, ◌⊎◌, inl, inr, refl, sym, ap, ◌∙◌, subst, arith, List, [], ◌∷◌, ◌++◌, length, length-append, Bool, true, false, Some}
 use Rattle.std.specs.Prelude.{if◌then◌else◌, ◌==◌, nat_lt, slice_set}
 use Rattle.std.proofs.lemmas.Bool.{cases_lt, le-ltb, lt-ltb}
 use Rattle.std.proofs.lemmas.Bool.Decides.{nat_tests}
 use Rattle.std.proofs.lemmas.List.Sums.{sum_by-cons}
-use Rattle.std.proofs.lemmas.List.{get_or_default, get_or_append_left, get_or-append-add, get_or-set_same, get_or-set_other, length-replicate}
+use Rattle.std.proofs.lemmas.List.{get_or_append_left, get_or-append-add, get_or-set_same, get_or-set_other, length-replicate}
 use Rattle.store_word.specs.Words.{Parts, tag_of}
 use Rattle.store_word.specs.declared.word.CdrCode.TheVariants.{Next}
 use Rattle.store_word.specs.declared.word.Content.TheVariants.{Nil as NilWord}
@@ -138,10 +138,6 @@ drafted_left m m' t t' world places n x stays g = record {
   objects = x.objects;
   holds = record { map = x.holds.map; kept = stays.kept x.holds.map world.space.levels world.areas (store_with world x.objects) no_aim x.holds.kept; aims = aims_grown t t' Idle g x.holds.aims };
 }
-
--- the object that is read
-pub object_read : (objects whole : List Object) (number : ℕ) (read : Object) → objects ≡ whole → number < length whole → get_or objects number read ≡ object_at whole number
-object_read objects whole number read same low = ap (λ (l : List Object). get_or l number read) same ∙ get_or_default whole number read no_object low
 
 -- One object alone
 

@@ -12,7 +12,7 @@ use crate::places::{Place, put_cells, word_so_far};
 use area_space::Ground;
 use block_store::make_block;
 use cdr_lists::{make_list, make_pair_of};
-use lisp_graph::{Body, Items, World};
+use lisp_graph::{BodyRef, Items, World};
 use mem_port::Memory;
 use std::sync::ledger::Ledger;
 use store_word::{Steps, SwapFault, Word};
@@ -34,10 +34,10 @@ pub(crate) fn make_drafts<M: Memory, L: Ledger>(
     ensures succeeds { world.now.objects ≡ [] → IsOk result }
     ensures accounted { AccountsForFaults (view ground.old).mem (view ground.new).mem steps.old steps.new result }
 {
-    let objects = world.objects.as_slice();
+    let objects = &world.objects;
     let mut made = 0;
     let mut linked = 0;
-    while made < objects.len() {
+    while made < objects.len() as usize {
         let size = group_from(objects, made, &mut linked);
         let group = Group {
             number: made,
@@ -112,18 +112,18 @@ fn make_alone<M: Memory, L: Ledger>(
     // swap errors
     ensures accounted { AccountsForFaults (view ground.old).mem (view ground.new).mem steps.old steps.new result }
 {
-    let object = &world.objects.as_slice()[number];
-    match &object.body {
-        Body::Cons { car, cdr } => {
-            let car = word_so_far(*car, number, places);
-            let cdr = word_so_far(*cdr, number, places);
+    let object = world.objects.at(number);
+    match object.body {
+        BodyRef::Cons { car, cdr } => {
+            let car = word_so_far(car, number, places);
+            let cdr = word_so_far(cdr, number, places);
             let at = make_pair_of(ground, object.area, 0, object.charge, car, cdr, steps)?;
             places[number] = Place::pair(at);
             Ok(())
         }
-        Body::Block { code, fields } => {
+        BodyRef::Block { code, fields } => {
             let length = fields.len() as u16;
-            let at = make_block(ground, object.area, 0, *code, length, steps)?;
+            let at = make_block(ground, object.area, 0, code, length, steps)?;
             places[number] = Place::block(at);
             Ok(())
         }
@@ -158,7 +158,7 @@ fn make_group<M: Memory, L: Ledger>(
     ensures accounted { AccountsForFaults (view ground.old).mem (view ground.new).mem steps.old steps.new result }
 {
     let Group { number, count } = group;
-    let area = world.objects.as_slice()[number].area;
+    let area = world.objects.at(number).area;
     let registers = [Word::nil()];
     let items = first_items(count);
     let from = make_list(ground, area, 0, &registers, &items, steps)?;

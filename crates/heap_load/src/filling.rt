@@ -11,7 +11,7 @@ ghost use Rattle.heap_load.specs.Places.{place_at};
 
 use crate::places::{Place, cell_code, is_known, second_code, word_of};
 use area_space::Ground;
-use lisp_graph::{Body, Value, World};
+use lisp_graph::{BodyRef, Value, World};
 use mem_port::Memory;
 use std::sync::ledger::Ledger;
 use store_word::{CdrCode, Steps, SwapFault, Word};
@@ -48,7 +48,7 @@ pub(crate) fn fill_drafts<M: Memory, L: Ledger>(
     ensures succeeds { world.now.objects ≡ [] → IsOk result }
     ensures accounted { AccountsForFaults (view ground.old).mem (view ground.new).mem steps.old steps.new result }
 {
-    let count = world.objects.as_slice().len();
+    let count = world.objects.len() as usize;
     for number in 0..count {
         fill_object(ground, world, places, number, steps)?;
     }
@@ -80,17 +80,13 @@ fn fill_object<M: Memory, L: Ledger>(
     // swap errors
     ensures accounted { AccountsForFaults (view ground.old).mem (view ground.new).mem steps.old steps.new result }
 {
-    match &world.objects.as_slice()[number].body {
-        Body::Cons { car, cdr } => {
-            let cons = ConsParts {
-                number,
-                car: *car,
-                cdr: *cdr,
-            };
+    match world.objects.body(number) {
+        BodyRef::Cons { car, cdr } => {
+            let cons = ConsParts { number, car, cdr };
             fill_cons(ground, world, places, cons, steps)
         }
-        Body::Block { code: _, fields } => {
-            fill_block(ground, world, places, number, fields.as_slice(), steps)
+        BodyRef::Block { code: _, fields } => {
+            fill_block(ground, world, places, number, fields, steps)
         }
     }
 }
@@ -230,7 +226,7 @@ fn fill_cdr<M: Memory, L: Ledger>(
     if is_known(cdr, number) {
         return Ok(());
     }
-    let charge = world.objects.as_slice()[number].charge;
+    let charge = world.objects.at(number).charge;
     let at = places[number].cons_at();
     let second = word_of(cdr, places).with_cdr(second_code(charge));
     store(ground, at + 1, second, steps)

@@ -2,9 +2,10 @@
 ghost use Rattle.std.specs.Prelude.{◌≡◌, ◌+◌, ◌<◌, ◌≤◌, ℕ, true, false, length};
 ghost use Rattle.lisp_graph.specs.Graph.{is_ref, object_at};
 ghost use Rattle.lisp_graph.specs.Groups.{is_cell, is_nil};
+ghost use Rattle.lisp_graph.specs.Objects.{object_copied};
 ghost use Rattle.heap_load.specs.Loading.{AreLinked, group_from};
 
-use lisp_graph::{Body, Object, Value};
+use lisp_graph::{BodyRef, ObjectRef, Objects, Value};
 
 // The most conses of a group.
 const GROUP_LIMIT: usize = 1024;
@@ -17,14 +18,14 @@ pub(crate) struct Group {
 }
 
 // Whether a cons of this area and of charge 3 has nil as its cdr.
-fn is_last(object: &Object, area: u8) -> bool
-    ensures { result ≡ is_cell area is_nil object.now }
+fn is_last(object: ObjectRef<'_>, area: u8) -> bool
+    ensures { result ≡ is_cell area is_nil (object_copied object.entry) }
 {
     if object.area != area || object.charge != 3 {
         return false;
     }
-    match &object.body {
-        Body::Cons {
+    match object.body {
+        BodyRef::Cons {
             car: _,
             cdr: Value::Nil,
         } => true,
@@ -33,24 +34,24 @@ fn is_last(object: &Object, area: u8) -> bool
 }
 
 // Whether the cdr of a cons of this area and of charge 3 refers to this number.
-fn is_link(object: &Object, area: u8, next: u64) -> bool
-    ensures { result ≡ is_cell area (is_ref next) object.now }
+fn is_link(object: ObjectRef<'_>, area: u8, next: u64) -> bool
+    ensures { result ≡ is_cell area (is_ref next) (object_copied object.entry) }
 {
     if object.area != area || object.charge != 3 {
         return false;
     }
-    match &object.body {
-        Body::Cons {
+    match object.body {
+        BodyRef::Cons {
             car: _,
             cdr: Value::Ref(name),
-        } => *name == next,
+        } => name == next,
         _ => false,
     }
 }
 
 // The first number from `at` on whose object isn't a cons of this area and of charge 3 with a cdr that refers to the
 // next object; or `end`, if there is none below that.
-fn skip_links(objects: &[Object], area: u8, at: usize, end: usize) -> usize
+fn skip_links(objects: &Objects, area: u8, at: usize, end: usize) -> usize
     requires at_most { end ≤ length objects.now }
     ensures order { result < end → at ≤ result }
     ensures in_range { result ≤ end }
@@ -58,7 +59,7 @@ fn skip_links(objects: &[Object], area: u8, at: usize, end: usize) -> usize
     ensures found { result < end → is_cell area (is_ref (result + 1)) (object_at objects.now result) ≡ false }
 {
     for i in at..end {
-        if !is_link(&objects[i], area, i as u64 + 1) {
+        if !is_link(objects.at(i), area, i as u64 + 1) {
             return i;
         }
     }
@@ -70,21 +71,21 @@ fn skip_links(objects: &[Object], area: u8, at: usize, end: usize) -> usize
 ///
 /// The objects up to `linked` are known to refer each to the next, and aren't looked at again. So the searches for
 /// the groups of all objects, one after another, look at each object a constant number of times.
-pub(crate) fn group_from(objects: &[Object], number: usize, linked: &mut usize) -> usize
+pub(crate) fn group_from(objects: &Objects, number: usize, linked: &mut usize) -> usize
     requires in_range { number < length objects.now }
     requires known { AreLinked objects.now number linked.old }
     ensures value { result ≡ group_from objects.now number }
     ensures stays_known { AreLinked objects.now number linked.new }
 {
-    let area = objects[number].area;
-    let end = number + (objects.len() - number).min(GROUP_LIMIT);
+    let area = objects.at(number).area;
+    let end = number + (objects.len() as usize - number).min(GROUP_LIMIT);
     let from = number.max(*linked);
     let at = skip_links(objects, area, from, end);
     *linked = at;
     if at == end {
         return 0;
     }
-    if is_last(&objects[at], area) {
+    if is_last(objects.at(at), area) {
         at - number + 1
     } else {
         0

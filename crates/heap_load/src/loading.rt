@@ -45,7 +45,7 @@ pub fn load<M: Memory, L: Ledger>(
     ensures accounted { AccountsForFaultsIf (view ground.old).mem (view ground.new).mem steps.old steps.new (is_fault result) }
     ensures succeeds { world.now.objects ≡ [] → is_fault result ≡ false }
 {
-    let mut places = vec![in alloc; Place::pair(0); world.objects.as_slice().len()]?;
+    let mut places = vec![in alloc; Place::pair(0); world.objects.len() as usize]?;
     make_drafts(ground, world, &mut places, steps)?;
     fill_drafts(ground, world, &places, steps)?;
     set_roots(registers, world.roots.as_slice(), &places);

@@ -1,6 +1,5 @@
-use Rattle.std.proofs.Common.{◌≡◌, ◌∙◌, ℕ, refl, ap, subst, arith, List, length}
-use Rattle.lisp_graph.specs.declared.object.Object.{Object}
-use Rattle.heap_load.specs.Loading.{Drafted, Laid, group_from}
+use Rattle.std.proofs.Common.{◌≡◌, ◌∙◌, ℕ, refl, subst, arith, length}
+use Rattle.heap_load.specs.Loading.{Drafted, Laid}
 use Rattle.heap_load.proofs.GroupSearch.{linked_later}
 use Rattle.heap_load.proofs.drafts.make_drafts.Goals as goal
 
@@ -16,12 +15,12 @@ loop-made-init g c = record {
 
 pub make_next-requires-clause-in_range : goal.make_next-requires-clause-in_range
 make_next-requires-clause-in_range g c =
-    let same = ap length c.as_slice-objects.ensures in
+    let same = c.len.ensures in
     let more = c.loop-made-test.true in
     omega arith
 
 pub make_next-requires-clause-agrees : goal.make_next-requires-clause-agrees
-make_next-requires-clause-agrees g c = c.group_from-size.ensures.value ∙ ap (λ (objects : List Object). group_from objects c.loop-made.made) c.as_slice-objects.ensures
+make_next-requires-clause-agrees g c = c.group_from-size.ensures.value
 
 pub loop-made-preserved : goal.loop-made-preserved
 loop-made-preserved g c =
@@ -30,8 +29,8 @@ loop-made-preserved g c =
     let before = v.quiet in
     let after = made.accounted in
     record {
-      within = (let same = ap length c.as_slice-objects.ensures in let few = made.count in omega arith);
-      linked = linked_later c.as_slice-objects.result.now _ _ c.group_from-size.new.linked (omega arith) c.group_from-size.ensures.stays_known;
+      within = (let same = c.len.ensures in let few = made.count in omega arith);
+      linked = linked_later c.args.world.now.objects _ _ c.group_from-size.new.linked (omega arith) c.group_from-size.ensures.stays_known;
       drafted = made.drafted;
       laid = made.stays_laid;
       regions = made.regions ∙ v.regions;
@@ -41,7 +40,7 @@ loop-made-preserved g c =
 pub returns-clause-drafted : goal.returns-clause-drafted
 returns-clause-drafted g c =
     let v = c.loop-made.invariant in
-    let same = ap length c.as_slice-objects.ensures in
+    let same = c.len.ensures in
     let past = c.loop-made-test.false in
     let within = v.within in
     let all : c.loop-made.made ≡ length c.args.world.now.objects = omega arith in
@@ -50,7 +49,7 @@ returns-clause-drafted g c =
 pub returns-clause-laid : goal.returns-clause-laid
 returns-clause-laid g c =
     let v = c.loop-made.invariant in
-    let same = ap length c.as_slice-objects.ensures in
+    let same = c.len.ensures in
     let past = c.loop-made-test.false in
     let within = v.within in
     let all : c.loop-made.made ≡ length c.args.world.now.objects = omega arith in

@@ -1,7 +1,6 @@
-use Rattle.std.proofs.Common.{◌≡◌, ℕ, ◌+◌, ◌<◌, sym, ap, ◌∙◌, subst, arith, List, [], ◌∷◌, length, get_or}
+use Rattle.std.proofs.Common.{◌≡◌, ℕ, ◌+◌, ◌<◌, sym, ap, ◌∙◌, subst, arith, List, [], ◌∷◌, length}
 use Rattle.store_word.specs.Words.{Parts}
 use Rattle.lisp_graph.specs.declared.object.Object.{Object}
-use Rattle.lisp_graph.specs.Graph.{object_at}
 use Rattle.lisp_graph.specs.Groups.{group_size}
 use Rattle.mem_port.specs.Store.{Store}
 use Rattle.area_space.specs.Table.{Table}
@@ -9,14 +8,10 @@ use Rattle.block_store.specs.obj_layout.Forwards.{word_at}
 use Rattle.cdr_lists.specs.Lists.{CanList, ListedOn, cell_word}
 use Rattle.cdr_lists.proofs.PartStores.{on_err}
 use Rattle.heap_load.proofs.ListCells.{can_list, cells_inside, drafted_group, group_within, word_here, zeros}
-use Rattle.heap_load.proofs.NewDrafts.{drafted_left, object_read}
+use Rattle.heap_load.proofs.NewDrafts.{drafted_left}
 use Rattle.heap_load.proofs.ConsPlaces.{laid_group}
 use Rattle.heap_load.proofs.GroupSequences.{size_whole}
 use Rattle.heap_load.proofs.drafts.make_group.Goals as goal
-
--- the area that is read is that of the first
-area_read : (objects whole : List Object) (number : ℕ) (read : Object) → objects ≡ whole → number < length whole → (get_or objects number read).area ≡ (object_at whole number).area
-area_read objects whole number read same low = ap (λ (o : Object). o.area) (object_read objects whole number read same low)
 
 -- what can be made of equal items
 can_here : (m : Store) (t : Table) (area from : ℕ) (registers : List Parts) (items zeros : List ℕ) → from ≡ area → items ≡ zeros → CanList m t area 0 registers zeros → CanList m t from 0 registers items
@@ -33,13 +28,13 @@ words_here words registers items zeros at f is = subst (λ (l : List ℕ). (i : 
 pub make_list-requires : goal.make_list-requires
 make_list-requires g c =
     let r = c.requires in
-    can_here _ _ _ _ (c.nil.result ∷ []) c.first_items-items.result (zeros c.args.group.count) (area_read c.as_slice.result.now c.args.world.now.objects c.args.group.number c.index-as_slice-number.result c.as_slice.ensures r.in_range) c.first_items-items.ensures
+    can_here _ _ _ _ (c.nil.result ∷ []) c.first_items-items.result (zeros c.args.group.count) (ap (λ (o : Object). o.area) c.at-area.ensures) c.first_items-items.ensures
     (can_list _ _ c.args.world.now c.args.places.now c.args.group.number c.args.group.count r.agrees r.loadable r.made r.in_range c.nil.result c.nil.ensures r.at_most)
 
 pub put_cells-requires : goal.put_cells-requires
 put_cells-requires g c =
     let r = c.requires in
-    let e = area_read c.as_slice.result.now c.args.world.now.objects c.args.group.number c.index-as_slice-number.result c.as_slice.ensures r.in_range in
+    let e = ap (λ (o : Object). o.area) c.at-area.ensures in
     let within = group_within _ _ c.args.world.now c.args.places.now c.args.group.number c.args.group.count r.agrees r.loadable r.made r.in_range in
     let inside = cells_inside _ _ c.args.world.now c.args.places.now c.args.group.number c.args.group.count r.agrees r.loadable r.made r.in_range _ c.make_list.new.ground.table c.nil.result c.nil.ensures c.in_ok-from.from
     (listed_here _ _ _ _ _ _ (c.nil.result ∷ []) c.first_items-items.result (zeros c.args.group.count) c.in_ok-from.from e c.first_items-items.ensures c.in_ok-from.ensures.made)
@@ -54,7 +49,7 @@ returns-in_err-from-clause-left g c = on_err c.from_residual.result _ (drafted_l
 pub returns-clause-drafted : goal.returns-clause-drafted
 returns-clause-drafted g c =
     let r = c.requires in
-    let e = area_read c.as_slice.result.now c.args.world.now.objects c.args.group.number c.index-as_slice-number.result c.as_slice.ensures r.in_range in
+    let e = ap (λ (o : Object). o.area) c.at-area.ensures in
     drafted_group _ _ c.args.world.now c.args.places.now c.args.group.number c.args.group.count r.agrees r.loadable r.made r.in_range _ _ c.nil.result c.nil.ensures c.in_ok-from.from
     (listed_here _ _ _ _ _ _ (c.nil.result ∷ []) c.first_items-items.result (zeros c.args.group.count) c.in_ok-from.from e c.first_items-items.ensures c.in_ok-from.ensures.made)
     (words_here _ (c.nil.result ∷ []) c.first_items-items.result (zeros c.args.group.count) c.in_ok-from.from c.first_items-items.ensures c.in_ok-from.ensures.words)
@@ -63,7 +58,7 @@ returns-clause-drafted g c =
 pub returns-clause-stays_laid : goal.returns-clause-stays_laid
 returns-clause-stays_laid g c =
     let r = c.requires in
-    let e = area_read c.as_slice.result.now c.args.world.now.objects c.args.group.number c.index-as_slice-number.result c.as_slice.ensures r.in_range in
+    let e = ap (λ (o : Object). o.area) c.at-area.ensures in
     let kept = (returns-clause-drafted g c).holds.kept in
     laid_group _ _ _ _ c.args.world.now c.args.places.now c.put_cells.new.places c.args.group.number r.made r.laid c.in_ok-from.ensures.stays_ground.live kept.table kept.ground.size c.put_cells.ensures.before
     c.args.group.count c.in_ok-from.from (ap group_size r.agrees ∙ size_whole c.args.group.count r.at_most) c.put_cells.ensures.cells

@@ -8,7 +8,6 @@ use Rattle.lisp_graph.specs.Graph.{object_at}
 use Rattle.cdr_lists.specs.Pairs.{second_code}
 use Rattle.heap_load.specs.Places.{PlaceView, place_at}
 use Rattle.heap_load.proofs.ObjectWords.{cdr_done, cdr_done_laid, cdr_given, cdr_inside, cdr_left}
-use Rattle.heap_load.proofs.NewDrafts.{object_read}
 use Rattle.heap_load.proofs.ObjectParts.{place_there}
 use Rattle.heap_load.proofs.filling.fill_cdr.Given.{Over}
 use Rattle.heap_load.proofs.filling.fill_cdr.Goals.{After-cons_at-at, After-with_cdr-second}
@@ -21,7 +20,7 @@ stands g c = ap (λ (p : PlaceView). p.word.content) (sym (c.index-places-number
 -- the word has the cdr code of the charge
 coded : (g : Over) (c : After-with_cdr-second g) → c.with_cdr-second.result ≡ record (c.word_of.result) { cdr = second_code (object_at c.args.world.now.objects c.args.cons.number).charge }
 coded g c =
-    let read = object_read c.as_slice.result.now c.args.world.now.objects c.args.cons.number c.index-as_slice-number.result c.as_slice.ensures c.requires.in_range in
+    let read = c.at-charge.ensures in
     c.with_cdr-second.ensures ∙ ap (λ (k : CdrCode). let p : Parts = record (c.word_of.result) { cdr = k } in p) (c.second_code.ensures ∙ ap (λ (o : Object). second_code o.charge) read)
 
 pub returns-then-is_known-clause-stays_filled : goal.returns-then-is_known-clause-stays_filled

@@ -1,7 +1,5 @@
-use Rattle.std.proofs.Common.{◌+◌, ◌∙◌, sym, ap, arith}
-use Rattle.std.proofs.lemmas.List.{get_or_default, get_or_read}
+use Rattle.std.proofs.Common.{◌+◌, ◌-◌, min, ◌∙◌, sym, ap, arith}
 use Rattle.lisp_graph.specs.declared.object.Object.{Object}
-use Rattle.lisp_graph.specs.Graph.{no_object}
 use Rattle.lisp_graph.specs.Groups.{is_cell, is_nil}
 use Rattle.heap_load.proofs.GroupSearch.{group_found, group_none, group_stops, stays_linked}
 use Rattle.heap_load.proofs.groups.group_from.Goals as goal
@@ -11,16 +9,17 @@ returns-then-at-end-clause-value c =
     let objects = c.args.objects.now in
     let low = c.requires.in_range in
     let few = c.min.ensures in
+    let long = c.len.ensures in
     let skip = c.skip_links-at.ensures in
     group_none objects c.args.number c.args.linked.now c.max-from.result c.skip_links-at.result _ c.requires.known
-    (ap (λ (o : Object). o.area) (get_or_default objects c.args.number c.index-objects-number.result no_object low)) c.max-from.ensures skip.before
-    (omega arith) (omega arith) (c.if-at-end.true ∙ ap (λ n. c.args.number + n) few)
+    (ap (λ (o : Object). o.area) c.at-area.ensures) c.max-from.ensures skip.before
+    (omega arith) (omega arith) (c.if-at-end.true ∙ ap (λ n. c.args.number + n) few ∙ ap (λ n. c.args.number + min (n - c.args.number) 1024) long)
 
 pub returns-then-at-end-clause-stays_known : goal.returns-then-at-end-clause-stays_known
 returns-then-at-end-clause-stays_known c =
     let objects = c.args.objects.now in
     stays_linked objects c.args.number c.args.linked.now c.max-from.result c.skip_links-at.result _ c.requires.known
-    (ap (λ (o : Object). o.area) (get_or_default objects c.args.number c.index-objects-number.result no_object c.requires.in_range)) c.max-from.ensures c.skip_links-at.ensures.before
+    (ap (λ (o : Object). o.area) c.at-area.ensures) c.max-from.ensures c.skip_links-at.ensures.before
 
 pub returns-then-is_last-clause-value : goal.returns-then-is_last-clause-value
 returns-then-is_last-clause-value c =
@@ -28,15 +27,16 @@ returns-then-is_last-clause-value c =
     let at = c.skip_links-at.result in
     let low = c.requires.in_range in
     let few = c.min.ensures in
+    let long = c.len.ensures in
     let skip = c.skip_links-at.ensures in
     let further = c.max-from.ensures in
     let inside = skip.in_range in
     let before_end = c.if-at-end.false in
     let order = skip.order (omega arith) in
-    let area_is = ap (λ (o : Object). o.area) (get_or_default objects c.args.number c.index-objects-number.result no_object low) in
+    let area_is = ap (λ (o : Object). o.area) c.at-area.ensures in
     group_found objects c.args.number c.args.linked.now c.max-from.result at _ c.requires.known area_is c.max-from.ensures skip.before
     (omega arith) (omega arith) (omega arith) (omega arith)
-    (ap (is_cell _ is_nil) (sym (get_or_read objects at c.index-objects-at.result (omega arith) c.index-objects-at.is no_object)) ∙ sym c.is_last.ensures ∙ c.if-is_last.true)
+    (ap (is_cell _ is_nil) (sym c.at.ensures) ∙ sym c.is_last.ensures ∙ c.if-is_last.true)
 
 pub overflow_sub-result : goal.overflow_sub-result
 overflow_sub-result c =
@@ -52,25 +52,26 @@ returns-else-is_last-clause-value c =
     let at = c.skip_links-at.result in
     let low = c.requires.in_range in
     let few = c.min.ensures in
+    let long = c.len.ensures in
     let skip = c.skip_links-at.ensures in
     let further = c.max-from.ensures in
     let inside = skip.in_range in
     let before_end = c.if-at-end.false in
     let order = skip.order (omega arith) in
-    let area_is = ap (λ (o : Object). o.area) (get_or_default objects c.args.number c.index-objects-number.result no_object low) in
+    let area_is = ap (λ (o : Object). o.area) c.at-area.ensures in
     group_stops objects c.args.number c.args.linked.now c.max-from.result at _ c.requires.known area_is c.max-from.ensures skip.before
     (omega arith) (omega arith) (omega arith)
-    (ap (is_cell _ is_nil) (sym (get_or_read objects at c.index-objects-at.result (omega arith) c.index-objects-at.is no_object)) ∙ sym c.is_last.ensures ∙ c.if-is_last.false)
+    (ap (is_cell _ is_nil) (sym c.at.ensures) ∙ sym c.is_last.ensures ∙ c.if-is_last.false)
     (skip.found (omega arith))
 
 pub returns-then-is_last-clause-stays_known : goal.returns-then-is_last-clause-stays_known
 returns-then-is_last-clause-stays_known c =
     let objects = c.args.objects.now in
     stays_linked objects c.args.number c.args.linked.now c.max-from.result c.skip_links-at.result _ c.requires.known
-    (ap (λ (o : Object). o.area) (get_or_default objects c.args.number c.index-objects-number.result no_object c.requires.in_range)) c.max-from.ensures c.skip_links-at.ensures.before
+    (ap (λ (o : Object). o.area) c.at-area.ensures) c.max-from.ensures c.skip_links-at.ensures.before
 
 pub returns-else-is_last-clause-stays_known : goal.returns-else-is_last-clause-stays_known
 returns-else-is_last-clause-stays_known c =
     let objects = c.args.objects.now in
     stays_linked objects c.args.number c.args.linked.now c.max-from.result c.skip_links-at.result _ c.requires.known
-    (ap (λ (o : Object). o.area) (get_or_default objects c.args.number c.index-objects-number.result no_object c.requires.in_range)) c.max-from.ensures c.skip_links-at.ensures.before
+    (ap (λ (o : Object). o.area) c.at-area.ensures) c.max-from.ensures c.skip_links-at.ensures.before

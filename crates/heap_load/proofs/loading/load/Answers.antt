@@ -28,7 +28,7 @@ returns-clause-represented g c =
     let nils = length-replicate world.space.registers V.Nil in
     let roots = c.requires.accepted.roots in
     represents_loaded _ _ c.set_roots.new.registers world c.deref.result.now (record { is = c.requires.accepted; fits = c.requires.fits }) c.in_ok-fill_drafts.ensures.filled (omega arith)
-    (roots_here c.set_roots.new.registers c.as_slice-2.result.now world.roots c.deref-2.result.now c.deref.result.now c.as_slice-2.ensures (c.deref-2.ensures.value ∙ sym c.deref.ensures.value) c.set_roots.ensures)
+    (roots_here c.set_roots.new.registers c.as_slice.result.now world.roots c.deref-2.result.now c.deref.result.now c.as_slice.ensures (c.deref-2.ensures.value ∙ sym c.deref.ensures.value) c.set_roots.ensures)
 
 pub returns-clause-some : goal.returns-clause-some
 returns-clause-some g c = represents_some _ _ c.set_roots.new.registers c.args.world.now (returns-clause-represented g c)
@@ -41,4 +41,4 @@ returns-clause-groups g c =
     let nils = length-replicate world.space.registers V.Nil in
     let roots = c.requires.accepted.roots in
     groups_loaded _ _ world c.deref.result.now c.in_ok-fill_drafts.ensures.filled c.in_ok-fill_drafts.ensures.stays_laid c.set_roots.new.registers (record { is = c.requires.accepted; fits = c.requires.fits }) (omega arith)
-    (roots_here c.set_roots.new.registers c.as_slice-2.result.now world.roots c.deref-2.result.now c.deref.result.now c.as_slice-2.ensures (c.deref-2.ensures.value ∙ sym c.deref.ensures.value) c.set_roots.ensures)
+    (roots_here c.set_roots.new.registers c.as_slice.result.now world.roots c.deref-2.result.now c.deref.result.now c.as_slice.ensures (c.deref-2.ensures.value ∙ sym c.deref.ensures.value) c.set_roots.ensures)
