@@ -1,14 +1,19 @@
 //! Reads the most frequent commands at the front of a text, with one look at each byte. The caller looks at what follows the command: nothing
 //! if the text is a line, and a line feed if it goes on. In each other case the line is read by `command`, which accepts it or gives the reason
-//! for its refusal.
-ghost use Rattle.std.specs.Prelude.{◌≡◌, ◌≤◌, ◌++◌, ◌∷◌, List, IfSome};
+//! for its refusal. The first four bytes are compared as one number: `words` is the text after them if the first word has three letters and a
+//! space follows it, and `after_four` is the same text in all other cases.
+ghost use Rattle.std.specs.Prelude.{◌≡◌, ◌≤◌, ◌++◌, ◌∷◌, List, codes, IfSome};
+ghost use Rattle.std.specs.Int.{to_le_bytes, w32};
 ghost use Rattle.lisp_graph.specs.declared.world.AreaRule.{AreaRule};
 ghost use Rattle.trace_text.specs.Commands.{InLimits};
 ghost use Rattle.trace_text.specs.Pairs.{pair_name};
 ghost use Rattle.trace_text.specs.Fast.{LeadsCommand, LeadsCons, LeadsItems, LeadsList, LeadsSet};
 
 use crate::fast_blocks::{get, grow, make, put, size};
-use crate::front::{plain_value, register_and_space, spaced_register, two_registers};
+use crate::front::{
+    four_bytes, is_eq, is_word, number_and_space, plain_value, register_and_space, spaced_register,
+    two_registers,
+};
 use crate::pair::PairKind;
 use lisp_graph::{Areas, CommandHead, Request, Value};
 use store_word::Space;
@@ -16,25 +21,25 @@ use world_text::{behind_space, leading_area};
 
 /// The register and the value of `set R V`, and the text after them
 #[inline(always)]
-fn set_words<'a>(space: &Space, text: &'a [u8]) -> Option<(u8, Value, &'a [u8])>
+fn set_words<'a>(space: &Space, words: &'a [u8]) -> Option<(u8, Value, &'a [u8])>
     requires { space.now.registers ≤ 256 }
-    ensures { IfSome result (λ x. LeadsSet space.now.registers text.now x.0 x.1 x.2.now) }
+    ensures { IfSome result (λ x. LeadsSet space.now.registers (codes "set " ++ words.now) x.0 x.1 x.2.now) }
 {
-    let [b's', b'e', b't', b' ', words @ ..] = text else {
-        return None;
-    };
-    let (to, word) = register_and_space(space.registers, words)?;
+    let (to, word) = number_and_space(words)?;
     let (value, rest) = plain_value(word)?;
-    Some((to, value, rest))
+    if to >= space.registers {
+        return None;
+    }
+    Some((to as u8, value, rest))
 }
 
 /// `set R V`
 #[inline(always)]
-fn set<'a>(space: &Space, text: &'a [u8], command: &mut Request) -> Option<&'a [u8]>
+fn set<'a>(space: &Space, words: &'a [u8], command: &mut Request) -> Option<&'a [u8]>
     requires { space.now.registers ≤ 256 }
-    ensures { IfSome result (λ rest. (areas : List AreaRule) → LeadsCommand space.now areas text.now command.new rest.now) }
+    ensures { IfSome result (λ rest. (areas : List AreaRule) → LeadsCommand space.now areas (codes "set " ++ words.now) command.new rest.now) }
 {
-    let (to, value, rest) = set_words(space, text)?;
+    let (to, value, rest) = set_words(space, words)?;
     command.set(CommandHead::Set { to, value });
     Some(rest)
 }
@@ -44,14 +49,12 @@ fn set<'a>(space: &Space, text: &'a [u8], command: &mut Request) -> Option<&'a [
 fn cons_words<'a>(
     space: &Space,
     areas: &Areas,
-    text: &'a [u8],
+    after_four: &'a [u8],
 ) -> Option<(u8, u8, u8, u8, &'a [u8])>
     requires { InLimits space.now areas.now }
-    ensures { IfSome result (λ x. LeadsCons space.now areas.now text.now x.0 x.1 x.2 x.3 x.4.now) }
+    ensures { IfSome result (λ x. LeadsCons space.now areas.now (codes "cons" ++ after_four.now) x.0 x.1 x.2 x.3 x.4.now) }
 {
-    let [b'c', b'o', b'n', b's', b' ', words @ ..] = text else {
-        return None;
-    };
+    let words = behind_space(after_four)?;
     let (to, named) = register_and_space(space.registers, words)?;
     let (area, more) = leading_area(areas, named)?;
     let last = behind_space(more)?;
@@ -61,24 +64,27 @@ fn cons_words<'a>(
 
 /// `cons R AREA S T`
 #[inline(always)]
-fn cons<'a>(space: &Space, areas: &Areas, text: &'a [u8], command: &mut Request) -> Option<&'a [u8]>
+fn cons<'a>(
+    space: &Space,
+    areas: &Areas,
+    after_four: &'a [u8],
+    command: &mut Request,
+) -> Option<&'a [u8]>
     requires { InLimits space.now areas.now }
-    ensures { IfSome result (λ rest. LeadsCommand space.now areas.now text.now command.new rest.now) }
+    ensures { IfSome result (λ rest. LeadsCommand space.now areas.now (codes "cons" ++ after_four.now) command.new rest.now) }
 {
-    let (to, area, car, cdr, rest) = cons_words(space, areas, text)?;
+    let (to, area, car, cdr, rest) = cons_words(space, areas, after_four)?;
     command.set(CommandHead::Cons { to, area, car, cdr });
     Some(rest)
 }
 
 /// What precedes the registers of `list R AREA S ..`, and the text after it
 #[inline(always)]
-fn list_front<'a>(space: &Space, areas: &Areas, text: &'a [u8]) -> Option<(u8, u8, &'a [u8])>
+fn list_front<'a>(space: &Space, areas: &Areas, after_four: &'a [u8]) -> Option<(u8, u8, &'a [u8])>
     requires { InLimits space.now areas.now }
-    ensures { IfSome result (λ x. LeadsList space.now areas.now text.now x.0 x.1 x.2.now) }
+    ensures { IfSome result (λ x. LeadsList space.now areas.now (codes "list" ++ after_four.now) x.0 x.1 x.2.now) }
 {
-    let [b'l', b'i', b's', b't', b' ', words @ ..] = text else {
-        return None;
-    };
+    let words = behind_space(after_four)?;
     let (to, named) = register_and_space(space.registers, words)?;
     let (area, items) = leading_area(areas, named)?;
     Some((to, area as u8, items))
@@ -111,38 +117,67 @@ fn spaced_items<'a>(
 
 /// `list R AREA S ..`
 #[inline(always)]
-fn list<'a>(space: &Space, areas: &Areas, text: &'a [u8], command: &mut Request) -> Option<&'a [u8]>
+fn list<'a>(
+    space: &Space,
+    areas: &Areas,
+    after_four: &'a [u8],
+    command: &mut Request,
+) -> Option<&'a [u8]>
     requires { InLimits space.now areas.now }
-    ensures { IfSome result (λ rest. LeadsCommand space.now areas.now text.now command.new rest.now) }
+    ensures { IfSome result (λ rest. LeadsCommand space.now areas.now (codes "list" ++ after_four.now) command.new rest.now) }
 {
-    let (to, area, items) = list_front(space, areas, text)?;
+    let (to, area, items) = list_front(space, areas, after_four)?;
     let rest = spaced_items(space.registers, to, area, items, command)?;
     Some(rest)
 }
 
-/// The first word of a command of two registers, and the text after the space that follows it.
+/// The first word of a command of two registers, and the text after the space that follows it. `front` is the number of the first four bytes.
 #[inline(always)]
-fn leading_pair(text: &[u8]) -> Option<(PairKind, &[u8])>
+fn leading_pair<'a>(
+    front: u32,
+    after_four: &'a [u8],
+    text: &'a [u8],
+) -> Option<(PairKind, &'a [u8])>
+    requires { text.now ≡ to_le_bytes w32 front ++ after_four.now }
     ensures { IfSome result (λ x. text.now ≡ pair_name x.0 ++ 32 ∷ x.1.now) }
 {
-    match text {
-        [b'c', b'a', b'r', b' ', rest @ ..] => Some((PairKind::Car, rest)),
-        [b'c', b'd', b'r', b' ', rest @ ..] => Some((PairKind::Cdr, rest)),
-        [b'e', b'q', b' ', rest @ ..] => Some((PairKind::Eq, rest)),
-        [b'm', b'o', b'v', b'e', b' ', rest @ ..] => Some((PairKind::Move, rest)),
-        [b'r', b'p', b'l', b'a', b'c', b'a', b' ', rest @ ..] => Some((PairKind::Rplaca, rest)),
-        [b'r', b'p', b'l', b'a', b'c', b'd', b' ', rest @ ..] => Some((PairKind::Rplacd, rest)),
-        _ => None,
+    if is_word(front, b"car ") {
+        return Some((PairKind::Car, after_four));
     }
+    if is_word(front, b"cdr ") {
+        return Some((PairKind::Cdr, after_four));
+    }
+    if is_word(front, b"move") {
+        let words = behind_space(after_four)?;
+        return Some((PairKind::Move, words));
+    }
+    if is_word(front, b"rpla") {
+        return match after_four {
+            [b'c', b'a', b' ', words @ ..] => Some((PairKind::Rplaca, words)),
+            [b'c', b'd', b' ', words @ ..] => Some((PairKind::Rplacd, words)),
+            _ => None,
+        };
+    }
+    if is_eq(front) {
+        return Some((PairKind::Eq, &text[3..]));
+    }
+    None
 }
 
 /// A command of two registers
 #[inline(always)]
-fn pair<'a>(space: &Space, text: &'a [u8], command: &mut Request) -> Option<&'a [u8]>
-    requires { space.now.registers ≤ 256 }
+fn pair<'a>(
+    space: &Space,
+    front: u32,
+    after_four: &'a [u8],
+    text: &'a [u8],
+    command: &mut Request,
+) -> Option<&'a [u8]>
+    requires small { space.now.registers ≤ 256 }
+    requires front { text.now ≡ to_le_bytes w32 front ++ after_four.now }
     ensures { IfSome result (λ rest. (areas : List AreaRule) → LeadsCommand space.now areas text.now command.new rest.now) }
 {
-    let (kind, words) = leading_pair(text)?;
+    let (kind, words) = leading_pair(front, after_four, text)?;
     let (first, second, rest) = two_registers(space.registers, words)?;
     command.set(kind.with(first, second));
     Some(rest)
@@ -159,18 +194,30 @@ pub fn read_fast<'a>(
     requires { InLimits space.now areas.now }
     ensures { IfSome result (λ rest. LeadsCommand space.now areas.now text.now command.new rest.now) }
 {
-    if text.is_empty() {
-        return None;
+    let (front, after_four) = four_bytes(text)?;
+    if is_word(front, b"set ") {
+        return set(space, after_four, command);
     }
-    match text[0] {
-        b's' if text.len() > 1 && text[1] == b'e' => set(space, text, command),
-        b's' => size(space, text, command),
-        b'g' if text.len() > 1 && text[1] == b'e' => get(space, text, command),
-        b'g' => grow(space, text, command),
-        b'p' => put(space, text, command),
-        b'l' => list(space, areas, text, command),
-        b'c' if text.len() > 1 && text[1] == b'o' => cons(space, areas, text, command),
-        b'm' if text.len() > 1 && text[1] == b'a' => make(space, areas, text, command),
-        _ => pair(space, text, command),
+    if is_word(front, b"get ") {
+        return get(space, after_four, command);
     }
+    if is_word(front, b"put ") {
+        return put(space, after_four, command);
+    }
+    if is_word(front, b"cons") {
+        return cons(space, areas, after_four, command);
+    }
+    if is_word(front, b"list") {
+        return list(space, areas, after_four, command);
+    }
+    if is_word(front, b"make") {
+        return make(space, areas, after_four, command);
+    }
+    if is_word(front, b"size") {
+        return size(space, after_four, command);
+    }
+    if is_word(front, b"grow") {
+        return grow(space, after_four, command);
+    }
+    pair(space, front, after_four, text, command)
 }

@@ -11,54 +11,54 @@ use world_text::{behind_space, leading_area};
 
 /// The numbers of `get R S I`, and the text after them
 #[inline(always)]
-fn get_words<'a>(space: &Space, text: &'a [u8]) -> Option<(u8, u8, u32, &'a [u8])>
+fn get_words<'a>(space: &Space, words: &'a [u8]) -> Option<(u8, u8, u32, &'a [u8])>
     requires { space.now.registers ≤ 256 }
     ensures { IfSome result (λ x. (x.0 < space.now.registers) × (x.1 < space.now.registers) × (x.2 < 2 ^ 32)
-        × (text.now ≡ codes "get " ++ decimal x.0 ++ 32 ∷ decimal x.1 ++ 32 ∷ decimal x.2 ++ x.3.now)) }
+        × (codes "get " ++ words.now ≡ codes "get " ++ decimal x.0 ++ 32 ∷ decimal x.1 ++ 32 ∷ decimal x.2 ++ x.3.now)) }
 {
-    let [b'g', b'e', b't', b' ', words @ ..] = text else {
-        return None;
-    };
-    let (to, more) = register_and_space(space.registers, words)?;
-    let (from, last) = register_and_space(space.registers, more)?;
+    let (to, more) = number_and_space(words)?;
+    let (from, last) = number_and_space(more)?;
     let (index, rest) = leading_any(last)?;
-    Some((to, from, index, rest))
+    if to >= space.registers || from >= space.registers {
+        return None;
+    }
+    Some((to as u8, from as u8, index, rest))
 }
 
 /// `get R S I`
 #[inline(always)]
-pub fn get<'a>(space: &Space, text: &'a [u8], command: &mut Request) -> Option<&'a [u8]>
+pub fn get<'a>(space: &Space, words: &'a [u8], command: &mut Request) -> Option<&'a [u8]>
     requires { space.now.registers ≤ 256 }
-    ensures { IfSome result (λ rest. (areas : List AreaRule) → LeadsCommand space.now areas text.now command.new rest.now) }
+    ensures { IfSome result (λ rest. (areas : List AreaRule) → LeadsCommand space.now areas (codes "get " ++ words.now) command.new rest.now) }
 {
-    let (to, from, index, rest) = get_words(space, text)?;
+    let (to, from, index, rest) = get_words(space, words)?;
     command.set(CommandHead::Get { to, from, index });
     Some(rest)
 }
 
 /// The numbers of `put R I S`, and the text after them
 #[inline(always)]
-fn put_words<'a>(space: &Space, text: &'a [u8]) -> Option<(u8, u32, u8, &'a [u8])>
+fn put_words<'a>(space: &Space, words: &'a [u8]) -> Option<(u8, u32, u8, &'a [u8])>
     requires { space.now.registers ≤ 256 }
     ensures { IfSome result (λ x. (x.0 < space.now.registers) × (x.2 < space.now.registers) × (x.1 < 2 ^ 32)
-        × (text.now ≡ codes "put " ++ decimal x.0 ++ 32 ∷ decimal x.1 ++ 32 ∷ decimal x.2 ++ x.3.now)) }
+        × (codes "put " ++ words.now ≡ codes "put " ++ decimal x.0 ++ 32 ∷ decimal x.1 ++ 32 ∷ decimal x.2 ++ x.3.now)) }
 {
-    let [b'p', b'u', b't', b' ', words @ ..] = text else {
-        return None;
-    };
-    let (target, more) = register_and_space(space.registers, words)?;
+    let (target, more) = number_and_space(words)?;
     let (index, last) = number_and_space(more)?;
-    let (from, rest) = leading_register(space.registers, last)?;
-    Some((target, index, from, rest))
+    let (from, rest) = leading_any(last)?;
+    if target >= space.registers || from >= space.registers {
+        return None;
+    }
+    Some((target as u8, index, from as u8, rest))
 }
 
 /// `put R I S`
 #[inline(always)]
-pub fn put<'a>(space: &Space, text: &'a [u8], command: &mut Request) -> Option<&'a [u8]>
+pub fn put<'a>(space: &Space, words: &'a [u8], command: &mut Request) -> Option<&'a [u8]>
     requires { space.now.registers ≤ 256 }
-    ensures { IfSome result (λ rest. (areas : List AreaRule) → LeadsCommand space.now areas text.now command.new rest.now) }
+    ensures { IfSome result (λ rest. (areas : List AreaRule) → LeadsCommand space.now areas (codes "put " ++ words.now) command.new rest.now) }
 {
-    let (target, index, from, rest) = put_words(space, text)?;
+    let (target, index, from, rest) = put_words(space, words)?;
     command.set(CommandHead::Put {
         target,
         index,
@@ -85,14 +85,12 @@ fn leading_small(high: u16, text: &[u8]) -> Option<(u16, &[u8])>
 fn make_words<'a>(
     space: &Space,
     areas: &Areas,
-    text: &'a [u8],
+    after_four: &'a [u8],
 ) -> Option<(u8, u8, u16, u16, &'a [u8])>
     requires { InLimits space.now areas.now }
-    ensures { IfSome result (λ x. LeadsMake space.now areas.now text.now x.0 x.1 x.2 x.3 x.4.now) }
+    ensures { IfSome result (λ x. LeadsMake space.now areas.now (codes "make" ++ after_four.now) x.0 x.1 x.2 x.3 x.4.now) }
 {
-    let [b'm', b'a', b'k', b'e', b' ', words @ ..] = text else {
-        return None;
-    };
+    let words = behind_space(after_four)?;
     let (to, named) = register_and_space(space.registers, words)?;
     let (area, more) = leading_area(areas, named)?;
     let last = behind_space(more)?;
@@ -107,13 +105,13 @@ fn make_words<'a>(
 pub fn make<'a>(
     space: &Space,
     areas: &Areas,
-    text: &'a [u8],
+    after_four: &'a [u8],
     command: &mut Request,
 ) -> Option<&'a [u8]>
     requires { InLimits space.now areas.now }
-    ensures { IfSome result (λ rest. LeadsCommand space.now areas.now text.now command.new rest.now) }
+    ensures { IfSome result (λ rest. LeadsCommand space.now areas.now (codes "make" ++ after_four.now) command.new rest.now) }
 {
-    let (to, area, code, length, rest) = make_words(space, areas, text)?;
+    let (to, area, code, length, rest) = make_words(space, areas, after_four)?;
     command.set(CommandHead::Make {
         to,
         area,
@@ -125,13 +123,11 @@ pub fn make<'a>(
 
 /// The register and the length of `grow R N`, and the text after them
 #[inline(always)]
-fn grow_words<'a>(space: &Space, text: &'a [u8]) -> Option<(u8, u16, &'a [u8])>
+fn grow_words<'a>(space: &Space, after_four: &'a [u8]) -> Option<(u8, u16, &'a [u8])>
     requires { space.now.registers ≤ 256 }
-    ensures { IfSome result (λ x. (x.0 < space.now.registers) × (x.1 ≤ 2047) × (text.now ≡ codes "grow " ++ decimal x.0 ++ 32 ∷ decimal x.1 ++ x.2.now)) }
+    ensures { IfSome result (λ x. (x.0 < space.now.registers) × (x.1 ≤ 2047) × (codes "grow" ++ after_four.now ≡ codes "grow " ++ decimal x.0 ++ 32 ∷ decimal x.1 ++ x.2.now)) }
 {
-    let [b'g', b'r', b'o', b'w', b' ', words @ ..] = text else {
-        return None;
-    };
+    let words = behind_space(after_four)?;
     let (target, last) = register_and_space(space.registers, words)?;
     let (length, rest) = leading_small(2_047, last)?;
     Some((target, length, rest))
@@ -139,34 +135,32 @@ fn grow_words<'a>(space: &Space, text: &'a [u8]) -> Option<(u8, u16, &'a [u8])>
 
 /// `grow R N`
 #[inline(always)]
-pub fn grow<'a>(space: &Space, text: &'a [u8], command: &mut Request) -> Option<&'a [u8]>
+pub fn grow<'a>(space: &Space, after_four: &'a [u8], command: &mut Request) -> Option<&'a [u8]>
     requires { space.now.registers ≤ 256 }
-    ensures { IfSome result (λ rest. (areas : List AreaRule) → LeadsCommand space.now areas text.now command.new rest.now) }
+    ensures { IfSome result (λ rest. (areas : List AreaRule) → LeadsCommand space.now areas (codes "grow" ++ after_four.now) command.new rest.now) }
 {
-    let (target, length, rest) = grow_words(space, text)?;
+    let (target, length, rest) = grow_words(space, after_four)?;
     command.set(CommandHead::Grow { target, length });
     Some(rest)
 }
 
 /// The register of `size R`, and the text after it
 #[inline(always)]
-fn size_words<'a>(space: &Space, text: &'a [u8]) -> Option<(u8, &'a [u8])>
+fn size_words<'a>(space: &Space, after_four: &'a [u8]) -> Option<(u8, &'a [u8])>
     requires { space.now.registers ≤ 256 }
-    ensures { IfSome result (λ x. (x.0 < space.now.registers) × (text.now ≡ codes "size " ++ decimal x.0 ++ x.1.now)) }
+    ensures { IfSome result (λ x. (x.0 < space.now.registers) × (codes "size" ++ after_four.now ≡ codes "size " ++ decimal x.0 ++ x.1.now)) }
 {
-    let [b's', b'i', b'z', b'e', b' ', words @ ..] = text else {
-        return None;
-    };
+    let words = behind_space(after_four)?;
     leading_register(space.registers, words)
 }
 
 /// `size R`
 #[inline(always)]
-pub fn size<'a>(space: &Space, text: &'a [u8], command: &mut Request) -> Option<&'a [u8]>
+pub fn size<'a>(space: &Space, after_four: &'a [u8], command: &mut Request) -> Option<&'a [u8]>
     requires { space.now.registers ≤ 256 }
-    ensures { IfSome result (λ rest. (areas : List AreaRule) → LeadsCommand space.now areas text.now command.new rest.now) }
+    ensures { IfSome result (λ rest. (areas : List AreaRule) → LeadsCommand space.now areas (codes "size" ++ after_four.now) command.new rest.now) }
 {
-    let (of, rest) = size_words(space, text)?;
+    let (of, rest) = size_words(space, after_four)?;
     command.set(CommandHead::Size { of });
     Some(rest)
 }

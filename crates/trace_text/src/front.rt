@@ -1,11 +1,40 @@
 //! Registers, numbers and values at the front of a text, for the readers of the most frequent commands. Each call looks at each byte once, and
 //! returns None if the text begins with something else.
-ghost use Rattle.std.specs.Prelude.{◌≡◌, ◌≤◌, ◌<◌, ◌++◌, ◌∷◌, decimal, IfSome};
+ghost use Rattle.std.specs.Prelude.{◌≡◌, ◌≤◌, ◌<◌, ◌/◌, ◌^◌, ◌++◌, ◌∷◌, [], true, codes, decimal, IfSome};
+ghost use Rattle.std.specs.Int.{to_le_bytes, w32};
 ghost use Rattle.lisp_graph.specs.Commands.{IsPlain};
 ghost use Rattle.world_text.specs.Spelling.{IsWritten, value_text};
 
 use lisp_graph::Value;
 use world_text::{behind_space, leading_number, leading_value};
+
+/// The first four bytes of a text as one number, the first byte in its lowest place, and the text after them.
+#[inline(always)]
+pub fn four_bytes(text: &[u8]) -> Option<(u32, &[u8])>
+    ensures { IfSome result (λ x. text.now ≡ to_le_bytes w32 x.0 ++ x.1.now) }
+{
+    let [first, second, third, fourth, rest @ ..] = text else {
+        return None;
+    };
+    let number = u32::from_le_bytes([*first, *second, *third, *fourth]);
+    Some((number, rest))
+}
+
+/// Whether the bytes of this number are those of this word, found by one comparison.
+#[inline(always)]
+pub fn is_word(front: u32, word: &[u8; 4]) -> bool
+    ensures { result ≡ true → to_le_bytes w32 front ≡ word.now }
+{
+    front == u32::from_le_bytes(*word)
+}
+
+/// Whether the first three bytes of this number are `eq` and a space.
+#[inline(always)]
+pub fn is_eq(front: u32) -> bool
+    ensures { result ≡ true → to_le_bytes w32 front ≡ codes "eq " ++ (front / 2 ^ 24) ∷ [] }
+{
+    front % (1 << 24) == u32::from_le_bytes(*b"eq \0")
+}
 
 /// A number of one or two digits, and the text after it, which isn't empty. Most registers are such numbers.
 #[inline(always)]
@@ -110,9 +139,12 @@ pub fn two_registers(registers: u32, text: &[u8]) -> Option<(u8, u8, &[u8])>
     requires { registers ≤ 256 }
     ensures { IfSome result (λ x. (x.0 < registers) × (x.1 < registers) × (text.now ≡ decimal x.0 ++ 32 ∷ decimal x.1 ++ x.2.now)) }
 {
-    let (first, last) = register_and_space(registers, text)?;
-    let (second, rest) = leading_register(registers, last)?;
-    Some((first, second, rest))
+    let (first, last) = number_and_space(text)?;
+    let (second, rest) = leading_any(last)?;
+    if first >= registers || second >= registers {
+        return None;
+    }
+    Some((first as u8, second as u8, rest))
 }
 
 /// A space and a register, and the text after them.
