@@ -55,6 +55,26 @@ fn gather_short<K: Sink, const N: usize>(
     }
 }
 
+/// Gathers the line of a reply, which is composed in a buffer of its own. A line has at most 64 bytes.
+#[inline(never)]
+fn give_composed<K: Sink>(
+    buffer: &mut SinkBuffer,
+    sink: &mut K,
+    reply: &Reply,
+    areas: &Areas,
+) -> Result<(), LoopExit>
+    ensures gathers { Gathers (K.stands sink.old) (K.stands sink.new) buffer.old.pending buffer.new.pending (reply_text reply.now areas.now) result }
+    ensures fits { length buffer.old.pending + 64 ≤ buffer.old.room → K.faults sink.old < 2 ^ 64 - 1 → result ≡ Ok tt }
+    ensures room { buffer.new.room ≡ buffer.old.room }
+    ensures write { IfErr result (λ halt. halt ≡ LoopExit.Write) }
+    ensures cause { HasCause (K.faults sink.old) (K.faults sink.new) result }
+    ensures last { OnErr result (FailedLast (K.faults sink.old) (K.faults sink.new) (K.failed sink.new)) }
+{
+    let line = reply_text(reply, areas);
+    let (text, size) = line.padded();
+    gather_short(buffer, sink, text, size)
+}
+
 /// Gathers the line of a reply. Most lines are constants, and aren't composed. A line has at most 64 bytes.
 #[inline(always)]
 fn give_reply<K: Sink>(
@@ -72,11 +92,7 @@ fn give_reply<K: Sink>(
 {
     match padded_text(reply) {
         Some((text, size)) => gather_short(buffer, sink, text, size),
-        None => {
-            let line = reply_text(reply, areas);
-            let (text, size) = line.padded();
-            gather_short(buffer, sink, text, size)
-        }
+        None => give_composed(buffer, sink, reply, areas),
     }
 }
 
