@@ -33,18 +33,20 @@ impl Tally {
     }
 
     /// Counts a line. The first eleven bytes of the line suffice.
+    #[inline(always)]
     pub(crate) fn add(&mut self, line: &[u8])
         ensures { self.new ≡ with_line self.old line.now }
     {
-        *self = if may_be_counted(line) {
-            with_word(*self, first_word(line))
+        if may_be_counted(line) {
+            *self = with_word(*self, first_word(line));
         } else {
-            with_other(*self)
-        };
+            *self = with_other(*self);
+        }
     }
 }
 
 // The counts after one more line, which has this first word.
+#[inline(never)]
 fn with_word(tally: Tally, word: &[u8]) -> Tally
     ensures { result ≡ with_word tally word.now }
 {
