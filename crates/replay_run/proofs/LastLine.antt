@@ -1,6 +1,5 @@
 -- The last line, after what is pending.
 use Rattle.std.proofs.Common.{◌≡◌, ◌⊎◌, inl, inr, ℕ, ◌-◌, ◌<◌, List, [], ◌∷◌, ◌++◌, length, drop, true, Option, Result, Ok, Err, refl, sym, ap, ◌∙◌, subst, arith, Bool, false}
-use Rattle.std.specs.Prelude.{IfErr}
 use Rattle.std.proofs.lemmas.List.{append_assoc, length-append}
 use Rattle.std.proofs.Math.Seq.{drop-nil, take-nil}
 use Rattle.outer_ports.specs.Ports.{Gained, IsCut}
@@ -121,12 +120,12 @@ module _ {left left' : Option (List ℕ)} {last : ℕ} {held held' held'' : List
 
 -- the last line was written, or the sink failed in it or before
 pub ran_finish : {left left' : Option (List ℕ)} {last : ℕ} {held held' held'' : List ℕ → Type 0} {stands : State → Type 0} {loaded : Bool} {source_rose : Type 0} {pending : List ℕ} (before now : ℕ) (outcome : Result (Unit {0}) RunStop) (status : Status)
-    → IfErr outcome (λ stop. stop ≡ Tell trouble.Read → source_rose) → IfErr outcome (λ stop. stop ≡ Tell trouble.Swap → before < now) → HasStopped left left' last held held' stands loaded source_rose (now - before) pending outcome → Finished held' held'' pending outcome status
+    → (outcome ≡ Err (Tell trouble.Read) → source_rose) → (outcome ≡ Err (Tell trouble.Swap) → before < now) → HasStopped left left' last held held' stands loaded source_rose (now - before) pending outcome → Finished held' held'' pending outcome status
     → HasRun left left' last held held'' stands loaded source_rose (now - before) status
 ran_finish before now (Ok x) status read swap r f = ran_stop (Ok x) status Done [] r r.3.stopped tt f
 ran_finish before now (Err Write) status read swap r f = ran_cut status r f
 ran_finish {source_rose = source_rose} before now (Err (Tell t)) status read swap r f =
-    ran_stop (Err (Tell t)) status (status_of t) (trouble_line t) r r.3.stopped (caused source_rose (now - before) t read (λ is. omega (arith, swap is))) f
+    ran_stop (Err (Tell t)) status (status_of t) (trouble_line t) r r.3.stopped (caused source_rose (now - before) t (λ is. read (ap Err is)) (λ is. omega (arith, swap (ap Err is)))) f
 
 -- no bytes have no line feed
 feedless_none : (n last : ℕ) → no_feed (drop n (without_latest last [])) ≡ true

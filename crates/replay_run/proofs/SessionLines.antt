@@ -1,6 +1,6 @@
 -- A line of a session: what was fed before it, seen as a run whose source has given that, and what one more line adds.
 use Rattle.std.proofs.Common.{◌≡◌, ◌≢◌, inl, inr, ℕ, zero, suc, ◌+◌, ◌-◌, ◌<◌, ◌≤◌, ◌^◌, List, [], ◌∷◌, ◌++◌, length, take, drop, not, ◌&&◌, ◌==◌, Bool, true, false, Option, Some, None, Result, Ok, Err, refl, sym, ap, ◌∙◌, subst, arith}
-use Rattle.std.specs.Prelude.{IfErr, count_by, if◌then◌else◌, is_some}
+use Rattle.std.specs.Prelude.{count_by, if◌then◌else◌, is_some}
 use Rattle.std.proofs.lemmas.List.{append-nil, append_assoc, length-append, length-take-le, take_all, drop_all, drop_at, get_or_at, take-append-le}
 use Rattle.std.proofs.Math.Seq.{drop-nil}
 use Rattle.std.proofs.lemmas.Bool.Decides.{leb_tells}
@@ -303,16 +303,8 @@ wrote_of : {fed written : List ℕ} {stands : State → Type 0} {loaded : Bool} 
     → Wrote status (observes fed fed (length fed) (written ++ line) stands loaded ⊥ faults)
 wrote_of {fed} {written} {stands} {loaded} {faults} outcome status line read swap r finished = at_is
   where
-    no_read : (o : Result (Unit {0}) RunStop) → o ≢ Err (Tell trouble.Read) → IfErr o (λ stop. stop ≡ Tell trouble.Read → ⊥)
-    no_read (Ok x) other = tt
-    no_read (Err stop) other = λ is. other (ap Err is)
-
-    rose : (o : Result (Unit {0}) RunStop) → (o ≡ Err (Tell trouble.Swap) → 0 < faults) → IfErr o (λ stop. stop ≡ Tell trouble.Swap → 0 < faults)
-    rose (Ok x) other = tt
-    rose (Err stop) other = λ is. other (ap Err is)
-
     ran : HasRun (Some fed) (Some []) (length fed) (λ had. [] ≡ had) (λ had. written ++ line ≡ had) stands loaded ⊥ (faults - 0) status
-    ran = ran_finish {source_rose = ⊥} 0 faults outcome status (no_read outcome read) (rose outcome swap) r finished
+    ran = ran_finish {source_rose = ⊥} 0 faults outcome status read swap r finished
 
     i_is : fed ≡ ran.0
     i_is = ran.3.input

@@ -5,3 +5,4 @@ pub mod Top
 pub mod Exercise
 pub mod OneLine
 pub mod Session
+pub mod Reports

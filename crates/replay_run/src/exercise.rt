@@ -1,9 +1,9 @@
 //! An exercise: runs a generated input, and summarizes its replies.
 ghost use Rattle.std.specs.Prelude.{◌≡◌, ◌≢◌, ◌-◌, ◌≤◌};
-ghost use Rattle.outer_ports.specs.Ports.{FailedLast, Rose};
 ghost use Rattle.trace_text.specs.Summary.{summary};
 ghost use Rattle.line_input.specs.Statuses.{Closed};
 ghost use Rattle.replay_run.specs.Exercise.{Exercised, RanMade};
+ghost use Rattle.replay_run.specs.Reports.{ReportsSink};
 
 use crate::input::answer_input;
 use line_input::{RunError, Status, report};
@@ -28,9 +28,7 @@ fn run_made<E: Engine>(alloc: Global, number: u32, count: u32, engine: &mut E) -
 /// Writes the summary of an exercise.
 fn write_summary<K: Sink>(sink: &mut K, count: u32, tally: &Tally) -> Status
     ensures written { Closed (K.stands sink.old) (K.stands sink.new) (summary count tally.now) Status.Done result }
-    ensures write { result ≡ Status.WriteFailed → Rose (K.faults sink.old) (K.faults sink.new) }
-    ensures last { result ≡ Status.WriteFailed → FailedLast (K.faults sink.old) (K.faults sink.new) (K.failed sink.new) }
-    ensures no_fault { result ≢ Status.WriteFailed → K.faults sink.new ≡ K.faults sink.old }
+    ensures sink { ReportsSink (result ≡ Status.WriteFailed) (K.faults sink.old) (K.faults sink.new) (K.failed sink.new) }
 {
     let text = summary_text(count, tally);
     match give_all(sink, text.as_bytes()) {
@@ -52,9 +50,7 @@ pub(crate) fn exercise<K: Sink, E: Engine>(
     requires at_most { count ≤ 1000000 }
     requires idle { E.is_idle engine.old }
     ensures exercised { Exercised number count (K.stands sink.old) (K.stands sink.new) (E.stands engine.new) (E.loaded engine.new) (E.faults engine.new - E.faults engine.old) result }
-    ensures write { result ≡ Status.WriteFailed → Rose (K.faults sink.old) (K.faults sink.new) }
-    ensures last { result ≡ Status.WriteFailed → FailedLast (K.faults sink.old) (K.faults sink.new) (K.failed sink.new) }
-    ensures no_fault { result ≢ Status.WriteFailed → K.faults sink.new ≡ K.faults sink.old }
+    ensures sink { ReportsSink (result ≡ Status.WriteFailed) (K.faults sink.old) (K.faults sink.new) (K.failed sink.new) }
     ensures swap { result ≢ Status.SwapFailed }
     ensures never_falls { E.faults engine.old ≤ E.faults engine.new }
 {

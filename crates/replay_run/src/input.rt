@@ -1,8 +1,9 @@
 //! A whole run.
-ghost use Rattle.std.specs.Prelude.{◌≡◌, ◌≢◌, ◌-◌, ◌<◌, ◌≤◌, true, ℕ, List, is_some, Some};
-ghost use Rattle.outer_ports.specs.Ports.{FailedLast, Gave, Rose};
+ghost use Rattle.std.specs.Prelude.{◌≡◌, ◌≢◌, ◌-◌, true, ℕ, List, is_some, Some};
+ghost use Rattle.outer_ports.specs.Ports.{Gave, Rose};
 ghost use Rattle.paged_machine.specs.Holding.{StandsFor};
 ghost use Rattle.replay_run.specs.Outcome.{HasNoWorld, HasNoWorldYet, Ran};
+ghost use Rattle.replay_run.specs.Reports.{ReportsSink, ReportsSwap};
 ghost use Rattle.line_input.specs.Statuses.{code};
 
 use crate::run::run_trace;
@@ -29,12 +30,9 @@ pub fn answer_input<S: Source, K: Sink, E: Engine>(
         (record { input = i; taken = b; last = S.last source.new; written = w; stands = E.stands engine.new; loaded = E.loaded engine.new; source_rose = Rose (S.faults source.old) (S.faults source.new); swap_rose = E.faults engine.new - E.faults engine.old })
         result }
     ensures read { result ≡ Status.ReadFailed → Rose (S.faults source.old) (S.faults source.new) }
-    ensures write { result ≡ Status.WriteFailed → Rose (K.faults sink.old) (K.faults sink.new) }
-    ensures last { result ≡ Status.WriteFailed → FailedLast (K.faults sink.old) (K.faults sink.new) (K.failed sink.new) }
-    ensures swap { result ≡ Status.SwapFailed → E.faults engine.old < E.faults engine.new }
     ensures source_no_fault { result ≢ Status.ReadFailed → result ≢ Status.WriteFailed → S.faults source.new ≡ S.faults source.old }
-    ensures sink_no_fault { result ≢ Status.WriteFailed → K.faults sink.new ≡ K.faults sink.old }
-    ensures never_falls { E.faults engine.old ≤ E.faults engine.new }
+    ensures sink { ReportsSink (result ≡ Status.WriteFailed) (K.faults sink.old) (K.faults sink.new) (K.failed sink.new) }
+    ensures swap { ReportsSwap (result ≡ Status.SwapFailed) (E.faults engine.old) (E.faults engine.new) }
     ensures unopened { (i : List ℕ) → S.left source.old ≡ Some i → HasNoWorld i → engine.new ≡ engine.old }
     ensures unread { (i b : List ℕ) → S.left source.old ≡ Some i → Gave (Some i) (S.left source.new) b → HasNoWorldYet b
         → result ≡ Status.ReadFailed → engine.new ≡ engine.old }
@@ -69,12 +67,9 @@ pub fn replay<S: Source, K: Sink, D: Swap>(
         (record { input = i; taken = b; last = S.last source.new; written = w; stands = StandsFor machine.new.heap; loaded = is_some machine.new.heap; source_rose = Rose (S.faults source.old) (S.faults source.new); swap_rose = machine.new.faults - machine.old.faults })
         status }
     ensures read { result ≡ 3 → Rose (S.faults source.old) (S.faults source.new) }
-    ensures write { result ≡ 1 → Rose (K.faults sink.old) (K.faults sink.new) }
-    ensures last { result ≡ 1 → FailedLast (K.faults sink.old) (K.faults sink.new) (K.failed sink.new) }
-    ensures swap { result ≡ 6 → machine.old.faults < machine.new.faults }
     ensures source_no_fault { result ≢ 3 → result ≢ 1 → S.faults source.new ≡ S.faults source.old }
-    ensures sink_no_fault { result ≢ 1 → K.faults sink.new ≡ K.faults sink.old }
-    ensures never_falls { machine.old.faults ≤ machine.new.faults }
+    ensures sink { ReportsSink (result ≡ 1) (K.faults sink.old) (K.faults sink.new) (K.failed sink.new) }
+    ensures swap { ReportsSwap (result ≡ 6) machine.old.faults machine.new.faults }
     ensures unopened { (i : List ℕ) → S.left source.old ≡ Some i → HasNoWorld i → machine.new ≡ machine.old }
     ensures unread { (i b : List ℕ) → S.left source.old ≡ Some i → Gave (Some i) (S.left source.new) b → HasNoWorldYet b
         → result ≡ 3 → machine.new ≡ machine.old }

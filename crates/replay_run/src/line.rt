@@ -1,12 +1,12 @@
 //! One line: judging it, and doing what it requests.
 ghost use Rattle.std.specs.Prelude.{◌≡◌, ◌≢◌, ◌⊎◌, ◌≤◌, ◌<◌, ◌+◌, ◌-◌, ◌^◌, length, false, Some, None, Err, IfErr, OnOk};
-ghost use Rattle.outer_ports.specs.Ports.{FailedLast, Rose};
 ghost use Rattle.lisp_graph.specs.declared.command.Command.{Command as OneCommand};
 ghost use Rattle.lisp_graph.specs.declared.world.World.{World as OneWorld};
 ghost use Rattle.lisp_graph.specs.Commands.{IsRunnable};
 ghost use Rattle.input_verdict.specs.Events.{Does, Nothing, Opens, event_of};
 ghost use Rattle.input_verdict.specs.Places.{IsPlace, MayDo};
 ghost use Rattle.input_verdict.specs.Verdict.{world_of};
+ghost use Rattle.replay_run.specs.Reports.{ReportsSink, ReportsSwap};
 ghost use Rattle.replay_run.specs.Steps.{Acted, FailsInDump, HasRoom, IsIn, TakesAfter};
 ghost use Rattle.replay_run.specs.OneLine.{LineDone, LineHalted, LineRefused};
 
@@ -43,12 +43,8 @@ pub(crate) fn act<K: Sink, E: Engine>(
     ensures unchanged { event_of step command.now ≡ Nothing → engine.new ≡ engine.old }
     ensures takes { OnOk result (TakesAfter (event_of step command.now) world.now (E.takes engine.old) (E.takes engine.new) (E.is_idle engine.old) (E.is_idle engine.new)) }
     ensures read { IfErr result (λ halt. halt ≢ LoopExit.Read) }
-    ensures write { IfErr result (λ halt. halt ≡ LoopExit.Write → Rose (K.faults sink.old) (K.faults sink.new)) }
-    ensures last { IfErr result (λ halt. halt ≡ LoopExit.Write → FailedLast (K.faults sink.old) (K.faults sink.new) (K.failed sink.new)) }
-    ensures swap { IfErr result (λ halt. halt ≡ LoopExit.Swap → E.faults engine.old < E.faults engine.new) }
-    ensures never_falls { K.faults sink.old ≤ K.faults sink.new }
-    ensures device_never_falls { E.faults engine.old ≤ E.faults engine.new }
-    ensures no_fault { result ≢ Err LoopExit.Write → K.faults sink.new ≡ K.faults sink.old }
+    ensures sink { ReportsSink (result ≡ Err LoopExit.Write) (K.faults sink.old) (K.faults sink.new) (K.failed sink.new) }
+    ensures swap { ReportsSwap (result ≡ Err LoopExit.Swap) (E.faults engine.old) (E.faults engine.new) }
 {
     match step {
         LineEffect::Nothing => Ok(()),
@@ -90,12 +86,8 @@ pub(crate) fn answer_line<K: Sink, E: Engine>(
         ⊎ LineHalted place.old place.new text.now size stop (HasRoom buffer.old (K.faults sink.old)) (E.stands engine.old) (E.stands engine.new) (E.loaded engine.new)
         (E.faults engine.old) (E.faults engine.new) (K.stands sink.old) (K.stands sink.new) buffer.old.pending buffer.new.pending) }
     ensures read { IfErr result (λ stop. stop ≢ RunStop.Tell RunError.Read) }
-    ensures write { IfErr result (λ stop. stop ≡ RunStop.Write → Rose (K.faults sink.old) (K.faults sink.new)) }
-    ensures last { IfErr result (λ stop. stop ≡ RunStop.Write → FailedLast (K.faults sink.old) (K.faults sink.new) (K.failed sink.new)) }
-    ensures swap { IfErr result (λ stop. stop ≡ RunStop.Tell RunError.Swap → E.faults engine.old < E.faults engine.new) }
-    ensures never_falls { K.faults sink.old ≤ K.faults sink.new }
-    ensures device_never_falls { E.faults engine.old ≤ E.faults engine.new }
-    ensures no_fault { result ≢ Err RunStop.Write → K.faults sink.new ≡ K.faults sink.old }
+    ensures sink { ReportsSink (result ≡ Err RunStop.Write) (K.faults sink.old) (K.faults sink.new) (K.failed sink.new) }
+    ensures swap { ReportsSwap (result ≡ Err (RunStop.Tell RunError.Swap)) (E.faults engine.old) (E.faults engine.new) }
     ensures room { buffer.new.room ≡ buffer.old.room }
 {
     let step = match judge_line(place, text, size, command) {

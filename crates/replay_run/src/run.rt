@@ -1,6 +1,6 @@
 //! The loop over the lines.
 ghost use Rattle.std.specs.Prelude.{◌≡◌, ◌≢◌, ◌⊎◌, ◌≤◌, ◌<◌, ◌-◌, ◌^◌, ◌++◌, List, [], true, false, length, Some, Err, IfErr, IfOk, IfSome, OnOk, ℕ};
-ghost use Rattle.outer_ports.specs.Ports.{FailedLast, Gave, IsAtEnd, Rose};
+ghost use Rattle.outer_ports.specs.Ports.{Gave, IsAtEnd, Rose};
 ghost use Rattle.outer_ports.specs.Buffers.{Gathered};
 ghost use Rattle.line_input.specs.Reader.{no_feed, without_latest};
 ghost use Rattle.input_verdict.specs.Events.{Nothing, event_of};
@@ -8,6 +8,7 @@ ghost use Rattle.input_verdict.specs.Places.{IsPlace, MayDo};
 ghost use Rattle.input_verdict.specs.Verdict.{ending_at};
 ghost use Rattle.replay_run.specs.Outcome.{HasNoWorld, HasNoWorldYet};
 ghost use Rattle.replay_run.specs.OneLine.{JudgedNext};
+ghost use Rattle.replay_run.specs.Reports.{ReportsSink, ReportsSource, ReportsSwap};
 ghost use Rattle.replay_run.specs.Steps.{Acted, Fetched, Filled, IsIn, RanTo, TakesAfter, closed};
 
 use crate::halt::LoopExit;
@@ -44,14 +45,9 @@ fn next_line<S: Source, K: Sink>(
     ensures ended { reader.old.ended ≡ true → reader.new.ended ≡ true }
     ensures at_most { length reader.new.bytes ≤ 32769 }
     ensures value { Fetched reader.new enough buffer.new.pending result }
-    ensures read { IfErr result (λ halt. halt ≡ LoopExit.Read → Rose (S.faults source.old) (S.faults source.new)) }
-    ensures write { IfErr result (λ halt. halt ≡ LoopExit.Write → Rose (K.faults sink.old) (K.faults sink.new)) }
-    ensures last { IfErr result (λ halt. halt ≡ LoopExit.Write → FailedLast (K.faults sink.old) (K.faults sink.new) (K.failed sink.new)) }
+    ensures source { ReportsSource (result ≡ Err LoopExit.Read) (S.faults source.old) (S.faults source.new) }
+    ensures sink { ReportsSink (result ≡ Err LoopExit.Write) (K.faults sink.old) (K.faults sink.new) (K.failed sink.new) }
     ensures swap { IfErr result (λ halt. halt ≢ LoopExit.Swap) }
-    ensures source_never_falls { S.faults source.old ≤ S.faults source.new }
-    ensures sink_never_falls { K.faults sink.old ≤ K.faults sink.new }
-    ensures source_no_fault { result ≢ Err LoopExit.Read → S.faults source.new ≡ S.faults source.old }
-    ensures sink_no_fault { result ≢ Err LoopExit.Write → K.faults sink.new ≡ K.faults sink.old }
 {
     if let Some(found) = reader.find_line(0, enough) {
         return Ok(Some(found));
@@ -85,13 +81,9 @@ fn judge_next<S: Source, K: Sink>(
     ensures judged { JudgedNext place.old place.new reader.new buffer.new.pending command.new result }
     ensures stays_sound { OnOk result (IsPlace place.new) }
     ensures allowed { IfOk result (λ next. IfSome next (λ line. MayDo place.new.judge.builder.world (event_of line.effect command.new))) }
-    ensures read { IfErr result (λ stop. stop ≡ RunStop.Tell RunError.Read → Rose (S.faults source.old) (S.faults source.new)) }
-    ensures write { IfErr result (λ stop. stop ≡ RunStop.Write → Rose (K.faults sink.old) (K.faults sink.new)) }
-    ensures last { IfErr result (λ stop. stop ≡ RunStop.Write → FailedLast (K.faults sink.old) (K.faults sink.new) (K.failed sink.new)) }
+    ensures source { ReportsSource (result ≡ Err (RunStop.Tell RunError.Read)) (S.faults source.old) (S.faults source.new) }
+    ensures sink { ReportsSink (result ≡ Err RunStop.Write) (K.faults sink.old) (K.faults sink.new) (K.failed sink.new) }
     ensures swap { IfErr result (λ stop. stop ≢ RunStop.Tell RunError.Swap) }
-    ensures never_falls { K.faults sink.old ≤ K.faults sink.new }
-    ensures source_no_fault { result ≢ Err (RunStop.Tell RunError.Read) → S.faults source.new ≡ S.faults source.old }
-    ensures sink_no_fault { result ≢ Err RunStop.Write → K.faults sink.new ≡ K.faults sink.old }
 {
     if let Some(line) = judge_buffered(place, reader, command) {
         return Ok(Some(line));
@@ -136,17 +128,12 @@ pub fn run_trace<S: Source, K: Sink, E: Engine>(
     ensures ran { (i b w : List ℕ) × RanTo (S.left source.old) (S.left source.new) (K.stands sink.old) (K.stands sink.new)
         (record { input = i; taken = b; last = S.last source.new; written = w; stands = E.stands engine.new; loaded = E.loaded engine.new; source_rose = Rose (S.faults source.old) (S.faults source.new); swap_rose = E.faults engine.new - E.faults engine.old })
         buffer.new.pending result }
-    ensures read { IfErr result (λ stop. stop ≡ RunStop.Tell RunError.Read → Rose (S.faults source.old) (S.faults source.new)) }
-    ensures write { IfErr result (λ stop. stop ≡ RunStop.Write → Rose (K.faults sink.old) (K.faults sink.new)) }
-    ensures last { IfErr result (λ stop. stop ≡ RunStop.Write → FailedLast (K.faults sink.old) (K.faults sink.new) (K.failed sink.new)) }
-    ensures swap { IfErr result (λ stop. stop ≡ RunStop.Tell RunError.Swap → E.faults engine.old < E.faults engine.new) }
-    ensures never_falls { K.faults sink.old ≤ K.faults sink.new }
-    ensures device_never_falls { E.faults engine.old ≤ E.faults engine.new }
+    ensures source { ReportsSource (result ≡ Err (RunStop.Tell RunError.Read)) (S.faults source.old) (S.faults source.new) }
+    ensures sink { ReportsSink (result ≡ Err RunStop.Write) (K.faults sink.old) (K.faults sink.new) (K.failed sink.new) }
+    ensures swap { ReportsSwap (result ≡ Err (RunStop.Tell RunError.Swap)) (E.faults engine.old) (E.faults engine.new) }
     ensures unopened { (i : List ℕ) → S.left source.old ≡ Some i → HasNoWorld i → engine.new ≡ engine.old }
     ensures unread { (i b : List ℕ) → S.left source.old ≡ Some i → Gave (Some i) (S.left source.new) b → HasNoWorldYet b
         → result ≡ Err (RunStop.Tell RunError.Read) → engine.new ≡ engine.old }
-    ensures source_no_fault { result ≢ Err (RunStop.Tell RunError.Read) → result ≢ Err RunStop.Write → S.faults source.new ≡ S.faults source.old }
-    ensures sink_no_fault { result ≢ Err RunStop.Write → K.faults sink.new ≡ K.faults sink.old }
 {
     engine.idle_has_no_world();
     let mut place = InputReader::start(InputJudge::new(alloc));

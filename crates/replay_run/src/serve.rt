@@ -1,11 +1,11 @@
 //! Running commands, and writing the texts of their answers.
-ghost use Rattle.std.specs.Prelude.{◌≡◌, ◌≢◌, ◌≤◌, ◌<◌, ◌+◌, ◌-◌, ◌^◌, length, take, Err, Ok, IfErr, OnErr};
-ghost use Rattle.outer_ports.specs.Ports.{FailedLast, HasCause, Rose};
+ghost use Rattle.std.specs.Prelude.{◌≡◌, ◌≢◌, ◌≤◌, ◌<◌, ◌+◌, ◌-◌, ◌^◌, length, take, Err, Ok, IfErr};
 ghost use Rattle.outer_ports.specs.Buffers.{Gathers};
 ghost use Rattle.lisp_graph.specs.declared.command.Command.{Command as OneCommand};
 ghost use Rattle.paged_machine.specs.lisp_meaning.State.{State};
 ghost use Rattle.paged_machine.specs.lisp_meaning.Step.{Accounts, area_lines};
 ghost use Rattle.replay_run.specs.Replies.{answer_text};
+ghost use Rattle.replay_run.specs.Reports.{ReportsSink};
 ghost use Rattle.replay_run.specs.Steps.{FailsInDump, HasRoom, IsIn, IsReached, Served};
 ghost use Rattle.trace_text.specs.Replies.{reply_text};
 
@@ -23,8 +23,7 @@ fn gather<K: Sink>(buffer: &mut SinkBuffer, sink: &mut K, text: &[u8]) -> Result
     ensures fits { length buffer.old.pending + length text.now ≤ buffer.old.room → K.faults sink.old < 2 ^ 64 - 1 → result ≡ Ok tt }
     ensures room { buffer.new.room ≡ buffer.old.room }
     ensures write { IfErr result (λ halt. halt ≡ LoopExit.Write) }
-    ensures cause { HasCause (K.faults sink.old) (K.faults sink.new) result }
-    ensures last { OnErr result (FailedLast (K.faults sink.old) (K.faults sink.new) (K.failed sink.new)) }
+    ensures sink { ReportsSink (result ≡ Err LoopExit.Write) (K.faults sink.old) (K.faults sink.new) (K.failed sink.new) }
 {
     match buffer.gather(sink, text) {
         Ok(()) => Ok(()),
@@ -46,8 +45,7 @@ fn gather_short<K: Sink, const N: usize>(
     ensures fits { length buffer.old.pending + size ≤ buffer.old.room → K.faults sink.old < 2 ^ 64 - 1 → result ≡ Ok tt }
     ensures room { buffer.new.room ≡ buffer.old.room }
     ensures write { IfErr result (λ halt. halt ≡ LoopExit.Write) }
-    ensures cause { HasCause (K.faults sink.old) (K.faults sink.new) result }
-    ensures last { OnErr result (FailedLast (K.faults sink.old) (K.faults sink.new) (K.failed sink.new)) }
+    ensures sink { ReportsSink (result ≡ Err LoopExit.Write) (K.faults sink.old) (K.faults sink.new) (K.failed sink.new) }
 {
     match buffer.gather_short(sink, text, size) {
         Ok(()) => Ok(()),
@@ -67,8 +65,7 @@ fn give_composed<K: Sink>(
     ensures fits { length buffer.old.pending + 64 ≤ buffer.old.room → K.faults sink.old < 2 ^ 64 - 1 → result ≡ Ok tt }
     ensures room { buffer.new.room ≡ buffer.old.room }
     ensures write { IfErr result (λ halt. halt ≡ LoopExit.Write) }
-    ensures cause { HasCause (K.faults sink.old) (K.faults sink.new) result }
-    ensures last { OnErr result (FailedLast (K.faults sink.old) (K.faults sink.new) (K.failed sink.new)) }
+    ensures sink { ReportsSink (result ≡ Err LoopExit.Write) (K.faults sink.old) (K.faults sink.new) (K.failed sink.new) }
 {
     let line = reply_text(reply, areas);
     let (text, size) = line.padded();
@@ -87,8 +84,7 @@ fn give_reply<K: Sink>(
     ensures fits { length buffer.old.pending + 64 ≤ buffer.old.room → K.faults sink.old < 2 ^ 64 - 1 → result ≡ Ok tt }
     ensures room { buffer.new.room ≡ buffer.old.room }
     ensures write { IfErr result (λ halt. halt ≡ LoopExit.Write) }
-    ensures cause { HasCause (K.faults sink.old) (K.faults sink.new) result }
-    ensures last { OnErr result (FailedLast (K.faults sink.old) (K.faults sink.new) (K.failed sink.new)) }
+    ensures sink { ReportsSink (result ≡ Err LoopExit.Write) (K.faults sink.old) (K.faults sink.new) (K.failed sink.new) }
 {
     match padded_text(reply) {
         Some((text, size)) => gather_short(buffer, sink, text, size),
@@ -109,8 +105,7 @@ fn give_accounts<K: Sink, E: Engine>(
     ensures fits { HasRoom buffer.old (K.faults sink.old) → result ≡ Ok tt }
     ensures room { buffer.new.room ≡ buffer.old.room }
     ensures write { IfErr result (λ halt. halt ≡ LoopExit.Write) }
-    ensures cause { HasCause (K.faults sink.old) (K.faults sink.new) result }
-    ensures last { OnErr result (FailedLast (K.faults sink.old) (K.faults sink.new) (K.failed sink.new)) }
+    ensures sink { ReportsSink (result ≡ Err LoopExit.Write) (K.faults sink.old) (K.faults sink.new) (K.failed sink.new) }
 {
     let areas = world.areas.as_slice();
     for area in 0..areas.len() {
@@ -141,11 +136,8 @@ pub(crate) fn serve<K: Sink, E: Engine>(
     ensures takes { (other : OneCommand) → E.takes engine.old other → E.takes engine.new other }
     ensures read { IfErr result (λ halt. halt ≢ LoopExit.Read) }
     ensures swap { IfErr result (λ halt. halt ≢ LoopExit.Swap) }
-    ensures write { IfErr result (λ halt. halt ≡ LoopExit.Write → Rose (K.faults sink.old) (K.faults sink.new)) }
-    ensures last { IfErr result (λ halt. halt ≡ LoopExit.Write → FailedLast (K.faults sink.old) (K.faults sink.new) (K.failed sink.new)) }
-    ensures never_falls { K.faults sink.old ≤ K.faults sink.new }
-    ensures device_never_falls { E.faults engine.old ≤ E.faults engine.new }
-    ensures no_fault { result ≢ Err LoopExit.Write → K.faults sink.new ≡ K.faults sink.old }
+    ensures sink { ReportsSink (result ≡ Err LoopExit.Write) (K.faults sink.old) (K.faults sink.new) (K.failed sink.new) }
+    ensures never_falls { E.faults engine.old ≤ E.faults engine.new }
 {
     match command.parts().0 {
         CommandHead::Stats => give_accounts(buffer, sink, engine, world),

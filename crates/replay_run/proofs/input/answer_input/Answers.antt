@@ -15,7 +15,7 @@ returns-in-Err-new-clause-ran g c =
     (ran_nothing (g.S.Source.left c.args.source.now) (g.E.Engine.stands c.args.engine.now) (g.E.Engine.faults c.args.engine.now - g.E.Engine.faults c.args.engine.now) (omega arith) (c.idle_has_no_world.ensures c.requires)) c.report-in-Err-new.ensures.written
 
 pub returns-clause-ran : goal.returns-clause-ran
-returns-clause-ran g c = ran_finish (g.E.Engine.faults c.args.engine.now) (g.E.Engine.faults c.run_trace-outcome.new.engine) c.run_trace-outcome.result c.finish.result c.run_trace-outcome.ensures.read c.run_trace-outcome.ensures.swap c.run_trace-outcome.ensures.ran c.finish.ensures.written
+returns-clause-ran g c = ran_finish (g.E.Engine.faults c.args.engine.now) (g.E.Engine.faults c.run_trace-outcome.new.engine) c.run_trace-outcome.result c.finish.result c.run_trace-outcome.ensures.source.rose c.run_trace-outcome.ensures.swap.rose c.run_trace-outcome.ensures.ran c.finish.ensures.written
 
 pub returns-clause-unread : goal.returns-clause-unread
 returns-clause-unread g c = λ i b tells gave none is.

@@ -82,8 +82,8 @@ loop-next-preserved g c =
           (takes_with _ _ _ _ _ (event_of c.in-Ok-Some.next.effect c.judge_next.new.command) (λ nothing same. c.in-Ok.ensures.unchanged nothing ∙ same) (rw c.world.ensures at c.in-Ok.ensures.takes));
       place = e.stays_sound;
       end = λ is. e.end (sym c.pass.ensures.ended ∙ is);
-      source = e.source_no_fault (λ is. cc (is)) ∙ c.loop-next.invariant.source;
-      sink = c.in-Ok.ensures.no_fault (λ is. cc (is)) ∙ e.sink_no_fault (λ is. cc (is)) ∙ c.loop-next.invariant.sink;
+      source = e.source.quiet (λ is. cc (is)) ∙ c.loop-next.invariant.source;
+      sink = c.in-Ok.ensures.sink.quiet (λ is. cc (is)) ∙ e.sink.quiet (λ is. cc (is)) ∙ c.loop-next.invariant.sink;
     }
 
 pub returns-in-Ok-None-clause-unopened : goal.returns-in-Ok-None-clause-unopened

@@ -18,7 +18,7 @@ loop-area-preserved g c = record {
       let at = slice_get-get_or c.args.world.now.areas c.loop-area.area c.index-areas-area.result (omega (arith, c.loop-area-test.true, ap length c.as_slice-areas.ensures)) ∙ ap Some (sym (rw c.as_slice-areas.ensures at c.index-areas-area.is)) in
       accounts_more s c.args.world.now.areas c.loop-area.area c.index-areas-area.result c.account.result at (c.account.ensures s stood) c.args.buffer.now.pending
       (c.loop-area.invariant.gathered s stood reached) (rw (c.as_bytes.ensures.value, c.account_text-line.ensures.value) at c.in_ok-gather.ensures.gathers.whole);
-  quiet = c.in_ok-gather.ensures.cause.quiet ∙ c.loop-area.invariant.quiet;
+  quiet = c.in_ok-gather.ensures.sink.quiet (λ is. cc (is)) ∙ c.loop-area.invariant.quiet;
   room = c.in_ok-gather.ensures.room ∙ c.loop-area.invariant.room;
   few =
       let all = ap length c.in_ok-gather.ensures.gathers.whole.all in

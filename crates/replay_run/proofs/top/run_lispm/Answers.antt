@@ -49,15 +49,15 @@ pub returns-in-Ok-Some-Replay-clause-complete : goal.returns-in-Ok-Some-Replay-c
 returns-in-Ok-Some-Replay-clause-complete g c = λ i asks tells whole none_read none_write none_swap.
     let e = c.answer_input.ensures in
     let status = c.answer_input.result in
-    completes c.code.result none_read none_write none_swap (λ is. e.read (failed_read status (sym c.code.ensures ∙ is))) (λ is. e.write (failed_write status (sym c.code.ensures ∙ is)))
-    (λ is. e.swap (failed_swap status (sym c.code.ensures ∙ is))) _ _ _ _ _ status i c.code.ensures e.ran tells whole
+    completes c.code.result none_read none_write none_swap (λ is. e.read (failed_read status (sym c.code.ensures ∙ is))) (λ is. e.sink.rose (failed_write status (sym c.code.ensures ∙ is)))
+    (λ is. e.swap.rose (failed_swap status (sym c.code.ensures ∙ is))) _ _ _ _ _ status i c.code.ensures e.ran tells whole
 
 pub returns-in-Ok-Some-Replay-clause-refused : goal.returns-in-Ok-Some-Replay-clause-refused
 returns-in-Ok-Some-Replay-clause-refused g c = λ i trouble asks tells breaks none_read none_write none_swap.
     let e = c.answer_input.ensures in
     let status = c.answer_input.result in
-    breaks_off c.code.result none_read none_write none_swap (λ is. e.read (failed_read status (sym c.code.ensures ∙ is))) (λ is. e.write (failed_write status (sym c.code.ensures ∙ is)))
-    (λ is. e.swap (failed_swap status (sym c.code.ensures ∙ is))) _ _ _ _ _ status i trouble c.code.ensures e.ran tells breaks
+    breaks_off c.code.result none_read none_write none_swap (λ is. e.read (failed_read status (sym c.code.ensures ∙ is))) (λ is. e.sink.rose (failed_write status (sym c.code.ensures ∙ is)))
+    (λ is. e.swap.rose (failed_swap status (sym c.code.ensures ∙ is))) _ _ _ _ _ status i trouble c.code.ensures e.ran tells breaks
 
 pub returns-in-Ok-Some-Replay-clause-early : goal.returns-in-Ok-Some-Replay-clause-early
 returns-in-Ok-Some-Replay-clause-early g c = λ i asks tells others five.

@@ -45,7 +45,7 @@ returns-in-Err-clause-does g c = λ fed written does.
     let old = goes_on fed written c.args.self.now _ c.self.view_is c.requires.open does in
     let stop = c.in-Err.stop in
     let e = c.in-Err.ensures in
-    let swap : stop ≡ Tell Swap → 0 < c.answer_line.new.engine.faults = λ is. omega (arith, e.swap is) in
+    let swap : stop ≡ Tell Swap → 0 < c.answer_line.new.engine.faults = λ is. omega (arith, e.swap.rose (cc (is))) in
     let few = ap (λ b. b.pending) c.forget.ensures.after in
     let answer : c.tell-status.new.room.bytes.items ++ c.tell-status.new.buffer.pending ≡ trouble_line (trouble_of stop) =
     ap (λ bytes. bytes ++ c.tell-status.new.buffer.pending) c.tell-status.ensures.bytes ∙ ap (λ b. trouble_line (trouble_of stop) ++ b.pending) c.tell-status.ensures.after ∙ append-nil _ in
