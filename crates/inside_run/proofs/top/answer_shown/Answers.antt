@@ -21,4 +21,4 @@ returns-clause-ran g c =
     let e = c.in-Err-run_trace.ensures in
     let status = c.finish.result in
     shows_stopped _ _ machine.heap (machine.faults - c.args.machine.now.faults) c.run_trace.new.buffer.pending stop status c.finish.ensures.written
-    (ran_finish c.args.machine.now.faults machine.faults (Err stop) status e.read e.swap e.ran c.finish.ensures.written)
+    (ran_finish c.args.machine.now.faults machine.faults (Err stop) status e.source.rose e.swap.rose e.ran c.finish.ensures.written)
