@@ -158,7 +158,7 @@ fn make_group<M: Memory, L: Ledger>(
     ensures accounted { AccountsForFaults (view ground.old).mem (view ground.new).mem steps.old steps.new result }
 {
     let Group { number, count } = group;
-    let area = world.objects.at(number).area;
+    let area = world.objects.area_of(number);
     let registers = [Word::nil()];
     let items = first_items(count);
     let from = make_list(ground, area, 0, &registers, &items, steps)?;

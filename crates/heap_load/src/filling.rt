@@ -226,7 +226,7 @@ fn fill_cdr<M: Memory, L: Ledger>(
     if is_known(cdr, number) {
         return Ok(());
     }
-    let charge = world.objects.at(number).charge;
+    let charge = world.objects.charge_of(number);
     let at = places[number].cons_at();
     let second = word_of(cdr, places).with_cdr(second_code(charge));
     store(ground, at + 1, second, steps)

@@ -2,10 +2,9 @@
 ghost use Rattle.std.specs.Prelude.{◌≡◌, ◌+◌, ◌<◌, ◌≤◌, ℕ, true, false, length};
 ghost use Rattle.lisp_graph.specs.Graph.{is_ref, object_at};
 ghost use Rattle.lisp_graph.specs.Groups.{is_cell, is_nil};
-ghost use Rattle.lisp_graph.specs.Objects.{object_copied};
 ghost use Rattle.heap_load.specs.Loading.{AreLinked, group_from};
 
-use lisp_graph::{BodyRef, ObjectRef, Objects, Value};
+use lisp_graph::{BodyRef, Objects, Value};
 
 // The most conses of a group.
 const GROUP_LIMIT: usize = 1024;
@@ -17,14 +16,15 @@ pub(crate) struct Group {
     pub count: usize,
 }
 
-// Whether a cons of this area and of charge 3 has nil as its cdr.
-fn is_last(object: ObjectRef<'_>, area: u8) -> bool
-    ensures { result ≡ is_cell area is_nil (object_copied object.entry) }
+// Whether the object of a number is a cons of this area and of charge 3 with nil as its cdr.
+fn is_last(objects: &Objects, number: usize, area: u8) -> bool
+    requires { number < length objects.now }
+    ensures { result ≡ is_cell area is_nil (object_at objects.now number) }
 {
-    if object.area != area || object.charge != 3 {
+    if objects.area_of(number) != area || objects.charge_of(number) != 3 {
         return false;
     }
-    match object.body {
+    match objects.body(number) {
         BodyRef::Cons {
             car: _,
             cdr: Value::Nil,
@@ -33,14 +33,15 @@ fn is_last(object: ObjectRef<'_>, area: u8) -> bool
     }
 }
 
-// Whether the cdr of a cons of this area and of charge 3 refers to this number.
-fn is_link(object: ObjectRef<'_>, area: u8, next: u64) -> bool
-    ensures { result ≡ is_cell area (is_ref next) (object_copied object.entry) }
+// Whether the object of a number is a cons of this area and of charge 3 whose cdr refers to another number.
+fn is_link(objects: &Objects, number: usize, area: u8, next: u64) -> bool
+    requires { number < length objects.now }
+    ensures { result ≡ is_cell area (is_ref next) (object_at objects.now number) }
 {
-    if object.area != area || object.charge != 3 {
+    if objects.area_of(number) != area || objects.charge_of(number) != 3 {
         return false;
     }
-    match object.body {
+    match objects.body(number) {
         BodyRef::Cons {
             car: _,
             cdr: Value::Ref(name),
@@ -59,7 +60,7 @@ fn skip_links(objects: &Objects, area: u8, at: usize, end: usize) -> usize
     ensures found { result < end → is_cell area (is_ref (result + 1)) (object_at objects.now result) ≡ false }
 {
     for i in at..end {
-        if !is_link(objects.at(i), area, i as u64 + 1) {
+        if !is_link(objects, i, area, i as u64 + 1) {
             return i;
         }
     }
@@ -77,7 +78,7 @@ pub(crate) fn group_from(objects: &Objects, number: usize, linked: &mut usize) -
     ensures value { result ≡ group_from objects.now number }
     ensures stays_known { AreLinked objects.now number linked.new }
 {
-    let area = objects.at(number).area;
+    let area = objects.area_of(number);
     let end = number + (objects.len() as usize - number).min(GROUP_LIMIT);
     let from = number.max(*linked);
     let at = skip_links(objects, area, from, end);
@@ -85,7 +86,7 @@ pub(crate) fn group_from(objects: &Objects, number: usize, linked: &mut usize) -
     if at == end {
         return 0;
     }
-    if is_last(objects.at(at), area) {
+    if is_last(objects, at, area) {
         at - number + 1
     } else {
         0

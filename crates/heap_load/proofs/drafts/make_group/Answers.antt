@@ -28,13 +28,13 @@ words_here words registers items zeros at f is = subst (λ (l : List ℕ). (i : 
 pub make_list-requires : goal.make_list-requires
 make_list-requires g c =
     let r = c.requires in
-    can_here _ _ _ _ (c.nil.result ∷ []) c.first_items-items.result (zeros c.args.group.count) (ap (λ (o : Object). o.area) c.at-area.ensures) c.first_items-items.ensures
+    can_here _ _ _ _ (c.nil.result ∷ []) c.first_items-items.result (zeros c.args.group.count) c.area_of-area.ensures c.first_items-items.ensures
     (can_list _ _ c.args.world.now c.args.places.now c.args.group.number c.args.group.count r.agrees r.loadable r.made r.in_range c.nil.result c.nil.ensures r.at_most)
 
 pub put_cells-requires : goal.put_cells-requires
 put_cells-requires g c =
     let r = c.requires in
-    let e = ap (λ (o : Object). o.area) c.at-area.ensures in
+    let e = c.area_of-area.ensures in
     let within = group_within _ _ c.args.world.now c.args.places.now c.args.group.number c.args.group.count r.agrees r.loadable r.made r.in_range in
     let inside = cells_inside _ _ c.args.world.now c.args.places.now c.args.group.number c.args.group.count r.agrees r.loadable r.made r.in_range _ c.make_list.new.ground.table c.nil.result c.nil.ensures c.in_ok-from.from
     (listed_here _ _ _ _ _ _ (c.nil.result ∷ []) c.first_items-items.result (zeros c.args.group.count) c.in_ok-from.from e c.first_items-items.ensures c.in_ok-from.ensures.made)
@@ -49,7 +49,7 @@ returns-in_err-from-clause-left g c = on_err c.from_residual.result _ (drafted_l
 pub returns-clause-drafted : goal.returns-clause-drafted
 returns-clause-drafted g c =
     let r = c.requires in
-    let e = ap (λ (o : Object). o.area) c.at-area.ensures in
+    let e = c.area_of-area.ensures in
     drafted_group _ _ c.args.world.now c.args.places.now c.args.group.number c.args.group.count r.agrees r.loadable r.made r.in_range _ _ c.nil.result c.nil.ensures c.in_ok-from.from
     (listed_here _ _ _ _ _ _ (c.nil.result ∷ []) c.first_items-items.result (zeros c.args.group.count) c.in_ok-from.from e c.first_items-items.ensures c.in_ok-from.ensures.made)
     (words_here _ (c.nil.result ∷ []) c.first_items-items.result (zeros c.args.group.count) c.in_ok-from.from c.first_items-items.ensures c.in_ok-from.ensures.words)
@@ -58,7 +58,7 @@ returns-clause-drafted g c =
 pub returns-clause-stays_laid : goal.returns-clause-stays_laid
 returns-clause-stays_laid g c =
     let r = c.requires in
-    let e = ap (λ (o : Object). o.area) c.at-area.ensures in
+    let e = c.area_of-area.ensures in
     let kept = (returns-clause-drafted g c).holds.kept in
     laid_group _ _ _ _ c.args.world.now c.args.places.now c.put_cells.new.places c.args.group.number r.made r.laid c.in_ok-from.ensures.stays_ground.live kept.table kept.ground.size c.put_cells.ensures.before
     c.args.group.count c.in_ok-from.from (ap group_size r.agrees ∙ size_whole c.args.group.count r.at_most) c.put_cells.ensures.cells

@@ -20,8 +20,8 @@ stands g c = ap (λ (p : PlaceView). p.word.content) (sym (c.index-places-number
 -- the word has the cdr code of the charge
 coded : (g : Over) (c : After-with_cdr-second g) → c.with_cdr-second.result ≡ record (c.word_of.result) { cdr = second_code (object_at c.args.world.now.objects c.args.cons.number).charge }
 coded g c =
-    let read = c.at-charge.ensures in
-    c.with_cdr-second.ensures ∙ ap (λ (k : CdrCode). let p : Parts = record (c.word_of.result) { cdr = k } in p) (c.second_code.ensures ∙ ap (λ (o : Object). second_code o.charge) read)
+    let read = c.charge_of-charge.ensures in
+    c.with_cdr-second.ensures ∙ ap (λ (k : CdrCode). let p : Parts = record (c.word_of.result) { cdr = k } in p) (c.second_code.ensures ∙ ap second_code read)
 
 pub returns-then-is_known-clause-stays_filled : goal.returns-then-is_known-clause-stays_filled
 returns-then-is_known-clause-stays_filled g c =

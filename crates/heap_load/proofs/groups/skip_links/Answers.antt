@@ -14,7 +14,7 @@ loop-i-preserved c = λ k low below.
     let end = c.requires in
     let more = c.loop-i-test.true in
     let link : is_cell c.args.area (is_ref (i + 1)) (object_at objects i) ≡ true =
-    ap (is_cell c.args.area (is_ref (i + 1))) (sym c.at.ensures) ∙ sym c.is_link.ensures ∙ c.if-not-is_link.false in
+    sym c.is_link.ensures ∙ c.if-not-is_link.false in
     elim (cases_lt k i) [
       | inl before ↦ c.loop-i.invariant k low before
       | inr past ↦ (let e : k ≡ i = omega arith in ap (λ (n : ℕ). is_cell c.args.area (is_ref (n + 1)) (object_at objects n)) e ∙ link)
@@ -28,7 +28,7 @@ returns-then-not-is_link-clause-found c = λ low.
     let objects = c.args.objects.now in
     let i = c.loop-i.i in
     let end = c.requires in
-    ap (is_cell c.args.area (is_ref (i + 1))) (sym c.at.ensures) ∙ sym c.is_link.ensures ∙ c.if-not-is_link.true
+    sym c.is_link.ensures ∙ c.if-not-is_link.true
 
 pub returns-clause-before : goal.returns-clause-before
 returns-clause-before c = λ k low below. c.loop-i.invariant k low (let past = c.loop-i-test.false in omega arith)
