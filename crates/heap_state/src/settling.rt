@@ -17,7 +17,8 @@ use store_word::{Steps, SwapFault, Word};
 use transporter::settle;
 
 /// Settles a register (the read barrier): if its word refers to an old address, the word gets the live
-/// address of that object, which a collection moves there if it hasn't yet. It returns the word.
+/// address of that object, which a collection moves there if it hasn't yet. It returns the word. While no
+/// collection runs no address is old, and the word isn't looked at.
 ///
 /// Whatever it returns, the ground and the registers represent the same states, and at most
 /// 2,048 words are placed. If no swap error occurs, it takes at most 46 memory accesses and 4 for each word
@@ -57,6 +58,9 @@ pub fn settle_register<M: Memory, L: Ledger>(
     ensures cost { OnOk result (steps.new ≤ steps.old + 4 * (ground.new.table.placed - ground.old.table.placed) + 46) }
 {
     let word = registers[register as usize];
+    if !ground.table.is_collecting() {
+        return Ok(word);
+    }
     let settled = settle(ground, word, steps)?;
     registers[register as usize] = settled;
     Ok(settled)

@@ -3,6 +3,7 @@ use Rattle.std.proofs.lemmas.List.{get_or_read}
 use Rattle.store_word.specs.Words.{Parts, null_word}
 use Rattle.transporter.specs.Moving.{MovesFor}
 use Rattle.transporter.specs.Settling.{RefersToOld, IsSettleable, Settles}
+use Rattle.transporter.proofs.TransportSequences.{read-once, same-stores}
 use Rattle.heap_state.proofs.SettledRegister.{fresh_settled, register_settleable, settles_here, stays_represented, settled_represented, settled_others}
 use Rattle.heap_state.proofs.settling.settle_register.Goals as goal
 
@@ -10,6 +11,9 @@ pub settle-requires : goal.settle-requires
 settle-requires g c =
     let read = get_or_read c.args.registers.now c.args.register c.index-registers-register.result c.requires.in_range c.index-registers-register.is null_word in
     subst (λ (w : Parts). IsSettleable (g.M.Memory.seen c.args.ground.now.mem) c.args.ground.now.table w) (sym read) (register_settleable _ _ c.args.registers.now c.args.register c.requires.consistent c.requires.in_range)
+
+pub returns-then-not-is_collecting-clause-moves : goal.returns-then-not-is_collecting-clause-moves
+returns-then-not-is_collecting-clause-moves g c = read-once c.args.ground.now.table same-stores
 
 pub returns-in_err-settled-clause-represented : goal.returns-in_err-settled-clause-represented
 returns-in_err-settled-clause-represented g c = stays_represented _ _ _ _ c.args.registers.now c.in_err-settled.ensures.preserves.grows c.in_err-settled.ensures.fault
