@@ -23,6 +23,7 @@ use store_word::{Steps, Word};
 ///
 /// If it is admitted, it takes at most 48 memory accesses for each unit scanned and 4 for each word placed,
 /// and places at most 2,048 words for each unit. If no collection runs, it takes none.
+#[inline(always)]
 pub fn admit<M: Memory, L: Ledger>(
     ground: &mut Ground<M>,
     scan: &mut ScanSet,
