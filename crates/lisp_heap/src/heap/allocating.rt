@@ -18,6 +18,7 @@ use std::sync::ledger::Ledger;
 use store_word::{Space, Steps, Word};
 
 // Takes the silent steps, tests the quota of an area and scans: the level of the new object, or a refusal.
+#[inline(always)]
 pub(super) fn admit_allocation<M: Memory, L: Ledger>(
     ground: &mut Ground<M>,
     scan: &mut ScanSet,
