@@ -24,27 +24,26 @@ fn header_reply(header: Word) -> Reply
     }
 }
 
-// The reply that shows the block to which a reference has this address. It reads the header, at the block's final
-// address, once. It takes at most 13 memory accesses. On a swap error nothing is stored, and the count of swap errors rises.
+// The header of the block to which a reference has this address. It is read at the block's final address,
+// once. It takes at most 13 memory accesses. On a swap error nothing is stored, and the count of swap errors rises.
 #[inline(never)]
-fn show_block<M: Memory, L: Ledger>(
+fn block_header<M: Memory, L: Ledger>(
     mem: &mut M,
     at: u32,
     steps: &mut Steps<L>,
-) -> Result<Reply, SwapFault>
+) -> Result<Word, SwapFault>
     requires { HasFinal (M.seen mem.old).words at }
-    ensures value { IfOk result (Shows (M.seen mem.old).words (StructAt at)) }
-    ensures succeeds { IfOk result (λ reply. reply ≢ Reply.Fault) }
+    ensures value { IfOk result (λ header. Shows (M.seen mem.old).words (StructAt at) (header_reply header.content)) }
     ensures unchanged { StoresNothing (M.seen mem.old) (M.seen mem.new) }
     ensures accounted { AccountsForFaults (shown M.Memory mem.old) (shown M.Memory mem.new) steps.old steps.new result }
     ensures cost { steps.new ≤ steps.old + 13 }
 {
     let block = resolve_first(mem, at, steps)?;
     let header = first_word(mem, block, steps)?;
-    Ok(header_reply(header))
+    Ok(header)
 }
 
-// The reply that shows a word's value. Only for a reference to a block does it read memory, as `show_block` says.
+// The reply that shows a word's value. Only for a reference to a block does it read memory, as `block_header` says.
 #[inline]
 fn show<M: Memory, L: Ledger>(
     mem: &mut M,
@@ -61,7 +60,10 @@ fn show<M: Memory, L: Ledger>(
     match word.content() {
         Content::Fixnum(number) => Ok(Reply::Number(number)),
         Content::List(_) => Ok(Reply::Cons),
-        Content::Struct(at) => show_block(mem, at, steps),
+        Content::Struct(at) => {
+            let header = block_header(mem, at, steps)?;
+            Ok(header_reply(header))
+        }
         _ => Ok(Reply::Nil),
     }
 }
