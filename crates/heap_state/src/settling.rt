@@ -66,7 +66,7 @@ pub fn settle_register<M: Memory, L: Ledger>(
     Ok(settled)
 }
 
-/// Settles the registers of a list of them, one after another.
+/// Settles the registers of a list of them, one after another. While no collection runs none is looked at.
 ///
 /// Whatever it returns, the ground and the registers represent the same states, and at most
 /// 2,048 words are placed for each register of the list. If no swap error occurs, it takes at most 46
@@ -101,6 +101,9 @@ pub fn settle_items<M: Memory, L: Ledger>(
     ensures at_most { ground.new.table.placed ≤ ground.old.table.placed + 2048 * length items.now }
     ensures cost { OnOk result (steps.new ≤ steps.old + 4 * (ground.new.table.placed - ground.old.table.placed) + 46 * length items.now) }
 {
+    if !ground.table.is_collecting() {
+        return Ok(());
+    }
     for i in 0..items.len() {
         settle_register(ground, registers, items[i], steps)?;
     }

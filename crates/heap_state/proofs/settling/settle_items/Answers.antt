@@ -9,6 +9,9 @@ use Rattle.heap_state.specs.Settled.{IsSettled}
 use Rattle.heap_state.proofs.SettledRegister.{represented_then, item_within, one_more, registers_fresh, registers_same, registers_then}
 use Rattle.heap_state.proofs.settling.settle_items.Goals as goal
 
+pub returns-then-not-is_collecting-clause-moves : goal.returns-then-not-is_collecting-clause-moves
+returns-then-not-is_collecting-clause-moves g c = record { count = 0; few = omega arith; moves = none }
+
 pub loop-i-init : goal.loop-i-init
 loop-i-init g c = record {
   represented = λ k s b reach. record { map = k; represents = b; refines = λ kind a n e. e; work = omega arith };
