@@ -168,7 +168,7 @@ impl FramePool {
 
     /// A frame that a page has taken becomes the most recently used. This is faster than `touch`, unless it is that already.
     pub fn touch_page(&mut self, frame: u32, page: u32)
-        requires used { Contains self.old.used frame }
+        requires listed { Contains self.old.used frame }
         requires page { page_at self.old frame ≡ page }
         ensures after { self.new ≡ with_latest self.old frame }
         ensures used { Contains self.new.used frame }

@@ -57,7 +57,7 @@ impl Model for Objects {
     ghost invariant = { λ s. All (IsCell (length s.blocks.items)) s.cells.items };
 }
 
-/// What an object is made of, with the fields of a block where the list holds them.
+/// What an object is made of. The fields of a block are borrowed from the list of objects.
 #[derive(Clone, Copy, Debug)]
 pub enum BodyRef<'a> {
     Cons { car: Value, cdr: Value },

@@ -1,4 +1,4 @@
--- What the result of a call says of the failed calls of its sink, its source and the swap device.
+-- Which failed calls of its sink, its source and the swap device the result of a call reports.
 use Rattle.std.specs.Prelude.{◌≡◌, ◌≤◌, ◌<◌, ℕ, Bool}
 use Rattle.outer_ports.specs.Ports.{FailedLast, Rose}
 

@@ -31,7 +31,7 @@ lowest-after p q n a is stronger gone low after = lowest-some q n (a + 1) low af
 none-after : (p q : ℕ → Bool) (n : ℕ) → lowest p n ≡ None → ((k : ℕ) → q k ≡ true → p k ≡ true) → lowest q n ≡ None
 none-after p q n none stronger = none-lowest q n (λ k l. stays-false (p k) (q k) (stronger k) (lowest-none p n none k l))
 
--- the next word is found where the one before was
+-- the next word is found by the same search as the word before it
 follows : (near near' register far far' : Option ℕ) (a b : ℕ) → unit_of near register far ≡ Some (Word a) → (near ≡ Some a → near' ≡ Some b) → (near ≡ None → near' ≡ None) → (far ≡ Some a → far' ≡ Some b)
     → unit_of near' register far' ≡ Some (Word b)
 follows (Some x) near' register far far' a b e on none off = (let there : near' ≡ Some b = on (cc) in ap (λ (o : Option ℕ). unit_of o register far') there)
@@ -61,7 +61,7 @@ module _ (s : Scan) (t : Table) (at : ℕ) (is : next_of s t ≡ Some (Word at))
       let same : 256 * (at / 256) + (at % 256 + 1) ≡ at + 1 = omega arith in
       subst (λ (a : ℕ). is_open done t a ≡ true) same (open-first done t (at / 256) (at % 256 + 1) here low used)
 
-  -- which words are left after it
+  -- which words remain after it
   still-left : (a : ℕ) → word_left done t a ≡ true → word_left s t a ≡ true
   still-left a e =
       let both = and_parts (not s.over) (is_open done t a) e in

@@ -60,8 +60,8 @@ impl NameSet {
         ensures none { IfNone result (length self.now.names ≤ place) }
         ensures in_range { IfSome result (λ _. place < length self.now.names) }
         ensures room { length self.now.names ≤ self.now.objects }
-        ensures few { self.now.objects < 2 ^ 32 }
-        ensures below { All (λ name. name < self.now.objects) self.now.names }
+        ensures at_most { self.now.objects < 2 ^ 32 }
+        ensures refers { All (λ name. name < self.now.objects) self.now.names }
     {
         let names = self.names.as_slice();
         if place < names.len() {

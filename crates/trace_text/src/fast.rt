@@ -173,8 +173,8 @@ fn pair<'a>(
     text: &'a [u8],
     command: &mut Request,
 ) -> Option<&'a [u8]>
-    requires small { space.now.registers ≤ 256 }
-    requires front { text.now ≡ to_le_bytes w32 front ++ after_four.now }
+    requires at_most { space.now.registers ≤ 256 }
+    requires agrees { text.now ≡ to_le_bytes w32 front ++ after_four.now }
     ensures { IfSome result (λ rest. (areas : List AreaRule) → LeadsCommand space.now areas text.now command.new rest.now) }
 {
     let (kind, words) = leading_pair(front, after_four, text)?;

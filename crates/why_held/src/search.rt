@@ -29,7 +29,7 @@ pub(crate) fn depth_at(depths: &Depths, object: u64) -> Option<u32>
 /// Gives a depth to the object to which a value refers, if there is one and it has none.
 fn find(search: &mut Search, value: Value, depth: u32) -> Result<(), NoMemory>
     requires refers { RefersBelow (length search.old.depths) value }
-    requires shallow { depth ≤ found_in search.old.depths }
+    requires order { depth ≤ found_in search.old.depths }
     ensures { OnOk result (Finds depth (value ∷ []) search.old search.new) }
 {
     match value {
@@ -50,7 +50,7 @@ fn find(search: &mut Search, value: Value, depth: u32) -> Result<(), NoMemory>
 /// Does this for the objects to which these values refer.
 fn find_all(search: &mut Search, values: &[Value], depth: u32) -> Result<(), NoMemory>
     requires refers { All (RefersBelow (length search.old.depths)) values.now }
-    requires shallow { depth ≤ found_in search.old.depths }
+    requires order { depth ≤ found_in search.old.depths }
     ensures { OnOk result (Finds depth values.now search.old search.new) }
 {
     for value in values {
@@ -62,7 +62,7 @@ fn find_all(search: &mut Search, values: &[Value], depth: u32) -> Result<(), NoM
 /// Does this for the objects to which the parts of an object refer.
 fn find_parts(search: &mut Search, body: BodyRef<'_>, depth: u32) -> Result<(), NoMemory>
     requires refers { PartsReferBelow (length search.old.depths) (body_copied body) }
-    requires shallow { depth ≤ found_in search.old.depths }
+    requires order { depth ≤ found_in search.old.depths }
     ensures { OnOk result (Finds depth (parts_of (body_copied body.entry)) search.old search.new) }
 {
     match body {
@@ -82,7 +82,7 @@ fn find_next(
     depth: u32,
 ) -> Result<(), NoMemory>
     requires at_most { start ≤ length search.old.found }
-    requires shallow { depth ≤ found_in search.old.depths }
+    requires order { depth ≤ found_in search.old.depths }
     requires size { length search.old.depths ≡ length objects.now }
     requires sound { All (IsObject (length objects.now)) objects.now }
     requires in_range { All (λ object. object < length objects.now) (drop start search.old.found) }

@@ -14,8 +14,8 @@ loop-start-init c =
     (let P : List Value → Type 0 = λ vs. Finds 0 vs start c.find_all.new.search in subst P c.as_slice.ensures c.in_ok-find_all.ensures) in
     (refl, level_first (opening c.args.world.now) start c.find_all.new.search none c.new-found.ensures f)
 
-pub find_next-requires-clause-shallow : goal.find_next-requires-clause-shallow
-find_next-requires-clause-shallow c =
+pub find_next-requires-clause-order : goal.find_next-requires-clause-order
+find_next-requires-clause-order c =
     let level = c.loop-start.invariant.1 in
     omega (arith, level.ahead, level.counts, c.loop-start-test.true, c.len-in-loop-start.ensures)
 

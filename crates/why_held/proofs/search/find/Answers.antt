@@ -7,7 +7,7 @@ use Rattle.why_held.proofs.search.find.Goals as goal
 pub set-requires-clause-at_most : goal.set-requires-clause-at_most
 set-requires-clause-at_most c =
     let within = rw c.in-Ref.is at c.requires.refers in
-    omega (arith, found_fewer c.args.search.now.depths c.in-Ref.object within (sym c.get.ensures.value ∙ c.in-None.is), c.requires.shallow, c.get.ensures.at_most)
+    omega (arith, found_fewer c.args.search.now.depths c.in-Ref.object within (sym c.get.ensures.value ∙ c.in-None.is), c.requires.order, c.get.ensures.at_most)
 
 pub returns-in-Some : goal.returns-in-Some
 returns-in-Some c =

@@ -31,8 +31,8 @@ find_parts-requires-clause-refers c =
     let P : Body → Type 0 = λ b. PartsReferBelow (length c.loop-place.search.depths) b in
     subst P (sym c.body.ensures) (rw e o.refers)
 
-pub find_parts-requires-clause-shallow : goal.find_parts-requires-clause-shallow
-find_parts-requires-clause-shallow c = omega (arith, c.loop-place.invariant.2.counts, c.requires.shallow)
+pub find_parts-requires-clause-order : goal.find_parts-requires-clause-order
+find_parts-requires-clause-order c = omega (arith, c.loop-place.invariant.2.counts, c.requires.order)
 
 pub loop-place-preserved : goal.loop-place-preserved
 loop-place-preserved c =

@@ -3,8 +3,8 @@ use Rattle.paged_memory.specs.Moves.{paging_of}
 use Rattle.paged_memory.proofs.FrameChanges.{touch_keeps, touch_uses}
 use Rattle.paged_memory.proofs.pager.Pager.use_other.Goals as goal
 
-pub touch_page-requires-clause-used : goal.touch_page-requires-clause-used
-touch_page-requires-clause-used g c = (c.requires.paged.framed c.args.page c.in-InFrame.frame (sym c.in-InFrame.ensures.place)).0
+pub touch_page-requires-clause-listed : goal.touch_page-requires-clause-listed
+touch_page-requires-clause-listed g c = (c.requires.paged.framed c.args.page c.in-InFrame.frame (sym c.in-InFrame.ensures.place)).0
 
 pub touch_page-requires-clause-page : goal.touch_page-requires-clause-page
 touch_page-requires-clause-page g c = (c.requires.paged.framed c.args.page c.in-InFrame.frame (sym c.in-InFrame.ensures.place)).1
