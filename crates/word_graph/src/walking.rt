@@ -4,7 +4,7 @@ ghost use Rattle.mem_port.specs.View.{AccountsForFaults, shown};
 ghost use Rattle.area_space.specs.View.{view};
 ghost use Rattle.word_graph.specs.Views.{CanSee, HasObject, cons_in, field_in, form_in, is_cons_in, parts_in, told};
 ghost use Rattle.mem_port.specs.Store.{StoresNothing};
-ghost use Rattle.obj_layout.specs.Forwards.{word_at};
+ghost use Rattle.obj_layout.specs.Forwards.{Final, HasFinal, word_at};
 ghost use Rattle.obj_layout.specs.Shapes.{IsWhole, charge_at, cons_shape, pair_charge, shape_of};
 ghost use Rattle.lisp_ground.specs.Leading.{HasCdr, cdr_in};
 ghost use Rattle.word_graph.specs.Shown.{code_in, count_in, part_in};
@@ -20,6 +20,7 @@ use store_word::{CdrCode, Content, Steps, SwapFault, Word};
 /// The value of a word: a reference by the place of its object, to which forwards lead, into old
 /// regions too. It takes at most 12 memory accesses. On a swap error nothing is stored, and the count of swap
 /// errors rises.
+#[inline(always)]
 pub fn value_of_word<M: Memory, L: Ledger>(
     ground: &mut Ground<M>,
     word: Word,
@@ -35,15 +36,32 @@ pub fn value_of_word<M: Memory, L: Ledger>(
     match word.content() {
         Content::Fixnum(number) => Ok(Seen::Fix(number)),
         Content::List(at) => {
-            let cons = resolve(&mut ground.mem, at, steps)?;
+            let cons = place_of(&mut ground.mem, at, steps)?;
             Ok(Seen::Cons(cons as u64))
         }
         Content::Struct(at) => {
-            let block = resolve(&mut ground.mem, at, steps)?;
+            let block = place_of(&mut ground.mem, at, steps)?;
             Ok(Seen::Block(block as u64))
         }
         _ => Ok(Seen::Nil),
     }
+}
+
+// The place of an object, to which forwards lead. It takes at most 12 memory accesses. It isn't inlined,
+// so that `value_of_word` is, and a number or nil costs no call.
+#[inline(never)]
+fn place_of<M: Memory, L: Ledger>(
+    mem: &mut M,
+    at: u32,
+    steps: &mut Steps<L>,
+) -> Result<u32, SwapFault>
+    requires { HasFinal (M.seen mem.old).words at }
+    ensures value { IfOk result (Final (M.seen mem.old).words at) }
+    ensures unchanged { StoresNothing (M.seen mem.old) (M.seen mem.new) }
+    ensures accounted { AccountsForFaults (shown M.Memory mem.old) (shown M.Memory mem.new) steps.old steps.new result }
+    ensures cost { steps.new ≤ steps.old + 12 }
+{
+    resolve(mem, at, steps)
 }
 
 // The code of an object that begins with this word, and the number of its parts.
