@@ -1,5 +1,5 @@
 //! A new cons, as a pair in its class.
-ghost use Rattle.std.specs.Prelude.{◌≡◌, ◌+◌, ◌<◌, ◌≤◌, length, slice_get, Some, IfOk, OnOk, OnErr};
+ghost use Rattle.std.specs.Prelude.{◌≡◌, ◌+◌, ◌%◌, ◌<◌, ◌≤◌, length, slice_get, Some, IfOk, OnOk, OnErr};
 ghost use Rattle.mem_port.specs.View.{AccountsForFaults, shown};
 ghost use Rattle.area_space.specs.View.{view};
 ghost use Rattle.cdr_lists.specs.Opening.{OpensIfNeeded};
@@ -19,7 +19,7 @@ use store_word::{CdrCode, Steps, SwapFault, Word};
 pub const PAIR: u32 = 2;
 
 // Writes both words of a pair, or none: by one use of their page or, if they are on two, with both pages held first.
-#[inline]
+#[inline(always)]
 fn write_pair<M: Memory, L: Ledger>(
     mem: &mut M,
     at: u32,
@@ -39,6 +39,29 @@ fn write_pair<M: Memory, L: Ledger>(
     if at % 256 < 255 {
         return mem.write_two(at, first, second, steps);
     }
+    write_apart(mem, at, first, second, steps)
+}
+
+// Writes the words of a pair that lies on two pages, or neither: both pages are held first. It isn't inlined, since
+// few pairs lie on two pages.
+#[inline(never)]
+fn write_apart<M: Memory, L: Ledger>(
+    mem: &mut M,
+    at: u32,
+    first: Word,
+    second: Word,
+    steps: &mut Steps<L>,
+) -> Result<(), SwapFault>
+    requires page { 255 ≤ at % 256 }
+    requires in_range { at + 1 < length (M.seen mem.old).words }
+    requires at_most { length (M.seen mem.old).words ≤ 4194304 }
+    ensures pair { OnOk result (Writes (M.seen mem.old) (M.seen mem.new) at 2 (words_of_pair first second)) }
+    ensures first { OnOk result (slice_get (M.seen mem.new).words at ≡ Some first) }
+    ensures second { OnOk result (slice_get (M.seen mem.new).words (at + 1) ≡ Some second) }
+    ensures err { OnErr result (StoresNothing (M.seen mem.old) (M.seen mem.new)) }
+    ensures accounted { AccountsForFaults (shown M.Memory mem.old) (shown M.Memory mem.new) steps.old steps.new result }
+    ensures cost { steps.new ≤ steps.old + 4 }
+{
     let page = at / 256;
     mem.hold(&[page, page + 1], steps)?;
     mem.write(at, first, steps)?;
@@ -85,7 +108,7 @@ pub fn make_pair<M: Memory, L: Ledger>(
 }
 
 /// The same for a pair whose charge is 2 or 3 words.
-#[inline]
+#[inline(always)]
 pub fn make_pair_of<M: Memory, L: Ledger>(
     ground: &mut Ground<M>,
     area: u8,

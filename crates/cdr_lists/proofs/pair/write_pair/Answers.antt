@@ -5,6 +5,3 @@ use Rattle.cdr_lists.proofs.pair.write_pair.Goals as goal
 
 pub returns-then-at-lt255-clause-pair : goal.returns-then-at-lt255-clause-pair
 returns-then-at-lt255-clause-pair g c = on_ok_weaker c.write_two.result (λ two. pair_written same-stores two.front two.back c.requires.in_range) c.write_two.ensures.ok
-
-pub returns-clause-pair : goal.returns-clause-pair
-returns-clause-pair g c = on_ok_weaker c.write-2.result (λ stores. pair_written c.in_ok-hold.ensures.unchanged c.in_ok-write.ensures.ok stores c.requires.in_range) c.write-2.ensures.ok
