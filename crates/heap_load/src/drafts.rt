@@ -18,6 +18,7 @@ use std::sync::ledger::Ledger;
 use store_word::{Steps, SwapFault, Word};
 
 /// Makes all objects of a world, each with the parts that are known by then, and records their places.
+#[inline(never)]
 pub(crate) fn make_drafts<M: Memory, L: Ledger>(
     ground: &mut Ground<M>,
     world: &World,
@@ -131,6 +132,7 @@ fn make_alone<M: Memory, L: Ledger>(
 }
 
 // Makes the conses of a group as the cells of one list with nil in each car.
+#[inline(never)]
 fn make_group<M: Memory, L: Ledger>(
     ground: &mut Ground<M>,
     world: &World,

@@ -25,6 +25,7 @@ struct ConsParts {
 }
 
 /// Stores, in all objects of a world, the parts that weren't known when the objects were made.
+#[inline(never)]
 pub(crate) fn fill_drafts<M: Memory, L: Ledger>(
     ground: &mut Ground<M>,
     world: &World,
@@ -233,6 +234,7 @@ fn fill_cdr<M: Memory, L: Ledger>(
 }
 
 // Stores the fields of a block.
+#[inline(never)]
 fn fill_block<M: Memory, L: Ledger>(
     ground: &mut Ground<M>,
     world: &World,

@@ -78,6 +78,9 @@ pub(crate) fn group_from(objects: &Objects, number: usize, linked: &mut usize) -
     ensures value { result ≡ group_from objects.now number }
     ensures stays_known { AreLinked objects.now number linked.new }
 {
+    if objects.charge_of(number) != 3 {
+        return 0;
+    }
     let area = objects.area_of(number);
     let end = number + (objects.len() as usize - number).min(GROUP_LIMIT);
     let from = number.max(*linked);

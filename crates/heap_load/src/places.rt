@@ -143,10 +143,10 @@ pub(crate) fn word_so_far(value: Value, number: usize, places: &[Place]) -> Word
     requires { number ≤ length places.now }
     ensures { result ≡ word_of places.now (known_part number value) }
 {
-    if is_known(value, number) {
-        word_of(value, places)
-    } else {
-        Word::nil()
+    match value {
+        Value::Fix(fixnum) => Word::fixnum(fixnum),
+        Value::Ref(name) if name < number as u64 => places[name as usize].word(),
+        _ => Word::nil(),
     }
 }
 
