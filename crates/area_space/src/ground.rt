@@ -104,7 +104,7 @@ impl<M: Memory> Ground<M> {
     /// be scanned, and the class of the place is charged, in words. The place is the used end of the
     /// last region of a live chain, as `place` returned it. A new charge has to fit the area's quota,
     /// and a moved charge has to be in the old class that it leaves; a reserve is 0.
-    #[inline]
+    #[inline(always)]
     pub fn commit(&mut self, placed: &Placed, words: u32, charge: u32, origin: Origin)
         requires at_least { 0 < words }
         requires end { (slot : ℕ) × IsEnd self.old.table slot placed.now.at words }
