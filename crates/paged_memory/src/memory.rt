@@ -121,6 +121,7 @@ impl<D: Swap> Memory for PagedMemory<D> {
     }
 
     /// Stores a word at an address, whose page is used.
+    #[inline(always)]
     fn write<L: Ledger>(
         &mut self,
         at: u32,
@@ -160,6 +161,7 @@ impl<D: Swap> Memory for PagedMemory<D> {
     }
 
     /// Stores two words of one page, which is used once.
+    #[inline(always)]
     fn write_two<L: Ledger>(
         &mut self,
         at: u32,
@@ -201,6 +203,7 @@ impl<D: Swap> Memory for PagedMemory<D> {
     }
 
     /// Uses pages one after another. With 32 frames at least, none of them is evicted for another.
+    #[inline(always)]
     fn hold<L: Ledger>(&mut self, pages: &[u32], steps: &mut Steps<L>) -> Result<(), SwapFault>
         requires at_most { length pages.now ≤ HOLD_LIMIT }
         requires in_range { All (λ page. 256 * page < length (words_of self.old.0 (D.stored self.old.1))) pages.now }

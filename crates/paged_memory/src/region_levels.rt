@@ -70,7 +70,7 @@ impl RegionLevels {
     }
 
     /// Sets the tag of a frame if a word has an address of level 1 or more.
-    #[inline]
+    #[inline(always)]
     pub(crate) fn tag_word(&self, pool: &mut FramePool, frame: u32, word: Word)
         requires frame { frame < frames_of pool.old }
         requires sound { IsPool pool.old }
@@ -97,6 +97,7 @@ impl RegionLevels {
 
     /// Stores two words into a frame, at consecutive offsets below 256, and sets the tag of the frame if one of them has an address
     /// of level 1 or more.
+    #[inline(always)]
     pub(crate) fn store_two(
         &self,
         pool: &mut FramePool,
