@@ -133,7 +133,7 @@ fn settle_old<M: Memory, L: Ledger>(
 /// 45 memory accesses and 4 for each word that it places, at most 2,048; with one, at most 1,026
 /// more. After a swap error each used word of a live region is as before; an object may have moved,
 /// and the count of swap errors has risen.
-#[inline]
+#[inline(always)]
 pub fn fetch<M: Memory, L: Ledger>(
     ground: &mut Ground<M>,
     at: u32,
@@ -177,6 +177,7 @@ pub fn fetch<M: Memory, L: Ledger>(
 }
 
 // Stores a word in place of another, if they differ.
+#[inline(always)]
 fn write_changed<M: Memory, L: Ledger>(
     mem: &mut M,
     at: u32,
