@@ -1,5 +1,6 @@
 -- Counts of lines, as bytes arrive.
 use Rattle.std.proofs.Common.{◌≡◌, ℕ, suc, ◌+◌, ◌-◌, ◌^◌, ◌<◌, ◌≤◌, ◌≢◌, min, List, [], ◌∷◌, ◌++◌, length, take, drop, get_or, Bool, true, false, refl, sym, ap, ◌∙◌, arith, append_assoc, cond, inl, inr}
+use Rattle.std.proofs.Math.Seq.{take-append-add}
 use Rattle.std.proofs.lemmas.List.{append-nil, take_all, take-append-le, take-take, length-take, length-take-le, length-append, length_push, get_or-take}
 use Rattle.std.proofs.lemmas.List.Sums.{sum_by-append, fold-append, split_at_first, passes_at_first, fails_before_first}
 use Rattle.std.proofs.lemmas.Bool.{cases_Bool, cases_lt}
@@ -8,7 +9,7 @@ use Rattle.std.specs.List.{position_or_len, before_first, after_first}
 use Rattle.outer_ports.specs.declared.sinks.tally.Tally.{Tally}
 use Rattle.outer_ports.specs.Ports.{Gained}
 use Rattle.outer_ports.specs.Lines.{parts_of, whole_lines, begun_line, begins_with, line_count, tally_of, Counted, counted_of}
-use Rattle.outer_ports.specs.Counting.{next_count_if, with_line, with_end, with_rest}
+use Rattle.outer_ports.specs.Counting.{next_count_if, with_exhausted, with_line, with_end, with_rest}
 use Rattle.outer_ports.proofs.Cuts.{Cuts, cuts, whole_lines-is, begun_line-is}
 use Rattle.outer_ports.proofs.FirstWords.{begins_with-take}
 
@@ -131,6 +132,13 @@ with_line-take tally line =
     let reclaimed = at tally.reclaimed (codes "reclaimed") (omega arith) in
     let fault = at tally.fault (codes "fault") (omega arith) in
     λ i. record { replies = next_count_if true tally.replies; exhausted = exhausted i; wrong_type = wrong_type i; reclaimed = reclaimed i; fault = fault i }
+
+-- the counts after a line that begins with `exhausted` and a space
+pub exhausted-counted : (tally : Tally) (line words : List ℕ) (count : ℕ) → line ≡ codes "exhausted " ++ words → with_exhausted tally ≡ with_line tally (take (10 + count) line)
+exhausted-counted tally line words count is =
+    let front : take (10 + count) (codes "exhausted " ++ words) ≡ codes "exhausted " ++ take count words = take-append-add (codes "exhausted ") words count in
+    let whole : with_exhausted tally ≡ with_line tally (codes "exhausted " ++ take count words) = refl in
+    rw (is, front) whole
 
 -- a counting sink gained these bytes
 pub counted_gained : {before now : Counted} (bytes : List ℕ) → now ≡ fold with_byte before bytes → Gained (λ text. before ≡ counted_of text) (λ text. now ≡ counted_of text) bytes

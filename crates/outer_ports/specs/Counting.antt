@@ -36,6 +36,26 @@ with_other tally = record {
   fault = next_count_if false tally.fault;
 }
 
+-- the counts after one more line, which begins with `exhausted`
+abbrev pub with_exhausted : Tally → Tally
+with_exhausted tally = record {
+  replies = next_count_if true tally.replies;
+  exhausted = next_count_if true tally.exhausted;
+  wrong_type = next_count_if false tally.wrong_type;
+  reclaimed = next_count_if false tally.reclaimed;
+  fault = next_count_if false tally.fault;
+}
+
+-- the counts after one more line, which begins with `wrong-type`
+abbrev pub with_wrong_type : Tally → Tally
+with_wrong_type tally = record {
+  replies = next_count_if true tally.replies;
+  exhausted = next_count_if false tally.exhausted;
+  wrong_type = next_count_if true tally.wrong_type;
+  reclaimed = next_count_if false tally.reclaimed;
+  fault = next_count_if false tally.fault;
+}
+
 -- the state after more bytes of the line that has begun
 abbrev pub with_rest : Counted → List ℕ → Counted
 with_rest counted bytes = record counted { begun = take 11 (counted.begun ++ bytes) }

@@ -1,6 +1,7 @@
 //! Sinks of bytes.
 
 mod buffer;
+mod frequent;
 mod sink;
 mod sink_bytes;
 mod sink_tally;

@@ -1,5 +1,6 @@
 //! A sink that counts lines, and stores no text.
-ghost use Rattle.std.specs.Prelude.{◌≡◌, ◌≤◌, [], false, length};
+ghost use Rattle.std.specs.Prelude.{◌≡◌, ◌≤◌, ◌<◌, ◌==◌, [], false, length, take, IfSome, MatchOption};
+ghost use Rattle.std.specs.List.{position_or_len};
 ghost use Rattle.outer_ports.specs.Lines.{counted_of};
 ghost use Rattle.outer_ports.specs.Counting.{with_end, with_rest};
 
@@ -47,6 +48,29 @@ impl SinkTally {
         self.tally
     }
 
+    // Counts the line that has begun, which ends at the first line feed of these bytes, and returns the feed's
+    // position, or None if there is no line feed.
+    #[inline(always)]
+    fn end_at_feed(&mut self, bytes: &[u8]) -> Option<usize>
+        ensures found { MatchOption result (position_or_len (λ byte. byte == 10) bytes.now ≡ length bytes.now)
+            (λ feed. feed ≡ position_or_len (λ byte. byte == 10) bytes.now) }
+        ensures in_range { IfSome result (λ feed. feed < length bytes.now) }
+        ensures after { MatchOption result (self.new ≡ self.old) (λ feed. self.new ≡ with_end self.old (take feed bytes.now)) }
+        ensures at_most { length self.old.begun ≤ 11 }
+    {
+        if self.len == 0
+            && let Some(feed) = self.tally.add_frequent(bytes)
+        {
+            return Some(feed);
+        }
+        let feed = position_of(b'\n', bytes);
+        if feed == bytes.len() {
+            return None;
+        }
+        self.end_line(&bytes[..feed]);
+        Some(feed)
+    }
+
     // Counts the line that has begun, which ends with these bytes.
     fn end_line(&mut self, bytes: &[u8])
         ensures value { self.new ≡ with_end self.old bytes.now }
@@ -81,13 +105,8 @@ impl Sink for SinkTally {
 
     fn give(&mut self, piece: &[u8]) -> Result<usize, SinkFault> {
         let mut rest = piece;
-        'lines: loop {
-            let feed = position_of(b'\n', rest);
-            if feed == rest.len() {
-                break;
-            }
-            let (line, ended) = rest.split_at(feed);
-            self.end_line(line);
+        'lines: while let Some(feed) = self.end_at_feed(rest) {
+            let (_line, ended) = rest.split_at(feed);
             rest = &ended[1..];
         }
         self.go_on(rest);

@@ -2,7 +2,9 @@
 ghost use Rattle.std.specs.Prelude.{◌≡◌, ◌≤◌, ◌==◌, [], length};
 ghost use Rattle.std.specs.List.{position_or_len};
 ghost use Rattle.outer_ports.specs.Lines.{first_word};
-ghost use Rattle.outer_ports.specs.Counting.{may_be_counted, next_count_if, with_other, with_word};
+ghost use Rattle.outer_ports.specs.Counting.{may_be_counted, next_count_if, with_exhausted, with_other, with_word, with_wrong_type};
+
+use crate::sinks::frequent::{after_exhausted, after_ok, after_wrong_type};
 
 /// The number of lines (`replies`), and the number of those with each of four first words. A count saturates
 /// at 2^64 - 1.
@@ -16,6 +18,7 @@ pub struct Tally {
 }
 
 impl Tally {
+    ghost use Rattle.std.specs.Prelude.{◌<◌, take, IfSome, MatchOption};
     ghost use Rattle.outer_ports.specs.Lines.{tally_of};
     ghost use Rattle.outer_ports.specs.Counting.{with_line};
 
@@ -43,6 +46,31 @@ impl Tally {
             *self = with_other(*self);
         }
     }
+
+    /// Counts the line with which this text begins, and returns the position of its line feed, if the line
+    /// is one of the most frequent replies: `ok`, `wrong-type`, or `exhausted` and what follows it.
+    #[inline(always)]
+    pub(crate) fn add_frequent(&mut self, text: &[u8]) -> Option<usize>
+        ensures found { IfSome result (λ feed. feed ≡ position_or_len (λ byte. byte == 10) text.now) }
+        ensures in_range { IfSome result (λ feed. feed < length text.now) }
+        ensures after { MatchOption result (self.new ≡ self.old) (λ feed. self.new ≡ with_line self.old (take feed text.now)) }
+    {
+        if after_ok(text).is_some() {
+            *self = with_other(*self);
+            return Some(2);
+        }
+        if after_wrong_type(text).is_some() {
+            *self = with_wrong_type(*self);
+            return Some(10);
+        }
+        let words = after_exhausted(text)?;
+        let feed = position_of(b'\n', words);
+        if feed == words.len() {
+            return None;
+        }
+        *self = with_exhausted(*self);
+        Some(10 + feed)
+    }
 }
 
 // The counts after one more line, which has this first word.
@@ -65,6 +93,28 @@ fn with_other(tally: Tally) -> Tally
 {
     Tally {
         replies: next_count_if(true, tally.replies),
+        ..tally
+    }
+}
+
+// The counts after one more line, which begins with `exhausted`.
+fn with_exhausted(tally: Tally) -> Tally
+    ensures { result ≡ with_exhausted tally }
+{
+    Tally {
+        replies: next_count_if(true, tally.replies),
+        exhausted: next_count_if(true, tally.exhausted),
+        ..tally
+    }
+}
+
+// The counts after one more line, which begins with `wrong-type`.
+fn with_wrong_type(tally: Tally) -> Tally
+    ensures { result ≡ with_wrong_type tally }
+{
+    Tally {
+        replies: next_count_if(true, tally.replies),
+        wrong_type: next_count_if(true, tally.wrong_type),
         ..tally
     }
 }
