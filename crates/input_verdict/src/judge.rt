@@ -9,11 +9,11 @@ ghost use Rattle.world_text.specs.Fast.{IsLineBeforeFeed};
 ghost use Rattle.trace_text.specs.Commands.{Run, trace_line};
 ghost use Rattle.line_input.specs.Reader.{IsWholeLine};
 ghost use Rattle.line_input.specs.Statuses.{status_of};
-ghost use Rattle.input_verdict.specs.Events.{event_of, events, trouble_at};
+ghost use Rattle.input_verdict.specs.Events.{Does, event_of, events, trouble_at};
 ghost use Rattle.input_verdict.specs.Places.{IsPlace, Judged, MayDo};
 ghost use Rattle.input_verdict.specs.Verdict.{in_trace, judged_as, line_in, trace_next, world_next};
 
-use crate::input::{JudgedInput, JudgedLine, LineEffect};
+use crate::input::{JudgedInput, LineEffect};
 use line_input::{LineReader, LineSpan, RunError, Status, world_trouble};
 use lisp_graph::{Request, World};
 use trace_text::{LineKind, read_fast, read_request};
@@ -118,47 +118,31 @@ fn command_before_feed(world: &World, text: &[u8], command: &mut Request) -> Opt
     Some(text.len() - rest.len())
 }
 
-/// Goes past the next line if its line feed is buffered and it is one of the most frequent: in the world `cons AREA V V`, and in the trace a
-/// command, which is written to `command`. It looks at each byte once. Otherwise the place is unchanged, and the line is judged by
-/// `judge_line`.
+/// Goes past the next line if its line feed is buffered and it is one of the most frequent commands of the trace, which is written to `command`. It
+/// looks at each byte once. Otherwise the place is unchanged, and the line is judged by `judge_line`.
 #[inline(always)]
 pub fn judge_buffered(
     place: &mut JudgedInput,
     reader: &LineReader,
     command: &mut Request,
-) -> Option<JudgedLine>
+) -> Option<LineSpan>
     requires { IsPlace place.old }
-    ensures found { IfSome result (λ line. IsWholeLine reader.now line.found) }
+    ensures found { IfSome result (IsWholeLine reader.now) }
     ensures at_most { IfSome result (λ _. length reader.now.bytes ≤ 32769) }
-    ensures judged { IfSome result (λ line. judged_as place.old (take line.found.length reader.now.bytes) line.found.size
-        ≡ Ok (record { event = event_of line.effect command.new; place = place.new })) }
+    ensures judged { IfSome result (λ found. judged_as place.old (take found.length reader.now.bytes) found.size
+        ≡ Ok (record { event = Does command.new; place = place.new })) }
     ensures stays_sound { IsPlace place.new }
     ensures none { result ≡ None → place.new ≡ place.old }
-    ensures allowed { IfSome result (λ line. MayDo place.new.judge.builder.world (event_of line.effect command.new)) }
+    ensures allowed { IfSome result (λ _. IsRunnable place.new.judge.builder.world command.new) }
 {
-    if place.judge.ended || !place.has_room_for_a_line() {
+    if !place.judge.builder.is_closed() || place.judge.ended || !place.has_room_for_a_line() {
         return None;
     }
-    let text = reader.bytes();
-    if place.judge.builder.is_closed() {
-        let length = command_before_feed(place.judge.builder.world(), text, command)?;
-        place.advance(length + 1);
-        return Some(JudgedLine {
-            effect: LineEffect::Does,
-            found: LineSpan {
-                length,
-                size: length + 1,
-            },
-        });
-    }
-    let length = place.judge.builder.cons_before_feed(text)?;
+    let length = command_before_feed(place.judge.builder.world(), reader.bytes(), command)?;
     place.advance(length + 1);
-    Some(JudgedLine {
-        effect: LineEffect::Nothing,
-        found: LineSpan {
-            length,
-            size: length + 1,
-        },
+    Some(LineSpan {
+        length,
+        size: length + 1,
     })
 }
 

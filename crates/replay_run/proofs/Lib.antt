@@ -9,6 +9,7 @@ pub mod Events
 pub mod RunEnds
 pub mod NextLines
 pub mod AcceptedLines
+mod PassedLines
 pub mod LastLine
 pub mod NonDumpLines
 pub mod NoDumps

@@ -1,5 +1,5 @@
 -- What the call that judges the next line does, from what its parts do. The first part doesn't change the place.
-use Rattle.std.proofs.Common.{◌≡◌, ◌≢◌, ℕ, List, Result, true, false, Ok, Err, refl, ap, ◌∙◌, subst}
+use Rattle.std.proofs.Common.{◌≡◌, ◌≢◌, ℕ, List, false, Ok, Err, refl, ap, ◌∙◌, subst}
 use Rattle.std.specs.Prelude.{take}
 use Rattle.world_text.specs.declared.fault.WorldFault.{WorldFault}
 use Rattle.line_input.specs.declared.statuses.status.Status.TheVariants.{Refused}

@@ -1,5 +1,5 @@
 -- A run up to its last line.
-use Rattle.std.specs.Prelude.{◌≡◌, ◌≢◌, ◌⊎◌, ◌+◌, ◌-◌, ◌^◌, ◌≤◌, ◌<◌, ℕ, List, [], ◌++◌, length, Option, Some, None, Result, Ok, Err, IfSome, unwrap_or, MatchResult, IfErr, count_by, Bool, true, false}
+use Rattle.std.specs.Prelude.{◌≡◌, ◌≢◌, ◌⊎◌, ◌+◌, ◌-◌, ◌^◌, ◌≤◌, ◌<◌, ℕ, List, [], ◌++◌, length, Option, Some, None, Result, Ok, Err, IfSome, unwrap_or, MatchResult, IfErr, count_by, true, false}
 use Rattle.outer_ports.specs.Ports.{Gained, Gave}
 use Rattle.outer_ports.specs.Buffers.{Buffered as Buffer, Gathered, Gathers}
 use Rattle.lisp_graph.specs.declared.command.Command.{Command}

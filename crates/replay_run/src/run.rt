@@ -13,8 +13,9 @@ ghost use Rattle.replay_run.specs.Steps.{Acted, Fetched, Filled, IsIn, RanTo, Ta
 
 use crate::halt::LoopExit;
 use crate::line::act;
+use crate::serve::serve;
 use input_verdict::{
-    InputJudge, JudgedInput, JudgedLine, judge_buffered, judge_line, run_error_of,
+    InputJudge, JudgedInput, JudgedLine, judge_buffered, judge_line, pass_conses, run_error_of,
 };
 use line_input::{InputReader, LineReader, LineSpan, RunError, RunStop, early_end};
 use lisp_graph::Request;
@@ -62,10 +63,10 @@ fn next_line<S: Source, K: Sink>(
     }
 }
 
-/// Judges the next line. Most lines are judged where they are buffered. For any other line, more bytes are taken only if neither the line nor
-/// enough of it is buffered, as `next_line` says. A command is written to `command`.
-#[inline(always)]
-fn judge_next<S: Source, K: Sink>(
+/// Finds the next line, and then judges it. More bytes are taken only if neither the line nor enough of it is buffered, as `next_line` says. A
+/// command is written to `command`.
+#[inline(never)]
+fn find_and_judge<S: Source, K: Sink>(
     place: &mut JudgedInput,
     command: &mut Request,
     reader: &mut LineReader,
@@ -85,9 +86,6 @@ fn judge_next<S: Source, K: Sink>(
     ensures sink { ReportsSink (result ≡ Err RunStop.Write) (K.faults sink.old) (K.faults sink.new) (K.failed sink.new) }
     ensures swap { IfErr result (λ stop. stop ≢ RunStop.Tell RunError.Swap) }
 {
-    if let Some(line) = judge_buffered(place, reader, command) {
-        return Ok(Some(line));
-    }
     let enough = place.bytes_to_decide(place.judge.ended);
     let found = match next_line(reader, buffer, source, sink, enough) {
         Ok(Some(found)) => found,
@@ -140,7 +138,15 @@ pub fn run_trace<S: Source, K: Sink, E: Engine>(
     // Each command is written here.
     let mut command = Request::new();
     loop {
-        let next = match judge_next(&mut place, &mut command, reader, buffer, source, sink) {
+        pass_conses(&mut place, reader);
+        if let Some(found) = judge_buffered(&mut place, reader, &mut command) {
+            match serve(alloc, buffer, sink, engine, place.judge.world(), &command) {
+                Ok(()) => reader.pass(found.size),
+                Err(halt) => return Err(halt.stop()),
+            }
+            continue;
+        }
+        let next = match find_and_judge(&mut place, &mut command, reader, buffer, source, sink) {
             Ok(Some(next)) => next,
             Ok(None) => return close(&place),
             Err(stop) => return Err(stop),

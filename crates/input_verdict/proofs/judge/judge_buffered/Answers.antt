@@ -1,8 +1,5 @@
 use Rattle.input_verdict.proofs.Buffered.{whole_line}
 use Rattle.input_verdict.proofs.judge.judge_buffered.Goals as goal
 
-pub returns-then-is_closed-clause-found : goal.returns-then-is_closed-clause-found
-returns-then-is_closed-clause-found c = whole_line c.args.reader.now c.in_ok-length.length (rw c.bytes-text.ensures.value at c.in_ok-length.ensures.found)
-
 pub returns-clause-found : goal.returns-clause-found
-returns-clause-found c = whole_line c.args.reader.now c.in_ok-length-2.length (rw c.bytes-text.ensures.value at c.in_ok-length-2.ensures.found)
+returns-clause-found c = whole_line c.args.reader.now c.in_ok-length.length (rw c.bytes.ensures.value at c.in_ok-length.ensures.found)
