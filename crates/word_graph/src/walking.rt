@@ -1,6 +1,7 @@
 //! Reads words and objects, and stores nothing.
-ghost use Rattle.std.specs.Prelude.{◌≡◌, ◌+◌, ◌<◌, ◌≤◌, true, IfOk, length};
+ghost use Rattle.std.specs.Prelude.{◌≡◌, ◌+◌, ◌/◌, ◌<◌, ◌≤◌, true, Contains, IfOk, length};
 ghost use Rattle.mem_port.specs.View.{AccountsForFaults, shown};
+ghost use Rattle.area_space.specs.Table.{IsUnclassed, chain, class_number, levels_of};
 ghost use Rattle.area_space.specs.View.{view};
 ghost use Rattle.word_graph.specs.Views.{CanSee, HasObject, cons_in, field_in, form_in, is_cons_in, parts_in, told};
 ghost use Rattle.mem_port.specs.Store.{StoresNothing};
@@ -10,7 +11,7 @@ ghost use Rattle.lisp_ground.specs.Leading.{HasCdr, cdr_in};
 ghost use Rattle.word_graph.specs.Shown.{code_in, count_in, part_in};
 ghost use Rattle.word_graph.specs.Words.{HasPart};
 
-use area_space::Ground;
+use area_space::{Class, Ground, RegionTable};
 use lisp_graph::{Form, Seen, SeenCons};
 use mem_port::Memory;
 use obj_layout::resolve;
@@ -72,6 +73,19 @@ fn header_told(first: Word) -> (u16, u16)
     first.header_parts().unwrap_or((0, 2))
 }
 
+// The class of the region of an object.
+fn class_of_object(table: &RegionTable, at: u32) -> Class
+    requires in_range { at / 4096 < table.now.regions }
+    requires used { IsUnclassed table.now (at / 4096) → ⊥ }
+    ensures level { result.level < levels_of table.now }
+    ensures found { Contains (chain table.now (class_number table.now result)) (at / 4096) }
+{
+    match table.class_of(at) {
+        Some(class) => class,
+        None => unreachable!(),
+    }
+}
+
 // What a pair is charged, by its second word.
 fn pair_charge(second: Word) -> u32
     ensures { result ≡ pair_charge second.cdr }
@@ -126,19 +140,16 @@ pub fn form_at<M: Memory, L: Ledger>(
     ensures cost { steps.new ≤ steps.old + 2 }
 {
     let at = key as u32;
-    let class = ground.table.class_of(at);
+    let class = class_of_object(&ground.table, at);
     let first = ground.mem.read(at, steps)?;
     let charge = charge_behind(&mut ground.mem, at, first, steps)?;
     let (code, length) = header_told(first);
-    match class {
-        Some(class) => Ok(Form {
-            area: class.area,
-            code,
-            length,
-            charge,
-        }),
-        None => unreachable!(),
-    }
+    Ok(Form {
+        area: class.area,
+        code,
+        length,
+        charge,
+    })
 }
 
 // The cdr of the cons that begins with this word. It takes at most one memory access.
@@ -258,18 +269,15 @@ pub fn cons_at<M: Memory, L: Ledger>(
     ensures cost { steps.new ≤ steps.old + 26 }
 {
     let at = key as u32;
-    let class = ground.table.class_of(at);
+    let class = class_of_object(&ground.table, at);
     let first = ground.mem.read(at, steps)?;
     let (rest, charge) = rest_behind(&mut ground.mem, at, first, steps)?;
     let car = value_of_word(ground, first, steps)?;
     let cdr = value_of_word(ground, rest, steps)?;
-    match class {
-        Some(class) => Ok(SeenCons {
-            area: class.area,
-            charge,
-            car,
-            cdr,
-        }),
-        None => unreachable!(),
-    }
+    Ok(SeenCons {
+        area: class.area,
+        charge,
+        car,
+        cdr,
+    })
 }

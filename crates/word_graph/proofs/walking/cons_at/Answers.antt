@@ -37,8 +37,8 @@ pub returns-in_err-cdr-clause-unchanged : goal.returns-in_err-cdr-clause-unchang
 returns-in_err-cdr-clause-unchanged g c =
     stores_nothing-twice (stores_nothing-twice (stores_nothing-twice c.in_ok-first.ensures.unchanged c.in_ok-rest.ensures.unchanged) c.in_ok-car.ensures.unchanged) c.in_err-cdr.ensures.unchanged
 
-pub unreachable-requires : goal.unreachable-requires
-unreachable-requires g c = object_classed (g.M.Memory.seen c.args.ground.now.mem) c.args.ground.now.table c.args.key c.requires.object c.in-None.ensures.none
+pub class_of_object-class-requires-clause-used : goal.class_of_object-class-requires-clause-used
+class_of_object-class-requires-clause-used g c = object_classed (g.M.Memory.seen c.args.ground.now.mem) c.args.ground.now.table c.args.key c.requires.object
 
 pub returns-clause-value : goal.returns-clause-value
 returns-clause-value g c =
@@ -50,7 +50,7 @@ returns-clause-value g c =
     let cdr = c.in_ok-rest.ensures.cdr ∙ ap (λ (words : List Parts). cdr_in words key) c.in_ok-first.ensures.unchanged.words in
     let charge = c.in_ok-rest.ensures.value ∙ ap (λ (words : List Parts). charge_at words key) c.in_ok-first.ensures.unchanged.words in
     let stays = stores_nothing-twice c.in_ok-first.ensures.unchanged c.in_ok-rest.ensures.unchanged in
-    cons_told m t key c.requires.object c.in-Some.class c.in_ok-rest.charge c.in_ok-car.car c.in_ok-cdr.cdr c.in-Some.ensures.some c.in-Some.ensures.level charge
+    cons_told m t key c.requires.object c.class_of_object-class.result c.in_ok-rest.charge c.in_ok-car.car c.in_ok-cdr.cdr c.class_of_object-class.ensures.found c.class_of_object-class.ensures.level charge
     (c.in_ok-car.ensures.value ∙ car_told m t key c.requires.object c.requires.pair (g.M.Memory.seen c.rest_behind.new.mem) c.in_ok-first.first.content stays (sym (ap (λ (w : Parts). w.content) first)))
     (c.in_ok-cdr.ensures.value ∙ ap (λ (x : Table). told last x c.in_ok-rest.rest.content) c.in_ok-car.ensures.table
     ∙ cdr_told m t key c.requires.object c.requires.pair last c.in_ok-rest.rest.content (stores_nothing-twice stays c.in_ok-car.ensures.unchanged) cdr)

@@ -16,13 +16,13 @@ pub charge_behind-requires-clause-whole : goal.charge_behind-requires-clause-who
 charge_behind-requires-clause-whole g c =
     subst (λ (words : List Parts). IsWhole words c.args.key) (sym c.in_ok-first.ensures.unchanged.words) (object_whole (g.M.Memory.seen c.args.ground.now.mem) c.args.ground.now.table c.args.key c.requires)
 
-pub unreachable-requires : goal.unreachable-requires
-unreachable-requires g c = object_classed (g.M.Memory.seen c.args.ground.now.mem) c.args.ground.now.table c.args.key c.requires c.in-None.ensures.none
+pub class_of_object-class-requires-clause-used : goal.class_of_object-class-requires-clause-used
+class_of_object-class-requires-clause-used g c = object_classed (g.M.Memory.seen c.args.ground.now.mem) c.args.ground.now.table c.args.key c.requires
 
 pub returns-clause-value : goal.returns-clause-value
 returns-clause-value g c =
     let m = g.M.Memory.seen c.args.ground.now.mem in
     let first = word_at-read m.words m.words c.args.key c.in_ok-first.first refl c.in_ok-first.ensures.value in
     let charge : c.in_ok-charge.charge ≡ charge_at m.words c.args.key = c.in_ok-charge.ensures.value ∙ ap (λ (words : List Parts). charge_at words c.args.key) c.in_ok-first.ensures.unchanged.words in
-    form_told m c.args.ground.now.table c.args.key c.requires c.in-Some.class c.in_ok-first.first c.header_told-code.result.0 c.header_told-code.result.1 c.in_ok-charge.charge
-    c.in-Some.ensures.some c.in-Some.ensures.level first c.header_told-code.ensures.first c.header_told-code.ensures.second charge
+    form_told m c.args.ground.now.table c.args.key c.requires c.class_of_object-class.result c.in_ok-first.first c.header_told-code.result.0 c.header_told-code.result.1 c.in_ok-charge.charge
+    c.class_of_object-class.ensures.found c.class_of_object-class.ensures.level first c.header_told-code.ensures.first c.header_told-code.ensures.second charge
