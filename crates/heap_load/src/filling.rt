@@ -270,6 +270,7 @@ fn fill_block<M: Memory, L: Ledger>(
 }
 
 // Stores a word at an address.
+#[inline(always)]
 fn store<M: Memory, L: Ledger>(
     ground: &mut Ground<M>,
     at: u32,
