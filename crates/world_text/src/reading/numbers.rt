@@ -1,5 +1,6 @@
 //! Numbers, values, and the names of things: what a word spells.
-ghost use Rattle.std.specs.Prelude.{◌≡◌, ◌<◌, ◌≤◌, ◌-◌, ◌^◌, ℕ, negsuc, true, false, bytes_eq, length, None, IfSome, MatchOption};
+ghost use Rattle.std.specs.Prelude.{◌≡◌, ◌<◌, ◌≤◌, ◌-◌, ◌^◌, ℕ, negsuc, true, false, bytes_eq, length, take, None, IfSome, MatchOption};
+ghost use Rattle.std.specs.Int.{to_le_bytes, w32};
 ghost use Rattle.world_text.specs.reading.Numbers.{are_digits, area_of, integer_of, is_number, number_in, number_value, register_of, value_of};
 
 use lisp_graph::{Areas, Value};
@@ -100,7 +101,35 @@ pub fn register_of(registers: u32, word: &[u8]) -> Option<u32>
     }
 }
 
-/// Whether a name is this word. Both are short, so they are compared byte by byte.
+/// The first four bytes of a word as one number, the first byte in its lowest place; None if it has fewer.
+#[inline(always)]
+fn first_four(word: &[u8]) -> Option<u32>
+    ensures value { IfSome result (λ n. to_le_bytes w32 n ≡ take 4 word.now) }
+    ensures at_least { IfSome result (λ _. 4 ≤ length word.now) }
+{
+    let [first, second, third, fourth, ..] = word else {
+        return None;
+    };
+    Some(u32::from_le_bytes([*first, *second, *third, *fourth]))
+}
+
+/// Whether a name is this word. The bytes before `from` are the same.
+#[inline(always)]
+fn is_named_from(name: &[u8], word: &[u8], from: usize) -> bool
+    requires done { take from name.now ≡ take from word.now }
+    requires size { length name.now ≡ length word.now }
+    requires in_range { from ≤ length name.now }
+    ensures { result ≡ bytes_eq name.now word.now }
+{
+    for at in from..name.len() {
+        if name[at] != word[at] {
+            return false;
+        }
+    }
+    true
+}
+
+/// Whether a name is this word. Both are short: the first four bytes are compared by one comparison, and the others one by one.
 #[inline(always)]
 pub fn is_named(name: &[u8], word: &[u8]) -> bool
     ensures { result ≡ bytes_eq name.now word.now }
@@ -108,12 +137,10 @@ pub fn is_named(name: &[u8], word: &[u8]) -> bool
     if name.len() != word.len() {
         return false;
     }
-    for at in 0..name.len() {
-        if name[at] != word[at] {
-            return false;
-        }
-    }
-    true
+    let (Some(front), Some(other)) = (first_four(name), first_four(word)) else {
+        return is_named_from(name, word, 0);
+    };
+    front == other && is_named_from(name, word, 4)
 }
 
 /// The place of the area with this name, or None if no area has it.

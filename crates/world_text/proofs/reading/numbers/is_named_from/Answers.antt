@@ -1,7 +1,7 @@
 use Rattle.std.proofs.Common.{◌≡◌, take, bytes_eq, sym, ap, ◌∙◌, arith}
 use Rattle.std.proofs.lemmas.Grind.{common_steps}
 use Rattle.world_text.proofs.reading_laws.ValueLaws.{eq_bytes}
-use Rattle.world_text.proofs.reading.numbers.is_named.Goals as goal
+use Rattle.world_text.proofs.reading.numbers.is_named_from.Goals as goal
 
 pub returns : goal.returns
 returns c =
