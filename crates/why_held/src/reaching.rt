@@ -70,7 +70,8 @@ fn count_objects<W: Walk>(
 }
 
 /// Counts the objects that the registers of a walk reach; the world has these areas. Each object is looked at once, and so is each of its
-/// fields. It fails if memory runs out, if more than 2^32 - 1 objects are reached, or if a page call of the swap device fails.
+/// fields. It fails if memory runs out, which it also reports if more than 2^32 - 1 objects are reached or if a key is 2^32 or more, or
+/// if a page call of the swap device fails.
 pub fn reached<W: Walk>(
     alloc: Global,
     walk: &mut W,

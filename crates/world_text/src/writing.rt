@@ -7,6 +7,7 @@ mod file;
 mod file_lines;
 mod groups;
 mod kept_cons;
+mod kept_queue;
 mod number_table;
 mod numbering;
 mod object_writer;
@@ -14,7 +15,6 @@ mod text;
 mod visit;
 
 pub use dump::dump_text;
-pub use dumped::numbering_of;
 pub use file_lines::{push_areas, push_capacity, push_space};
 pub use numbering::{KeyNumbers, Numbering};
 pub use text::{kind_text, name_of, push_number, push_spaced, push_value};

@@ -15,13 +15,6 @@ shown_kind : (graph : KeyedGraph) (cons : Bool) (key : ℕ) → Shows graph (see
 shown_kind graph true key shows = shows.3
 shown_kind graph false key shows = shows.1
 
--- the object with a number is shown
-pub shown_at : (graph : KeyedGraph) (numbering : Numbering) (number key : ℕ) → IsKnown graph numbering → slice_get numbering.keys number ≡ Some key → Shows graph (seen_as (graph.cons key) key)
-shown_at graph numbering number key known is =
-    let e = get_or_from_slice_get numbering.keys number key 0 is in
-    let P : ℕ → Type 0 = λ k. Shows graph (seen_as (graph.cons k) k) in
-    subst P e (All-get_or P numbering.keys number 0 (slice_get_within numbering.keys number key is) known.all)
-
 -- The cons to which a value refers, if it has no number
 
 pub next_shows : (graph : KeyedGraph) (keys : List ℕ) (value : Seen) (next : ℕ) → next_cons keys value ≡ Some next → Shows graph value → Shows graph (Cons next)

@@ -1,9 +1,9 @@
 -- What is kept of a walk.
-use Rattle.std.proofs.Common.{◌≡◌, ℕ, zero, suc, ◌+◌, ◌<◌, ◌≤◌, ◌^◌, List, [], ◌∷◌, ◌++◌, length, take, get_or, Bool, true, false, map, Some, refl, ap, sym, ◌∙◌, subst, inl, inr, arith}
+use Rattle.std.proofs.Common.{◌≡◌, ℕ, zero, suc, ◌+◌, ◌<◌, ◌≤◌, ◌^◌, List, [], ◌∷◌, ◌++◌, drop, length, take, get_or, Bool, true, false, map, Some, refl, ap, sym, ◌∙◌, subst, inl, inr, arith}
 use Rattle.std.specs.Prelude.{slice_get, if◌then◌else◌}
 use Rattle.std.specs.List.{All}
-use Rattle.std.proofs.lemmas.List.{map-append, length-map, take-append-le, take_all, take_more}
-use Rattle.std.proofs.lemmas.List.Elements.{All-nil, All-push, All-get_or}
+use Rattle.std.proofs.lemmas.List.{drop-append-le, drop-drop, get_or-drop, length-append, length-drop, length-map, map-append, take-append-le, take_all, take_more}
+use Rattle.std.proofs.lemmas.List.Elements.{All-nil, All-push, All-get_or, All-tail}
 use Rattle.std.proofs.lemmas.Option.{get_or_from_slice_get, slice_get_within}
 use Rattle.lisp_graph.specs.Graph.{value_at}
 use Rattle.lisp_graph.specs.KeyedGraph.{KeyedGraph, Shows, cons_at}
@@ -22,7 +22,7 @@ use Rattle.lisp_graph.specs.declared.world.AreaRule.{AreaRule}
 use Rattle.world_text.specs.declared.writing.numbering.Numbering.{Numbering}
 use Rattle.world_text.specs.writing.File.{file_text}
 use Rattle.world_text.specs.writing.Dump.{IsDump, dumped_body, dumped_object, dumped_value, reference}
-use Rattle.world_text.specs.writing.Numbering.{AllVisited, Chained, Visited, Walked, done, fields_from, fields_of, is_numbered, more, none, seen_as, step}
+use Rattle.world_text.specs.writing.Numbering.{AllVisited, Chained, Visited, Walked, done, fields_from, fields_of, IsKnown, is_numbered, more, none, seen_as, step}
 use Rattle.world_text.specs.writing.Visits.{AreDumped, AreVisited, AreVisits, Grows, IsDumped, IsVisit, IsWalk, ShowsParts, kept_of}
 use Rattle.world_text.specs.writing.Kept.{no_cons}
 use Rattle.world_text.proofs.reading_laws.AreaLaws.{get_front}
@@ -35,13 +35,17 @@ use Rattle.world_text.proofs.writing_laws.Numbers.{all_grow, grows_none, grows_t
 
 -- one more object, with what is kept of it
 pub visits_more : (graph : KeyedGraph) (old new : VisitedObjects) (key : ℕ) (cons : Bool) (kept : SeenCons) → AreVisits graph old → Shows graph (seen_as cons key) → ShowsParts graph kept → kept ≡ kept_of graph key
-    → new.numbering.keys ≡ old.numbering.keys ++ key ∷ [] → new.numbering.conses ≡ old.numbering.conses ++ cons ∷ [] → new.conses ≡ old.conses ++ kept ∷ [] → AreVisits graph new
-visits_more graph old new key cons kept visits shows shown is keys kinds conses = record {
-  known = known_more graph old.numbering new.numbering key cons visits.known shows keys kinds;
-  conses = conses ∙ ap (λ (l : List SeenCons). l ++ kept ∷ []) visits.conses ∙ ap (λ (x : SeenCons). map (kept_of graph) old.numbering.keys ++ x ∷ []) is
-      ∙ sym (map-append (kept_of graph) old.numbering.keys (key ∷ [])) ∙ ap (map (kept_of graph)) (sym keys);
-  shown = subst (All (ShowsParts graph)) (sym conses) (All-push (ShowsParts graph) old.conses kept visits.shown shown);
-}
+    → new.numbering.keys ≡ old.numbering.keys ++ key ∷ [] → new.numbering.conses ≡ old.numbering.conses ++ cons ∷ [] → new.waiting ≡ old.waiting ++ kept ∷ [] → new.taken ≡ old.taken → AreVisits graph new
+visits_more graph old new key cons kept visits shows shown is keys kinds waiting same =
+    let had = map (kept_of graph) old.numbering.keys in
+    let long : old.taken ≤ length had = omega (arith, visits.within, length-map old.numbering.keys (kept_of graph)) in record {
+      known = known_more graph old.numbering new.numbering key cons visits.known shows keys kinds;
+      within = omega (arith, ap length keys, length-append old.numbering.keys (key ∷ []), visits.within, same);
+      waiting = waiting ∙ ap (λ (l : List SeenCons). l ++ kept ∷ []) visits.waiting ∙ sym (drop-append-le old.taken had (kept ∷ []) long) ∙ ap (λ (x : SeenCons). drop old.taken (had ++ x ∷ [])) is
+          ∙ ap (drop old.taken) (sym (map-append (kept_of graph) old.numbering.keys (key ∷ []))) ∙ ap (λ (l : List ℕ). drop old.taken (map (kept_of graph) l)) (sym keys)
+          ∙ ap (λ (n : ℕ). drop n (map (kept_of graph) new.numbering.keys)) (sym same);
+      shown = subst (All (ShowsParts graph)) (sym waiting) (All-push (ShowsParts graph) old.waiting kept visits.shown shown);
+    }
 
 -- a cons is kept as it is shown, and of a block nothing
 pub kept_of_cons : (graph : KeyedGraph) (key : ℕ) → graph.cons key ≡ true → kept_of graph key ≡ cons_at graph key
@@ -52,34 +56,46 @@ kept_of_block graph key block = ap (λ (b : Bool). if b then cons_at graph key e
 
 -- one more cons
 pub cons_more : (now graph : KeyedGraph) (old new : VisitedObjects) (key : ℕ) (cons : SeenCons) → now ≡ graph → AreVisits graph old → Shows graph (Cons key) → cons ≡ cons_at now key
-    → Shows now cons.car → Shows now cons.cdr → new.numbering.keys ≡ old.numbering.keys ++ key ∷ [] → new.numbering.conses ≡ old.numbering.conses ++ true ∷ [] → new.conses ≡ old.conses ++ cons ∷ [] → AreVisits graph new
-cons_more now graph old new key cons same visits shows is car cdr keys kinds conses =
-    let parts : ShowsParts graph cons = subst (λ (g : KeyedGraph). ShowsParts g cons) same (car, cdr) in
-    let kept : cons ≡ kept_of graph key = is ∙ ap (λ (g : KeyedGraph). cons_at g key) same ∙ sym (kept_of_cons graph key shows.3) in
-    visits_more graph old new key true cons visits shows parts kept keys kinds conses
+    → Shows now cons.car → Shows now cons.cdr → new.numbering.keys ≡ old.numbering.keys ++ key ∷ [] → new.numbering.conses ≡ old.numbering.conses ++ true ∷ [] → new.waiting ≡ old.waiting ++ cons ∷ []
+    → new.taken ≡ old.taken → AreVisits graph new
+cons_more now graph old new key cons one visits shows is car cdr keys kinds waiting same =
+    let parts : ShowsParts graph cons = subst (λ (g : KeyedGraph). ShowsParts g cons) one (car, cdr) in
+    let kept : cons ≡ kept_of graph key = is ∙ ap (λ (g : KeyedGraph). cons_at g key) one ∙ sym (kept_of_cons graph key shows.3) in
+    visits_more graph old new key true cons visits shows parts kept keys kinds waiting same
 
--- what is kept of the cons with this number
-pub cons_kept : (graph : KeyedGraph) (visits : VisitedObjects) (number key : ℕ) (conses : List SeenCons) (default : SeenCons) → AreVisits graph visits → slice_get visits.numbering.keys number ≡ Some key
-    → graph.cons key ≡ true → conses ≡ visits.conses → get_or conses number default ≡ cons_at graph key
-cons_kept graph visits number key conses default are at cons is =
-    get_or_from_slice_get conses number (cons_at graph key) default
-    (ap (λ (l : List SeenCons). slice_get l number) (is ∙ are.conses) ∙ mapped (kept_of graph) visits.numbering.keys number key at ∙ ap Some (kept_of_cons graph key cons))
-  where
-    mapped : {X Y : Type 0} (f : X → Y) (items : List X) (number : ℕ) (item : X) → slice_get items number ≡ Some item → slice_get (map f items) number ≡ Some (f item)
-    mapped f [] number item is = absurd (cc (is))
-    mapped f (x ∷ items) zero item is = let e : x ≡ item = cc (is) in ap (λ o. Some (f o)) e
-    mapped f (x ∷ items) (suc number) item is = mapped f items number item is
+-- An object is taken
 
-pub kept_within : (graph : KeyedGraph) (visits : VisitedObjects) (number key : ℕ) → AreVisits graph visits → slice_get visits.numbering.keys number ≡ Some key → number < length visits.conses
-kept_within graph visits number key are at =
-    omega (arith, ap length are.conses, length-map visits.numbering.keys (kept_of graph), slice_get_within visits.numbering.keys number key at)
+map_at : {X Y : Type 0} (f : X → Y) (items : List X) (number : ℕ) (item : X) → slice_get items number ≡ Some item → slice_get (map f items) number ≡ Some (f item)
+map_at f [] number item is = absurd (cc (is))
+map_at f (x ∷ items) zero item is = let e : x ≡ item = cc (is) in ap (λ o. Some (f o)) e
+map_at f (x ∷ items) (suc number) item is = map_at f items number item is
 
-pub parts_shown : (graph : KeyedGraph) (visits : VisitedObjects) (number key : ℕ) (conses : List SeenCons) (default : SeenCons) → AreVisits graph visits → slice_get visits.numbering.keys number ≡ Some key
-    → conses ≡ visits.conses → ShowsParts graph (get_or conses number default)
-parts_shown graph visits number key conses default are at is =
-    let within : number < length conses =
-    omega (arith, ap length (is ∙ are.conses), length-map visits.numbering.keys (kept_of graph), slice_get_within visits.numbering.keys number key at) in
-    All-get_or (ShowsParts graph) conses number default within (subst (All (ShowsParts graph)) (sym is) are.shown)
+-- whether it is a cons
+pub kind_at : (graph : KeyedGraph) (numbering : Numbering) (number key : ℕ) (default : Bool) → IsKnown graph numbering → slice_get numbering.keys number ≡ Some key → get_or numbering.conses number default ≡ graph.cons key
+kind_at graph numbering number key default known at =
+    ap (λ (l : List Bool). get_or l number default) known.conses ∙ get_or_from_slice_get (map graph.cons numbering.keys) number (graph.cons key) default (map_at graph.cons numbering.keys number key at)
+
+-- what is kept of it
+pub first_kept : (graph : KeyedGraph) (visits : VisitedObjects) (number key : ℕ) (first : SeenCons) (rest : List SeenCons) → AreVisits graph visits → visits.taken ≡ number
+    → slice_get visits.numbering.keys number ≡ Some key → visits.waiting ≡ first ∷ rest → first ≡ kept_of graph key
+first_kept graph visits number key first rest are turn at is =
+    let kept = map (kept_of graph) visits.numbering.keys in
+    let place : visits.taken + 0 ≡ number = omega (arith, turn) in
+    let front : List SeenCons → SeenCons = λ (l : List SeenCons). get_or l 0 no_cons in
+    ap front (sym is) ∙ ap front are.waiting ∙ get_or-drop visits.taken kept 0 no_cons ∙ ap (λ (n : ℕ). get_or kept n no_cons) place
+    ∙ get_or_from_slice_get kept number (kept_of graph key) no_cons (map_at (kept_of graph) visits.numbering.keys number key at)
+
+-- those after it wait
+pub first_taken : (graph : KeyedGraph) (old new : VisitedObjects) (first : SeenCons) → AreVisits graph old → old.waiting ≡ first ∷ new.waiting → new.taken ≡ old.taken + 1 → new.numbering ≡ old.numbering → AreVisits graph new
+first_taken graph old new first are is turn same =
+    let kept = map (kept_of graph) old.numbering.keys in
+    let keys : Numbering → ℕ = λ (n : Numbering). length n.keys in record {
+      known = subst (IsKnown graph) (sym same) are.known;
+      within = omega (arith, ap length is, ap length are.waiting, length-drop old.taken kept, length-map old.numbering.keys (kept_of graph), turn, ap keys same);
+      waiting = ap (drop 1) (sym is) ∙ ap (drop 1) are.waiting ∙ drop-drop 1 old.taken kept ∙ ap (λ (n : ℕ). drop n kept) (sym turn)
+          ∙ ap (λ (n : Numbering). drop new.taken (map (kept_of graph) n.keys)) (sym same);
+      shown = All-tail (ShowsParts graph) first new.waiting (subst (All (ShowsParts graph)) is are.shown);
+    }
 
 -- A value is visited
 
@@ -87,14 +103,16 @@ pub cons_before : (graph : KeyedGraph) (visits : VisitedObjects) (key number : �
 cons_before graph visits key number are is = record {
   visited = inl (numbered_some visits.numbering.keys key number is, refl);
   visits = are;
+  same = refl;
   is = λ all grows. sym (ap reference (number_stays key number grows is));
 }
 
 pub cons_now : (graph : KeyedGraph) (old new : VisitedObjects) (key : ℕ) → is_numbered old.numbering.keys key ≡ false → Chained graph old.numbering.keys key new.numbering.keys → AreVisits graph new
-    → IsVisit graph (Cons key) old new (Ref (length old.numbering.keys))
-cons_now graph old new key fresh chained are = record {
+    → new.taken ≡ old.taken → IsVisit graph (Cons key) old new (Ref (length old.numbering.keys))
+cons_now graph old new key fresh chained are same = record {
   visited = inr (fresh, chained);
   visits = are;
+  same = same;
   is = λ all grows. sym (ap reference (number_chained old.numbering.keys key chained grows fresh));
 }
 
@@ -102,15 +120,17 @@ pub block_before : (graph : KeyedGraph) (visits : VisitedObjects) (key number : 
 block_before graph visits key number are is = record {
   visited = inl (numbered_some visits.numbering.keys key number is, refl);
   visits = are;
+  same = refl;
   is = λ all grows. sym (ap reference (number_stays key number grows is));
 }
 
 pub block_now : (graph : KeyedGraph) (old new : VisitedObjects) (key : ℕ) → is_numbered old.numbering.keys key ≡ false → AreVisits graph old → Shows graph (Block key)
-    → new.numbering.keys ≡ old.numbering.keys ++ key ∷ [] → new.numbering.conses ≡ old.numbering.conses ++ false ∷ [] → new.conses ≡ old.conses ++ no_cons ∷ []
-    → IsVisit graph (Block key) old new (Ref (length old.numbering.keys))
-block_now graph old new key fresh are shows keys kinds conses = record {
+    → new.numbering.keys ≡ old.numbering.keys ++ key ∷ [] → new.numbering.conses ≡ old.numbering.conses ++ false ∷ [] → new.waiting ≡ old.waiting ++ no_cons ∷ []
+    → new.taken ≡ old.taken → IsVisit graph (Block key) old new (Ref (length old.numbering.keys))
+block_now graph old new key fresh are shows keys kinds waiting same = record {
   visited = inr (fresh, keys);
-  visits = visits_more graph old new key false no_cons are shows (tt, tt) (sym (kept_of_block graph key shows.1)) keys kinds conses;
+  visits = visits_more graph old new key false no_cons are shows (tt, tt) (sym (kept_of_block graph key shows.1)) keys kinds waiting same;
+  same = same;
   is = λ all grows. sym (ap reference (number_next old.numbering.keys key (subst (λ (l : List ℕ). Grows l all) keys grows) fresh));
 }
 
@@ -127,6 +147,7 @@ pub visited_none : (graph : KeyedGraph) (visits : VisitedObjects) → AreVisits 
 visited_none graph visits are = record {
   visited = none visits.numbering.keys;
   visits = are;
+  same = refl;
   shown = All-nil (Shows graph);
   is = λ all grows. refl;
 }
@@ -136,6 +157,7 @@ pub visited_more : (graph : KeyedGraph) (seen : List Seen) (old middle new : Vis
 visited_more graph seen old middle new values one value before now shows = record {
   visited = visited_last new.numbering.keys one before.visited now.visited;
   visits = now.visits;
+  same = now.same ∙ before.same;
   shown = All-push (Shows graph) seen one before.shown shows;
   is = λ all grows.
       ap (λ (l : List Value). l ++ value ∷ []) (before.is all (grows_twice (visit_grows graph middle.numbering.keys new.numbering.keys one now.visited) grows))

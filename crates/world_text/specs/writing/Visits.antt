@@ -1,5 +1,5 @@
 -- What a dump keeps of a walk while it numbers objects, so that each cons is read once.
-use Rattle.std.specs.Prelude.{◌≡◌, ℕ, List, ◌++◌, if◌then◌else◌, map}
+use Rattle.std.specs.Prelude.{◌≡◌, ℕ, ◌≤◌, List, ◌++◌, if◌then◌else◌, drop, length, map}
 use Rattle.std.specs.List.{All}
 use Rattle.lisp_graph.specs.KeyedGraph.{KeyedGraph, Shows, cons_at}
 use Rattle.lisp_graph.specs.declared.object.Value.{Value}
@@ -22,21 +22,23 @@ kept_of graph key = if graph.cons key then cons_at graph key else no_cons
 abbrev pub ShowsParts : KeyedGraph → SeenCons → Type 0
 ShowsParts graph cons = Shows graph cons.car × Shows graph cons.cdr
 
--- the objects that have numbers are known, and so is what each cons among them contains
+-- the objects that have numbers are known, and so is what each cons among those that wait contains
 pub record AreVisits (graph : KeyedGraph) (visits : VisitedObjects) : Type 0 where
   pub known : IsKnown graph visits.numbering
-  pub conses : visits.conses ≡ map (kept_of graph) visits.numbering.keys
-  pub shown : All (ShowsParts graph) visits.conses
+  pub within : visits.taken ≤ length visits.numbering.keys
+  pub waiting : visits.waiting ≡ drop visits.taken (map (kept_of graph) visits.numbering.keys)
+  pub shown : All (ShowsParts graph) visits.waiting
 
 -- more keys get numbers, and those before keep theirs
 pub record Grows (keys all : List ℕ) : Type 0 where
   pub later : List ℕ
   pub is : all ≡ keys ++ later
 
--- a value is visited: it has its number, and keeps it when others get one
+-- a value is visited: it has its number, and keeps it when others get one; no object is taken
 pub record IsVisit (graph : KeyedGraph) (seen : Seen) (old new : VisitedObjects) (value : Value) : Type 0 where
   pub visited : Visited graph old.numbering.keys seen new.numbering.keys
   pub visits : AreVisits graph new
+  pub same : new.taken ≡ old.taken
   pub is : (all : List ℕ) → Grows new.numbering.keys all → value ≡ dumped_value all seen
 
 -- values are visited, one after another
@@ -44,6 +46,7 @@ pub record AreVisited (graph : KeyedGraph) (seen : List Seen) (old new : Visited
   pub visited : AllVisited graph old.numbering.keys seen new.numbering.keys
   pub visits : AreVisits graph new
   pub shown : All (Shows graph) seen
+  pub same : new.taken ≡ old.taken
   pub is : (all : List ℕ) → Grows new.numbering.keys all → values ≡ map (dumped_value all) seen
 
 -- an object is visited
@@ -59,10 +62,6 @@ pub record AreDumped (graph : KeyedGraph) (old new : VisitedObjects) (objects : 
   pub visits : AreVisits graph new
   pub shown : All (λ key. All (Shows graph) (fields_of graph key)) new.numbering.keys
   pub is : objects ≡ map (dumped_object graph new.numbering.keys) new.numbering.keys
-
--- the same, whatever objects they are
-abbrev pub AreAllDumped : KeyedGraph → VisitedObjects → VisitedObjects → Type 0
-AreAllDumped graph old new = (objects : List Object) × AreDumped graph old new objects
 
 -- the objects that have numbers are visited, until all that are reached have one, and their lines are written after this text
 pub record WritesObjects (graph : KeyedGraph) (areas : List AreaRule) (old new : VisitedObjects) (before after : List ℕ) : Type 0 where

@@ -1,14 +1,15 @@
 //! The walk of a dump: it visits the registers, and then the objects in the order of their numbers.
-ghost use Rattle.std.specs.Prelude.{◌≡◌, ◌<◌, ◌^◌, [], Some, true, false, length, slice_get, IfOk, OnOk};
-ghost use Rattle.world_text.specs.writing.Numbering.{IsKnown, IsNumbering, fields_of};
+ghost use Rattle.std.specs.Prelude.{◌≡◌, ◌+◌, ◌<◌, ◌^◌, [], Some, true, false, length, slice_get, IfOk, OnOk};
+ghost use Rattle.lisp_graph.specs.KeyedGraph.{Shows, cons_at};
+ghost use Rattle.lisp_graph.specs.declared.walk.Seen.TheVariants.{Cons as a_cons};
+ghost use Rattle.world_text.specs.writing.Numbering.{fields_of};
 ghost use Rattle.world_text.specs.writing.Dump.{HasSwapCause};
-ghost use Rattle.world_text.specs.writing.Visits.{AreAllDumped, AreVisited, AreVisits, IsDumped, WritesObjects};
+ghost use Rattle.world_text.specs.writing.Visits.{AreVisited, AreVisits, IsDumped, ShowsParts, WritesObjects};
 
 use crate::DumpFault;
-use crate::writing::numbering::Numbering;
 use crate::writing::object_writer::ObjectWriter;
 use crate::writing::visit::{VisitedObjects, visit};
-use lisp_graph::{AreaRule, Body, Fields, Object, Walk};
+use lisp_graph::{AreaRule, Body, Fields, Object, SeenCons, Walk};
 use std::alloc::Global;
 
 /// Visits the fields of an object with this many.
@@ -37,21 +38,23 @@ fn dumped_fields<W: Walk>(
     Ok(fields)
 }
 
-/// Visits the car and the cdr of the cons with this number. The walk showed them when the cons got its number.
+/// Visits the car and the cdr of this cons, which the walk showed when the cons got its number.
+#[inline(always)]
 fn dumped_cons<W: Walk>(
     walk: &mut W,
     visits: &mut VisitedObjects,
-    number: usize,
     key: u64,
+    cons: SeenCons,
 ) -> Result<Object, DumpFault>
-    requires listed { slice_get visits.old.numbering.keys number ≡ Some key }
-    requires pair { (W.graph walk.old).cons key ≡ true }
+    requires pair { Shows (W.graph walk.old) (a_cons key) }
+    requires agrees { cons ≡ cons_at (W.graph walk.old) key }
+    requires shows { ShowsParts (W.graph walk.old) cons }
     requires visits { AreVisits (W.graph walk.old) visits.old }
     ensures value { IfOk result (λ object. IsDumped (W.graph walk.old) key visits.old visits.new object) }
+    ensures done { IfOk result (λ _. visits.new.taken ≡ visits.old.taken) }
     ensures unchanged { W.graph walk.new ≡ W.graph walk.old }
     ensures cause { HasSwapCause (W.faults walk.old) (W.faults walk.new) result }
 {
-    let cons = visits.kept(number);
     let car = visit(walk, visits, cons.car)?;
     let cdr = visit(walk, visits, cons.cdr)?;
     Ok(Object {
@@ -72,6 +75,7 @@ fn dumped_block<W: Walk>(
     requires pair { (W.graph walk.old).cons key ≡ false }
     requires visits { AreVisits (W.graph walk.old) visits.old }
     ensures value { IfOk result (λ object. IsDumped (W.graph walk.old) key visits.old visits.new object) }
+    ensures done { IfOk result (λ _. visits.new.taken ≡ visits.old.taken) }
     ensures unchanged { W.graph walk.new ≡ W.graph walk.old }
     ensures cause { HasSwapCause (W.faults walk.old) (W.faults walk.new) result }
 {
@@ -87,7 +91,7 @@ fn dumped_block<W: Walk>(
     })
 }
 
-/// Visits the object with this number.
+/// Visits the first object that waits, which has this number.
 fn dumped_object<W: Walk>(
     alloc: Global,
     walk: &mut W,
@@ -96,13 +100,18 @@ fn dumped_object<W: Walk>(
     key: u64,
 ) -> Result<Object, DumpFault>
     requires listed { slice_get visits.old.numbering.keys number ≡ Some key }
+    requires agrees { visits.old.taken ≡ number }
+    requires at_most { number < 2 ^ 32 }
     requires visits { AreVisits (W.graph walk.old) visits.old }
     ensures value { IfOk result (λ object. IsDumped (W.graph walk.old) key visits.old visits.new object) }
+    ensures done { IfOk result (λ _. visits.new.taken ≡ number + 1) }
     ensures unchanged { W.graph walk.new ≡ W.graph walk.old }
     ensures cause { HasSwapCause (W.faults walk.old) (W.faults walk.new) result }
 {
-    if visits.numbering.conses.as_slice()[number] {
-        dumped_cons(walk, visits, number, key)
+    let is_cons = visits.numbering.conses.as_slice()[number];
+    let cons = visits.take_first();
+    if is_cons {
+        dumped_cons(walk, visits, key, cons)
     } else {
         dumped_block(alloc, walk, visits, key)
     }
@@ -118,6 +127,7 @@ pub fn write_objects<W: Walk>(
     writer: &mut ObjectWriter,
 ) -> Result<(), DumpFault>
     requires visits { AreVisits (W.graph walk.old) visits.old }
+    requires done { visits.old.taken ≡ 0 }
     requires fresh { writer.old.first ≡ 0 }
     requires empty { writer.old.cars.items ≡ [] }
     ensures value { OnOk result (WritesObjects (W.graph walk.old) areas.now visits.old visits.new writer.old.text writer.new.text) }
@@ -132,25 +142,6 @@ pub fn write_objects<W: Walk>(
         number += 1;
     }
     writer.write_all(areas)?;
-    Ok(())
-}
-
-/// Visits the objects that have numbers, in the order of these, until none remains, and keeps nothing that they contain.
-fn visited_objects<W: Walk>(
-    alloc: Global,
-    walk: &mut W,
-    visits: &mut VisitedObjects,
-) -> Result<(), DumpFault>
-    requires { AreVisits (W.graph walk.old) visits.old }
-    ensures value { OnOk result (AreAllDumped (W.graph walk.old) visits.old visits.new) }
-    ensures unchanged { W.graph walk.new ≡ W.graph walk.old }
-    ensures cause { HasSwapCause (W.faults walk.old) (W.faults walk.new) result }
-{
-    let mut number = 0;
-    while let Some(key) = visits.numbering.keys.key(number) {
-        dumped_object(alloc, walk, visits, number, key)?;
-        number += 1;
-    }
     Ok(())
 }
 
@@ -176,18 +167,4 @@ pub fn dumped_registers<W: Walk>(
         register += 1;
     }
     Ok(registers)
-}
-
-/// The objects that the registers reach, in the order of their numbers. It fails if memory runs out, which it also reports if
-/// 2^32 objects or more are reached or if a key is 2^32 or more, or if a page call of the swap device fails.
-pub fn numbering_of<W: Walk>(alloc: Global, walk: &mut W) -> Result<Numbering, DumpFault>
-    ensures value { IfOk result (λ numbering. IsNumbering (W.graph walk.old) numbering.keys) }
-    ensures known { IfOk result (λ numbering. IsKnown (W.graph walk.old) numbering) }
-    ensures unchanged { W.graph walk.new ≡ W.graph walk.old }
-    ensures cause { HasSwapCause (W.faults walk.old) (W.faults walk.new) result }
-{
-    let mut visits = VisitedObjects::new(alloc);
-    dumped_registers(alloc, walk, &mut visits)?;
-    visited_objects(alloc, walk, &mut visits)?;
-    Ok(visits.numbering)
 }

@@ -1,36 +1,35 @@
-//! A cons as a dump keeps it until its turn. It takes 24 bytes, since the keys in it are kept in 32 bits.
+//! A cons as a dump keeps it until its parts are visited. It takes 16 bytes, since the keys in it are kept in 32 bits.
 ghost use Rattle.std.specs.Prelude.{◌≡◌, IfOk};
-ghost use Rattle.world_text.specs.writing.Kept.{no_cons, seen_of};
+ghost use Rattle.world_text.specs.writing.Kept.{cons_of, no_cons, seen_of};
 
 use lisp_graph::{Seen, SeenCons};
-use std::marker::Model;
 use store_word::NoMemory;
 
-/// A value whose key is below 2^32.
+/// Which value is kept.
 #[derive(Clone, Copy)]
-pub enum KeptValue {
-    Fix(i32),
+pub enum Kind {
+    Fix,
     Nil,
-    Cons(u32),
-    Block(u32),
+    Cons,
+    Block,
 }
 
-/// Contracts see a cons that is kept as the walk showed it.
-#[derive(Drop)]
+/// A value whose key is below 2^32: its number or its key, as 32 bits.
+#[derive(Clone, Copy)]
+pub struct KeptValue {
+    bits: u32,
+    kind: Kind,
+}
+
+/// A cons as the walk showed it.
+#[derive(Clone, Copy)]
 pub struct KeptCons {
-    area: u8,
     charge: u32,
-    car: KeptValue,
-    cdr: KeptValue,
-}
-
-impl Model for KeptCons {
-    ghost use Rattle.lisp_graph.specs.declared.walk.SeenCons.{SeenCons};
-    ghost use Rattle.world_text.specs.writing.Kept.{seen_of};
-
-    ghost Value = { SeenCons };
-
-    ghost view = { λ k. record { area = k.area; charge = k.charge; car = seen_of k.car; cdr = seen_of k.cdr } };
+    car: u32,
+    cdr: u32,
+    area: u8,
+    car_kind: Kind,
+    cdr_kind: Kind,
 }
 
 /// The key in 32 bits. A greater one is refused as if memory had run out: no table has room for its number.
@@ -44,69 +43,87 @@ fn kept_key(key: u64) -> Result<u32, NoMemory>
 }
 
 fn kept_value(seen: Seen) -> Result<KeptValue, NoMemory>
-    ensures { IfOk result (λ kept. seen_of kept ≡ seen) }
+    ensures { IfOk result (λ kept. seen_of kept.kind kept.bits ≡ seen) }
 {
     match seen {
-        Seen::Fix(number) => Ok(KeptValue::Fix(number)),
-        Seen::Nil => Ok(KeptValue::Nil),
+        Seen::Fix(number) => Ok(KeptValue {
+            bits: number.cast_unsigned(),
+            kind: Kind::Fix,
+        }),
+        Seen::Nil => Ok(KeptValue {
+            bits: 0,
+            kind: Kind::Nil,
+        }),
         Seen::Cons(key) => {
-            let key = kept_key(key)?;
-            Ok(KeptValue::Cons(key))
+            let bits = kept_key(key)?;
+            Ok(KeptValue {
+                bits,
+                kind: Kind::Cons,
+            })
         }
         Seen::Block(key) => {
-            let key = kept_key(key)?;
-            Ok(KeptValue::Block(key))
+            let bits = kept_key(key)?;
+            Ok(KeptValue {
+                bits,
+                kind: Kind::Block,
+            })
         }
     }
 }
 
-fn seen_value(kept: KeptValue) -> Seen
-    ensures { result ≡ seen_of kept }
+#[inline(always)]
+fn seen_value(kind: Kind, bits: u32) -> Seen
+    ensures { result ≡ seen_of kind bits }
 {
-    match kept {
-        KeptValue::Fix(number) => Seen::Fix(number),
-        KeptValue::Nil => Seen::Nil,
-        KeptValue::Cons(key) => Seen::Cons(u64::from(key)),
-        KeptValue::Block(key) => Seen::Block(u64::from(key)),
+    match kind {
+        Kind::Fix => Seen::Fix(bits.cast_signed()),
+        Kind::Nil => Seen::Nil,
+        Kind::Cons => Seen::Cons(u64::from(bits)),
+        Kind::Block => Seen::Block(u64::from(bits)),
     }
 }
 
 impl KeptCons {
     /// Keeps a cons. It is refused if one of its keys is 2^32 or more.
     pub fn new(cons: SeenCons) -> Result<KeptCons, NoMemory>
-        ensures { IfOk result (λ kept. kept ≡ cons) }
+        ensures { IfOk result (λ kept. cons_of kept ≡ cons) }
     {
         let car = kept_value(cons.car)?;
         let cdr = kept_value(cons.cdr)?;
         Ok(KeptCons {
-            area: cons.area,
             charge: cons.charge,
-            car,
-            cdr,
+            car: car.bits,
+            cdr: cdr.bits,
+            area: cons.area,
+            car_kind: car.kind,
+            cdr_kind: cdr.kind,
         })
     }
 
     /// What is kept in the place of a block.
     pub fn none() -> KeptCons
-        ensures { result ≡ no_cons }
+        ensures { cons_of result ≡ no_cons }
     {
         KeptCons {
-            area: 0,
             charge: 0,
-            car: KeptValue::Nil,
-            cdr: KeptValue::Nil,
+            car: 0,
+            cdr: 0,
+            area: 0,
+            car_kind: Kind::Nil,
+            cdr_kind: Kind::Nil,
         }
     }
 
     /// The cons that is kept.
+    #[inline(always)]
     pub fn cons(&self) -> SeenCons
-        ensures { result ≡ self.now }
+        ensures { result ≡ cons_of self.now }
     {
         SeenCons {
             area: self.area,
             charge: self.charge,
-            car: seen_value(self.car),
-            cdr: seen_value(self.cdr),
+            car: seen_value(self.car_kind, self.car),
+            cdr: seen_value(self.cdr_kind, self.cdr),
         }
     }
 }

@@ -8,11 +8,11 @@ use std::alloc::Global;
 use std::marker::Model;
 use store_word::NoMemory;
 
-/// Keys of objects, each with its place as its number. There are fewer than 2^32.
+/// Keys of objects, each with its place as its number. There are fewer than 2^32, and each is below 2^32.
 #[derive(Drop)]
 pub struct KeyNumbers {
     alloc: Global,
-    keys: Vec<u64>,
+    keys: Vec<u32>,
     pages: Vec<Sequence<u32>>,
 }
 
@@ -63,7 +63,7 @@ impl KeyNumbers {
         if number >= self.keys.len() {
             return None;
         }
-        self.keys.get(number).copied()
+        Some(u64::from(self.keys[number]))
     }
 
     /// The number of the object with this key, or None if it has none.
@@ -78,7 +78,8 @@ impl KeyNumbers {
         Some((entry - 1) as usize)
     }
 
-    /// Gives a key the next number. It fails if memory runs out, and for the 2^32th key.
+    /// Gives a key the next number. It fails if memory runs out, for a key of 2^32 or more, and for the 2^32th key.
+    #[inline(always)]
     fn add(&mut self, key: u64) -> Result<(), NoMemory>
         requires { is_numbered self.old key ≡ false }
         ensures ok { OnOk result (self.new ≡ self.old ++ key ∷ []) }
@@ -88,8 +89,11 @@ impl KeyNumbers {
         if number >= u32::MAX as usize {
             return Err(NoMemory);
         }
+        if key > u64::from(u32::MAX) {
+            return Err(NoMemory);
+        }
         make_room(self.alloc, &mut self.pages, key)?;
-        self.keys.push(key)?;
+        self.keys.push(key as u32)?;
         set_entry(&mut self.pages, key, number as u32 + 1);
         Ok(())
     }
@@ -114,7 +118,8 @@ impl Numbering {
         }
     }
 
-    /// Gives a cons or a block the next number. It fails if memory runs out, and for the 2^32th object.
+    /// Gives a cons or a block the next number. It fails if memory runs out, for a key of 2^32 or more, and for the 2^32th object.
+    #[inline(always)]
     pub fn add(&mut self, key: u64, cons: bool) -> Result<(), NoMemory>
         requires { is_numbered self.old.keys key ≡ false }
         ensures after { OnOk result (self.new.keys ≡ self.old.keys ++ key ∷ []) }

@@ -1,45 +1,54 @@
 //! Visiting values, so that the objects to which they refer get numbers.
-ghost use Rattle.std.specs.Prelude.{◌≡◌, ◌<◌, [], true, false, length, slice_index_or, OnOk, IfOk};
+ghost use Rattle.std.specs.Prelude.{◌≡◌, ◌+◌, ◌<◌, ◌^◌, [], ◌∷◌, true, false, length, OnOk, IfOk};
 ghost use Rattle.lisp_graph.specs.KeyedGraph.{KeyedGraph, Shows};
 ghost use Rattle.lisp_graph.specs.declared.object.Value.TheVariants.{Ref as a_ref};
 ghost use Rattle.lisp_graph.specs.declared.walk.Seen.TheVariants.{Block as a_block, Cons as a_cons};
 ghost use Rattle.world_text.specs.writing.Numbering.{Chained, is_numbered, next_cons};
 ghost use Rattle.world_text.specs.writing.Dump.{HasSwapCause};
-ghost use Rattle.world_text.specs.writing.Kept.{no_cons};
 ghost use Rattle.world_text.specs.writing.Visits.{AreVisits, IsVisit};
 
 use crate::DumpFault;
 use crate::writing::kept_cons::KeptCons;
+use crate::writing::kept_queue::KeptQueue;
 use crate::writing::numbering::{KeyNumbers, Numbering};
-use lisp_graph::{Seen, SeenCons, Sequence, Value, Walk};
+use lisp_graph::{Seen, SeenCons, Value, Walk};
 use std::alloc::Global;
 use store_word::NoMemory;
 
-/// The objects that were visited, and each cons among them as the walk showed it; for a block, no cons.
+/// The objects that were visited. The parts of the first `taken` of them were visited too, or are being visited. For each other object
+/// `waiting` has the cons as the walk showed it, and for a block no cons.
 #[derive(Drop)]
 pub struct VisitedObjects {
     pub numbering: Numbering,
-    pub conses: Sequence<KeptCons>,
+    pub taken: usize,
+    pub waiting: KeptQueue,
 }
 
 impl VisitedObjects {
     /// The visits before any object is visited.
     pub fn new(alloc: Global) -> VisitedObjects
         ensures empty { result.numbering.keys ≡ [] }
+        ensures done { result.taken ≡ 0 }
         ensures sound { (graph : KeyedGraph) → AreVisits graph result }
     {
         VisitedObjects {
             numbering: Numbering::new(alloc),
-            conses: Sequence::new(alloc),
+            taken: 0,
+            waiting: KeptQueue::new(alloc),
         }
     }
 
-    /// What is kept of the object with this number.
-    pub fn kept(&self, number: usize) -> SeenCons
-        requires { number < length self.now.conses }
-        ensures { result ≡ slice_index_or self.now.conses number no_cons }
+    /// Takes the first object that waits, and returns what is kept of it.
+    #[inline(always)]
+    pub fn take_first(&mut self) -> SeenCons
+        requires at_least { 0 < length self.old.waiting }
+        requires at_most { self.old.taken < 2 ^ 32 }
+        ensures value { self.old.waiting ≡ result ∷ self.new.waiting }
+        ensures done { self.new.taken ≡ self.old.taken + 1 }
+        ensures unchanged { self.new.numbering ≡ self.old.numbering }
     {
-        self.conses.as_slice()[number].cons()
+        self.taken += 1;
+        self.waiting.take_first()
     }
 }
 
@@ -60,6 +69,7 @@ fn chain<W: Walk>(walk: &mut W, visits: &mut VisitedObjects, key: u64) -> Result
     requires visits { AreVisits (W.graph walk.old) visits.old }
     ensures ok { OnOk result (Chained (W.graph walk.old) visits.old.numbering.keys key visits.new.numbering.keys) }
     ensures sound { OnOk result (AreVisits (W.graph walk.old) visits.new) }
+    ensures done { OnOk result (visits.new.taken ≡ visits.old.taken) }
     ensures unchanged { W.graph walk.new ≡ W.graph walk.old }
     ensures cause { HasSwapCause (W.faults walk.old) (W.faults walk.new) result }
 {
@@ -68,7 +78,7 @@ fn chain<W: Walk>(walk: &mut W, visits: &mut VisitedObjects, key: u64) -> Result
         visits.numbering.add(key, true)?;
         let cons = walk.cons_of(key)?;
         let kept = KeptCons::new(cons)?;
-        visits.conses.push(kept)?;
+        visits.waiting.push(kept)?;
         match next_cons(&visits.numbering.keys, cons.cdr) {
             None => return Ok(()),
             Some(next) => key = next,
@@ -106,7 +116,7 @@ fn block_number(visits: &mut VisitedObjects, key: u64) -> Result<u64, NoMemory>
     }
     let number = visits.numbering.keys.len();
     visits.numbering.add(key, false)?;
-    visits.conses.push(KeptCons::none())?;
+    visits.waiting.push(KeptCons::none())?;
     Ok(number as u64)
 }
 

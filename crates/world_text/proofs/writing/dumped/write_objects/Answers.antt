@@ -9,27 +9,32 @@ loop-key-init g c = (
   refl,
   refl,
   omega arith,
+  c.requires.done,
   ([], first_none (g.W.Walk.graph c.args.walk.now) c.args.visits.now c.requires.visits, written_none c.args.areas.now c.args.writer.now c.requires.fresh c.requires.empty, refl),
 )
 
+pub dumped_object-requires-clause-agrees : goal.dumped_object-requires-clause-agrees
+dumped_object-requires-clause-agrees g c = c.loop-key.invariant.3
+
 pub add-requires : goal.add-requires
 add-requires g c =
-    let before = c.loop-key.invariant.3 in
+    let before = c.loop-key.invariant.4 in
     record { sound = record { waiting = before.2.waiting; few = omega (arith, before.2.next, before.3, c.loop-key.invariant.2) }; at_most = omega (arith, before.2.next, before.3, c.in-Some.ensures.in_range) }
 
 pub write_all-requires : goal.write_all-requires
 write_all-requires g c =
-    let before = c.loop-key.invariant.3 in
+    let before = c.loop-key.invariant.4 in
     record { waiting = before.2.waiting; few = omega (arith, before.2.next, before.3, c.loop-key.invariant.2) }
 
 pub loop-key-preserved : goal.loop-key-preserved
 loop-key-preserved g c =
     let first = c.loop-key.invariant.0 in
-    let before = c.loop-key.invariant.3 in
+    let before = c.loop-key.invariant.4 in
     let objects : List Object = before.0 ++ c.in_ok-object.object ∷ [] in (
       c.dumped_object.ensures.unchanged ∙ first,
       omega (arith, c.in_ok-object.ensures.cause.quiet, c.loop-key.invariant.1),
       omega (arith, c.in-Some.ensures.in_range),
+      c.in_ok-object.ensures.done,
       (
         objects,
         first_next (g.W.Walk.graph c.loop-key.walk) (g.W.Walk.graph c.args.walk.now) c.args.visits.now c.loop-key.visits c.dumped_object.new.visits c.loop-key.number c.in-Some.key before.0 objects c.in_ok-object.object
@@ -42,11 +47,12 @@ loop-key-preserved g c =
 pub loop-key-preserved-in_ok-add : goal.loop-key-preserved-in_ok-add
 loop-key-preserved-in_ok-add g c =
     let first = c.loop-key.invariant.0 in
-    let before = c.loop-key.invariant.3 in
+    let before = c.loop-key.invariant.4 in
     let objects : List Object = before.0 ++ c.in_ok-object.object ∷ [] in (
       c.dumped_object.ensures.unchanged ∙ first,
       omega (arith, c.in_ok-object.ensures.cause.quiet, c.loop-key.invariant.1),
       omega (arith, c.in-Some.ensures.in_range),
+      c.in_ok-object.ensures.done,
       (
         objects,
         first_next (g.W.Walk.graph c.loop-key.walk) (g.W.Walk.graph c.args.walk.now) c.args.visits.now c.loop-key.visits c.dumped_object.new.visits c.loop-key.number c.in-Some.key before.0 objects c.in_ok-object.object
@@ -58,7 +64,7 @@ loop-key-preserved-in_ok-add g c =
 
 pub returns-clause-value : goal.returns-clause-value
 returns-clause-value g c =
-    let before = c.loop-key.invariant.3 in
+    let before = c.loop-key.invariant.4 in
     record {
       objects = before.0;
       dumped = first_whole (g.W.Walk.graph c.args.walk.now) c.args.visits.now c.loop-key.visits c.loop-key.number before.0 c.in_default.ensures.none before.1;

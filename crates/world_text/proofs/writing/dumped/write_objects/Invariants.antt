@@ -9,6 +9,7 @@ invariant-loop-key g l =
     (g.W.Walk.graph l.walk ≡ g.W.Walk.graph l.fn.walk)
     × (g.W.Walk.faults l.walk ≡ g.W.Walk.faults l.fn.walk)
     × (l.number ≤ 2 ^ 32)
+    × (l.visits.taken ≡ l.number)
     × ((objects : List Object) × AreFirst (g.W.Walk.graph l.fn.walk) l.fn.visits l.visits l.number objects × AreWritten l.areas l.fn.writer.text objects l.writer × (length objects ≡ l.number))
 
 abbrev pub decreases-loop-key : goal.decreases-loop-key

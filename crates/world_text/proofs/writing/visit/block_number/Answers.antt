@@ -1,4 +1,4 @@
-use Rattle.std.proofs.Common.{sym, ◌∙◌}
+use Rattle.std.proofs.Common.{refl, sym, ◌∙◌}
 use Rattle.world_text.proofs.writing_laws.Walks.{block_before, block_now}
 use Rattle.world_text.proofs.writing.visit.block_number.Goals as goal
 
@@ -7,5 +7,5 @@ returns-in-Some c = λ graph shows are. block_before graph c.args.visits.now c.a
 
 pub returns : goal.returns
 returns c = λ graph shows are.
-    rw c.len-number.ensures.value (block_now graph c.args.visits.now (record { numbering = c.add.new.self; conses = c.push.new.self }) c.args.key c.in_default.ensures.none are shows
-    c.in_ok-add.ensures.after c.in_ok-add.ensures.cells (rw c.none.ensures at c.in_ok-push.ensures.ok))
+    rw c.len-number.ensures.value (block_now graph c.args.visits.now (record { numbering = c.add.new.self; taken = c.args.visits.now.taken; waiting = c.push.new.self }) c.args.key c.in_default.ensures.none are shows
+    c.in_ok-add.ensures.after c.in_ok-add.ensures.cells (rw c.none.ensures at c.in_ok-push.ensures) refl)

@@ -13,6 +13,7 @@ invariant-loop-walk g l =
     × (is_numbered l.visits.numbering.keys l.key ≡ false)
     × AreVisits (g.W.Walk.graph l.fn.walk) l.visits
     × ((all : List ℕ) → Chained (g.W.Walk.graph l.fn.walk) l.visits.numbering.keys l.key all → Chained (g.W.Walk.graph l.fn.walk) l.fn.visits.numbering.keys l.fn.key all)
+    × (l.visits.taken ≡ l.fn.visits.taken)
 
 abbrev pub decreases-loop-walk : goal.decreases-loop-walk
 decreases-loop-walk g l = 2 ^ 32 - length l.visits.numbering.keys

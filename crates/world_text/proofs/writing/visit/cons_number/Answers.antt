@@ -7,4 +7,4 @@ returns-in-Some-clause-value g c = cons_before (g.W.Walk.graph c.args.walk.now) 
 
 pub returns-clause-value : goal.returns-clause-value
 returns-clause-value g c =
-    rw c.len-number.ensures.value (cons_now (g.W.Walk.graph c.args.walk.now) c.args.visits.now c.chain.new.visits c.args.key c.in_default.ensures.none c.in_ok-chain.ensures.ok c.in_ok-chain.ensures.sound)
+    rw c.len-number.ensures.value (cons_now (g.W.Walk.graph c.args.walk.now) c.args.visits.now c.chain.new.visits c.args.key c.in_default.ensures.none c.in_ok-chain.ensures.ok c.in_ok-chain.ensures.sound c.in_ok-chain.ensures.done)
