@@ -5,7 +5,7 @@ ghost use Rattle.why_held.specs.WhyText.{held_text, hop_line, hop_lines, level_l
 use crate::chain::{Depths, Held, Hop, Part, Why};
 use lisp_graph::{NoMemory, Text};
 use std::alloc::Global;
-use world_text::{push_number, push_spaced};
+use world_text::{BackwardLine, push_number, push_spaced};
 
 /// How a part is written.
 #[tactic(auto, using(std::proofs::Common::append_assoc))]
@@ -72,10 +72,13 @@ fn push_level(text: &mut Text, object: u32, depth: Option<u32>) -> Result<(), No
     match depth {
         None => Ok(()),
         Some(depth) => {
-            text.push_all(b"level")?;
-            push_spaced(text, object)?;
-            push_spaced(text, depth)?;
-            text.push(b'\n')
+            let mut line = BackwardLine::new();
+            line.push_byte(b'\n');
+            line.push_number(u64::from(depth));
+            line.push_byte(b' ');
+            line.push_number(u64::from(object));
+            line.push_text(b"level ");
+            text.push_all(line.as_bytes())
         }
     }
 }

@@ -17,6 +17,6 @@ pub use reading::{
 };
 pub use store_word::NoMemory;
 pub use writing::{
-    KeyNumbers, Numbering, dump_text, kind_text, name_of, push_areas, push_capacity,
+    BackwardLine, KeyNumbers, Numbering, dump_text, kind_text, name_of, push_areas, push_capacity,
     push_number, push_space, push_spaced, push_value,
 };

@@ -14,6 +14,7 @@ mod object_writer;
 mod text;
 mod visit;
 
+pub use backward_line::BackwardLine;
 pub use dump::dump_text;
 pub use file_lines::{push_areas, push_capacity, push_space};
 pub use numbering::{KeyNumbers, Numbering};
