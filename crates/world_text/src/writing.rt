@@ -6,7 +6,7 @@ mod dumped;
 mod file;
 mod file_lines;
 mod groups;
-mod kept_cons;
+mod kept_object;
 mod kept_queue;
 mod number_table;
 mod numbering;

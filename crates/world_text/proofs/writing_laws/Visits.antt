@@ -2,7 +2,7 @@
 use Rattle.std.proofs.Common.{◌≡◌, ℕ, ◌+◌, List, [], ◌∷◌, ◌++◌, take, subst, Bool, true, map, Some, None, refl, ap, sym, ◌∙◌}
 use Rattle.std.specs.Prelude.{slice_get, false, if◌then◌else◌}
 use Rattle.std.proofs.lemmas.List.{map-append, map_more}
-use Rattle.std.proofs.lemmas.List.Elements.{All-more, All-push, All-get_or}
+use Rattle.std.proofs.lemmas.List.Elements.{All-more, All-push}
 use Rattle.std.specs.List.{All}
 use Rattle.std.proofs.lemmas.Option.{get_or_from_slice_get, slice_get_within}
 use Rattle.lisp_graph.specs.KeyedGraph.{KeyedGraph, Shows}
@@ -70,6 +70,15 @@ known_more graph old new key cons known shows keys conses =
       all = rw keys (All-push P old.keys key known.all (rw kind shows));
       conses = conses ∙ ap (λ (kinds : List Bool). kinds ++ cons ∷ []) known.conses ∙ ap (λ (kinds : List Bool). map graph.cons old.keys ++ kinds) (sym one) ∙ sym (map-append graph.cons old.keys (key ∷ [])) ∙ ap (map graph.cons) (sym keys);
     }
+
+-- the objects with these keys are shown
+abbrev pub AreKnown : KeyedGraph → List ℕ → Type 0
+AreKnown graph keys = All (λ key. Shows graph (seen_as (graph.cons key) key)) keys
+
+pub one_more_known : (graph : KeyedGraph) (keys : List ℕ) (key : ℕ) (cons : Bool) → AreKnown graph keys → Shows graph (seen_as cons key) → AreKnown graph (keys ++ key ∷ [])
+one_more_known graph keys key cons known shows =
+    let kind = shown_kind graph cons key shows in
+    All-push (λ k. Shows graph (seen_as (graph.cons k) k)) keys key known (rw kind shows)
 
 -- What is read
 

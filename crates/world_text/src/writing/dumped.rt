@@ -48,7 +48,7 @@ fn dumped_cons<W: Walk>(
 ) -> Result<Object, DumpFault>
     requires pair { Shows (W.graph walk.old) (a_cons key) }
     requires agrees { cons ≡ cons_at (W.graph walk.old) key }
-    requires shows { ShowsParts (W.graph walk.old) cons }
+    requires shows { ShowsParts (W.graph walk.old) (Some cons) }
     requires visits { AreVisits (W.graph walk.old) visits.old }
     ensures value { IfOk result (λ object. IsDumped (W.graph walk.old) key visits.old visits.new object) }
     ensures done { IfOk result (λ _. visits.new.taken ≡ visits.old.taken) }
@@ -99,7 +99,7 @@ fn dumped_object<W: Walk>(
     number: usize,
     key: u64,
 ) -> Result<Object, DumpFault>
-    requires listed { slice_get visits.old.numbering.keys number ≡ Some key }
+    requires listed { slice_get visits.old.keys number ≡ Some key }
     requires agrees { visits.old.taken ≡ number }
     requires at_most { number < 2 ^ 32 }
     requires visits { AreVisits (W.graph walk.old) visits.old }
@@ -108,12 +108,9 @@ fn dumped_object<W: Walk>(
     ensures unchanged { W.graph walk.new ≡ W.graph walk.old }
     ensures cause { HasSwapCause (W.faults walk.old) (W.faults walk.new) result }
 {
-    let is_cons = visits.numbering.conses.as_slice()[number];
-    let cons = visits.take_first();
-    if is_cons {
-        dumped_cons(walk, visits, key, cons)
-    } else {
-        dumped_block(alloc, walk, visits, key)
+    match visits.take_first() {
+        Some(cons) => dumped_cons(walk, visits, key, cons),
+        None => dumped_block(alloc, walk, visits, key),
     }
 }
 
@@ -131,12 +128,12 @@ pub fn write_objects<W: Walk>(
     requires fresh { writer.old.first ≡ 0 }
     requires empty { writer.old.cars.items ≡ [] }
     ensures value { OnOk result (WritesObjects (W.graph walk.old) areas.now visits.old visits.new writer.old.text writer.new.text) }
-    ensures at_most { OnOk result (length visits.new.numbering.keys < 2 ^ 32) }
+    ensures at_most { OnOk result (length visits.new.keys < 2 ^ 32) }
     ensures unchanged { W.graph walk.new ≡ W.graph walk.old }
     ensures cause { HasSwapCause (W.faults walk.old) (W.faults walk.new) result }
 {
     let mut number = 0;
-    while let Some(key) = visits.numbering.keys.key(number) {
+    while let Some(key) = visits.keys.key(number) {
         let object = dumped_object(alloc, walk, visits, number, key)?;
         writer.add(areas, &object)?;
         number += 1;

@@ -28,7 +28,8 @@ impl Model for KeyNumbers {
 }
 
 impl KeyNumbers {
-    fn new(alloc: Global) -> KeyNumbers
+    /// No keys.
+    pub fn new(alloc: Global) -> KeyNumbers
         ensures { result ≡ [] }
     {
         KeyNumbers {
@@ -80,7 +81,7 @@ impl KeyNumbers {
 
     /// Gives a key the next number. It fails if memory runs out, for a key of 2^32 or more, and for the 2^32th key.
     #[inline(always)]
-    fn add(&mut self, key: u64) -> Result<(), NoMemory>
+    pub fn add(&mut self, key: u64) -> Result<(), NoMemory>
         requires { is_numbered self.old key ≡ false }
         ensures ok { OnOk result (self.new ≡ self.old ++ key ∷ []) }
         ensures at_most { length self.new < 2 ^ 32 }

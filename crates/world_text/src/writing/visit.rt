@@ -8,18 +8,18 @@ ghost use Rattle.world_text.specs.writing.Dump.{HasSwapCause};
 ghost use Rattle.world_text.specs.writing.Visits.{AreVisits, IsVisit};
 
 use crate::DumpFault;
-use crate::writing::kept_cons::KeptCons;
+use crate::writing::kept_object::KeptObject;
 use crate::writing::kept_queue::KeptQueue;
-use crate::writing::numbering::{KeyNumbers, Numbering};
+use crate::writing::numbering::KeyNumbers;
 use lisp_graph::{Seen, SeenCons, Value, Walk};
 use std::alloc::Global;
 use store_word::NoMemory;
 
 /// The objects that were visited. The parts of the first `taken` of them were visited too, or are being visited. For each other object
-/// `waiting` has the cons as the walk showed it, and for a block no cons.
+/// `waiting` has the cons as the walk showed it, or says that it is a block.
 #[derive(Drop)]
 pub struct VisitedObjects {
-    pub numbering: Numbering,
+    pub keys: KeyNumbers,
     pub taken: usize,
     pub waiting: KeptQueue,
 }
@@ -27,25 +27,25 @@ pub struct VisitedObjects {
 impl VisitedObjects {
     /// The visits before any object is visited.
     pub fn new(alloc: Global) -> VisitedObjects
-        ensures empty { result.numbering.keys ≡ [] }
+        ensures empty { result.keys ≡ [] }
         ensures done { result.taken ≡ 0 }
         ensures sound { (graph : KeyedGraph) → AreVisits graph result }
     {
         VisitedObjects {
-            numbering: Numbering::new(alloc),
+            keys: KeyNumbers::new(alloc),
             taken: 0,
             waiting: KeptQueue::new(alloc),
         }
     }
 
-    /// Takes the first object that waits, and returns what is kept of it.
+    /// Takes the first object that waits. Returns the cons that is kept, or None for a block.
     #[inline(always)]
-    pub fn take_first(&mut self) -> SeenCons
+    pub fn take_first(&mut self) -> Option<SeenCons>
         requires at_least { 0 < length self.old.waiting }
         requires at_most { self.old.taken < 2 ^ 32 }
         ensures value { self.old.waiting ≡ result ∷ self.new.waiting }
         ensures done { self.new.taken ≡ self.old.taken + 1 }
-        ensures unchanged { self.new.numbering ≡ self.old.numbering }
+        ensures unchanged { self.new.keys ≡ self.old.keys }
     {
         self.taken += 1;
         self.waiting.take_first()
@@ -65,9 +65,9 @@ fn next_cons(keys: &KeyNumbers, value: Seen) -> Option<u64>
 /// Gives the next numbers to a cons and to the conses along its cdrs, up to the first that has a number.
 fn chain<W: Walk>(walk: &mut W, visits: &mut VisitedObjects, key: u64) -> Result<(), DumpFault>
     requires shows { Shows (W.graph walk.old) (a_cons key) }
-    requires fresh { is_numbered visits.old.numbering.keys key ≡ false }
+    requires fresh { is_numbered visits.old.keys key ≡ false }
     requires visits { AreVisits (W.graph walk.old) visits.old }
-    ensures ok { OnOk result (Chained (W.graph walk.old) visits.old.numbering.keys key visits.new.numbering.keys) }
+    ensures ok { OnOk result (Chained (W.graph walk.old) visits.old.keys key visits.new.keys) }
     ensures sound { OnOk result (AreVisits (W.graph walk.old) visits.new) }
     ensures done { OnOk result (visits.new.taken ≡ visits.old.taken) }
     ensures unchanged { W.graph walk.new ≡ W.graph walk.old }
@@ -75,11 +75,11 @@ fn chain<W: Walk>(walk: &mut W, visits: &mut VisitedObjects, key: u64) -> Result
 {
     let mut key = key;
     loop {
-        visits.numbering.add(key, true)?;
+        visits.keys.add(key)?;
         let cons = walk.cons_of(key)?;
-        let kept = KeptCons::new(cons)?;
+        let kept = KeptObject::cons(cons)?;
         visits.waiting.push(kept)?;
-        match next_cons(&visits.numbering.keys, cons.cdr) {
+        match next_cons(&visits.keys, cons.cdr) {
             None => return Ok(()),
             Some(next) => key = next,
         }
@@ -99,10 +99,10 @@ fn cons_number<W: Walk>(
     ensures unchanged { W.graph walk.new ≡ W.graph walk.old }
     ensures cause { HasSwapCause (W.faults walk.old) (W.faults walk.new) result }
 {
-    if let Some(number) = visits.numbering.keys.number_of(key) {
+    if let Some(number) = visits.keys.number_of(key) {
         return Ok(number as u64);
     }
-    let number = visits.numbering.keys.len();
+    let number = visits.keys.len();
     chain(walk, visits, key)?;
     Ok(number as u64)
 }
@@ -111,12 +111,12 @@ fn cons_number<W: Walk>(
 fn block_number(visits: &mut VisitedObjects, key: u64) -> Result<u64, NoMemory>
     ensures { (graph : KeyedGraph) → Shows graph (a_block key) → AreVisits graph visits.old → IfOk result (λ number. IsVisit graph (a_block key) visits.old visits.new (a_ref number)) }
 {
-    if let Some(number) = visits.numbering.keys.number_of(key) {
+    if let Some(number) = visits.keys.number_of(key) {
         return Ok(number as u64);
     }
-    let number = visits.numbering.keys.len();
-    visits.numbering.add(key, false)?;
-    visits.waiting.push(KeptCons::none())?;
+    let number = visits.keys.len();
+    visits.keys.add(key)?;
+    visits.waiting.push(KeptObject::block())?;
     Ok(number as u64)
 }
 

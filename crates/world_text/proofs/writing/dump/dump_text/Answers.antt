@@ -19,7 +19,7 @@ returns-clause-value g c =
     let wrote = c.in_ok-write_objects.ensures.value in
     let walk = is_walk (g.W.Walk.graph c.dumped_registers.new.walk) G c.new-visits.result c.dumped_registers.new.visits c.write_objects.new.visits c.in_ok-registers.registers wrote.objects
     c.dumped_registers.ensures.unchanged c.new-visits.ensures.empty c.in_ok-registers.ensures.value wrote.dumped in
-    is_dump G c.args.space.now areas c.write_objects.new.visits.numbering wrote.objects c.in_ok-registers.registers c.push_end.new.text c.in_ok-write_objects.ensures.at_most walk
+    is_dump G c.args.space.now areas c.write_objects.new.visits.keys wrote.objects c.in_ok-registers.registers c.push_end.new.text c.in_ok-write_objects.ensures.at_most walk
     (file_parts c.args.space.now areas wrote.objects c.in_ok-registers.registers c.in_ok-head.head c.write_objects.new.writer.text c.push_end.new.text c.in_ok-head.ensures
     (wrote.text ∙ ap (λ (text : List ℕ). text ++ text_of areas (object_lines_of 0 0 wrote.objects)) c.new-writer.ensures.text)
     (c.in_ok-push_end.ensures ∙ ap (λ (roots : List Value). c.write_objects.new.writer.text ++ text_of [] (root_lines_of 0 roots ++ ClosingLine true ∷ [])) c.as_slice.ensures))

@@ -7,5 +7,5 @@ returns-in-Some c = λ graph shows are. block_before graph c.args.visits.now c.a
 
 pub returns : goal.returns
 returns c = λ graph shows are.
-    rw c.len-number.ensures.value (block_now graph c.args.visits.now (record { numbering = c.add.new.self; taken = c.args.visits.now.taken; waiting = c.push.new.self }) c.args.key c.in_default.ensures.none are shows
-    c.in_ok-add.ensures.after c.in_ok-add.ensures.cells (rw c.none.ensures at c.in_ok-push.ensures) refl)
+    rw c.len-number.ensures.value (block_now graph c.args.visits.now (record { keys = c.add.new.self; taken = c.args.visits.now.taken; waiting = c.push.new.self }) c.args.key c.in_default.ensures.none are shows
+    c.in_ok-add.ensures.ok (rw c.block.ensures at c.in_ok-push.ensures) refl)

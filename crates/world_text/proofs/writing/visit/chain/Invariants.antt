@@ -10,10 +10,10 @@ invariant-loop-walk g l =
     (g.W.Walk.graph l.walk ≡ g.W.Walk.graph l.fn.walk)
     × (g.W.Walk.faults l.walk ≡ g.W.Walk.faults l.fn.walk)
     × Shows (g.W.Walk.graph l.fn.walk) (Cons l.key)
-    × (is_numbered l.visits.numbering.keys l.key ≡ false)
+    × (is_numbered l.visits.keys l.key ≡ false)
     × AreVisits (g.W.Walk.graph l.fn.walk) l.visits
-    × ((all : List ℕ) → Chained (g.W.Walk.graph l.fn.walk) l.visits.numbering.keys l.key all → Chained (g.W.Walk.graph l.fn.walk) l.fn.visits.numbering.keys l.fn.key all)
+    × ((all : List ℕ) → Chained (g.W.Walk.graph l.fn.walk) l.visits.keys l.key all → Chained (g.W.Walk.graph l.fn.walk) l.fn.visits.keys l.fn.key all)
     × (l.visits.taken ≡ l.fn.visits.taken)
 
 abbrev pub decreases-loop-walk : goal.decreases-loop-walk
-decreases-loop-walk g l = 2 ^ 32 - length l.visits.numbering.keys
+decreases-loop-walk g l = 2 ^ 32 - length l.visits.keys

@@ -1,6 +1,6 @@
-//! A cons as a dump keeps it until its parts are visited. It takes 16 bytes, since the keys in it are kept in 32 bits.
-ghost use Rattle.std.specs.Prelude.{◌≡◌, IfOk};
-ghost use Rattle.world_text.specs.writing.Kept.{cons_of, no_cons, seen_of};
+//! An object as a dump keeps it until its parts are visited. It takes 16 bytes, since the keys in it are kept in 32 bits.
+ghost use Rattle.std.specs.Prelude.{◌≡◌, Some, None, IfOk};
+ghost use Rattle.world_text.specs.writing.Kept.{kept_in, seen_of};
 
 use lisp_graph::{Seen, SeenCons};
 use store_word::NoMemory;
@@ -21,13 +21,14 @@ pub struct KeptValue {
     kind: Kind,
 }
 
-/// A cons as the walk showed it.
+/// A cons as the walk showed it, or a block, of which nothing is kept.
 #[derive(Clone, Copy)]
-pub struct KeptCons {
+pub struct KeptObject {
     charge: u32,
     car: u32,
     cdr: u32,
     area: u8,
+    is_cons: bool,
     car_kind: Kind,
     cdr_kind: Kind,
 }
@@ -83,47 +84,52 @@ fn seen_value(kind: Kind, bits: u32) -> Seen
     }
 }
 
-impl KeptCons {
+impl KeptObject {
     /// Keeps a cons. It is refused if one of its keys is 2^32 or more.
-    pub fn new(cons: SeenCons) -> Result<KeptCons, NoMemory>
-        ensures { IfOk result (λ kept. cons_of kept ≡ cons) }
+    pub fn cons(cons: SeenCons) -> Result<KeptObject, NoMemory>
+        ensures { IfOk result (λ kept. kept_in kept ≡ Some cons) }
     {
         let car = kept_value(cons.car)?;
         let cdr = kept_value(cons.cdr)?;
-        Ok(KeptCons {
+        Ok(KeptObject {
             charge: cons.charge,
             car: car.bits,
             cdr: cdr.bits,
             area: cons.area,
+            is_cons: true,
             car_kind: car.kind,
             cdr_kind: cdr.kind,
         })
     }
 
-    /// What is kept in the place of a block.
-    pub fn none() -> KeptCons
-        ensures { cons_of result ≡ no_cons }
+    /// A block.
+    pub fn block() -> KeptObject
+        ensures { kept_in result ≡ None }
     {
-        KeptCons {
+        KeptObject {
             charge: 0,
             car: 0,
             cdr: 0,
             area: 0,
+            is_cons: false,
             car_kind: Kind::Nil,
             cdr_kind: Kind::Nil,
         }
     }
 
-    /// The cons that is kept.
+    /// The cons that is kept; None for a block.
     #[inline(always)]
-    pub fn cons(&self) -> SeenCons
-        ensures { result ≡ cons_of self.now }
+    pub fn kept(&self) -> Option<SeenCons>
+        ensures { result ≡ kept_in self.now }
     {
-        SeenCons {
+        if !self.is_cons {
+            return None;
+        }
+        Some(SeenCons {
             area: self.area,
             charge: self.charge,
             car: seen_value(self.car_kind, self.car),
             cdr: seen_value(self.cdr_kind, self.cdr),
-        }
+        })
     }
 }
