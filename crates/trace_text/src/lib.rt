@@ -4,6 +4,7 @@
 #![tactic(auto)]
 
 mod command;
+mod digit_pairs;
 mod fast;
 mod fast_blocks;
 mod flip;
