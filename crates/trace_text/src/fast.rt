@@ -183,9 +183,9 @@ fn pair<'a>(
     Some(rest)
 }
 
-/// The text after the command with which this text begins, if that is one of the most frequent commands. The command is written to `command`.
-#[inline(always)]
-pub fn read_fast<'a>(
+/// The same as `read_fast` for every command but `set`. It isn't inlined: so `read_fast` is short enough to be inlined where lines are read.
+#[inline(never)]
+fn read_other<'a>(
     space: &Space,
     areas: &Areas,
     text: &'a [u8],
@@ -195,9 +195,6 @@ pub fn read_fast<'a>(
     ensures { IfSome result (λ rest. LeadsCommand space.now areas.now text.now command.new rest.now) }
 {
     let (front, after_four) = four_bytes(text)?;
-    if is_word(front, b"set ") {
-        return set(space, after_four, command);
-    }
     if is_word(front, b"get ") {
         return get(space, after_four, command);
     }
@@ -220,4 +217,22 @@ pub fn read_fast<'a>(
         return grow(space, after_four, command);
     }
     pair(space, front, after_four, text, command)
+}
+
+/// The text after the command with which this text begins, if that is one of the most frequent commands. The command is written to `command`.
+#[inline(always)]
+pub fn read_fast<'a>(
+    space: &Space,
+    areas: &Areas,
+    text: &'a [u8],
+    command: &mut Request,
+) -> Option<&'a [u8]>
+    requires { InLimits space.now areas.now }
+    ensures { IfSome result (λ rest. LeadsCommand space.now areas.now text.now command.new rest.now) }
+{
+    let (front, after_four) = four_bytes(text)?;
+    if is_word(front, b"set ") {
+        return set(space, after_four, command);
+    }
+    read_other(space, areas, text, command)
 }

@@ -82,28 +82,32 @@ pub fn leading_register(registers: u32, text: &[u8]) -> Option<(u8, &[u8])>
     }
 }
 
-/// A number of one or two digits and a space, and the text after them. Most registers are such numbers.
+/// A number of one to three digits and a space, and the text after them. Registers are such numbers.
 #[inline(always)]
 fn short_and_space(text: &[u8]) -> Option<(u32, &[u8])>
     ensures { IfSome result (λ x. text.now ≡ decimal x.0 ++ 32 ∷ x.1.now) }
 {
-    let [first, second, third, rest @ ..] = text else {
+    let [first, second, third, fourth, rest @ ..] = text else {
         return None;
     };
     if !first.is_ascii_digit() {
         return None;
     }
-    let tens = u32::from(*first - b'0');
+    let one = u32::from(*first - b'0');
     if *second == b' ' {
-        return Some((tens, &text[2..]));
+        return Some((one, &text[2..]));
     }
-    if tens == 0 || *third != b' ' {
+    if one == 0 || !second.is_ascii_digit() {
         return None;
     }
-    if !second.is_ascii_digit() {
+    let two = 10 * one + u32::from(*second - b'0');
+    if *third == b' ' {
+        return Some((two, &text[3..]));
+    }
+    if *fourth != b' ' || !third.is_ascii_digit() {
         return None;
     }
-    Some((10 * tens + u32::from(*second - b'0'), rest))
+    Some((10 * two + u32::from(*third - b'0'), rest))
 }
 
 /// A number and a space, and the text after them.
