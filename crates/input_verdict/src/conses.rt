@@ -45,8 +45,8 @@ fn pass_each(place: &mut JudgedInput, reader: &mut LineReader)
     }
 }
 
-/// In the world, goes past the lines that come next as long as each is `cons AREA V V`, is accepted, and is buffered with its line feed. In the
-/// trace it does nothing.
+/// In the world, goes past the next lines as long as each is `cons AREA V V`, is accepted, and is buffered with its line feed. In the trace it
+/// does nothing.
 #[inline(always)]
 pub fn pass_conses(place: &mut JudgedInput, reader: &mut LineReader)
     requires { IsPlace place.old }

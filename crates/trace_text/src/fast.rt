@@ -183,7 +183,8 @@ fn pair<'a>(
     Some(rest)
 }
 
-/// The same as `read_fast` for every command but `set`. It isn't inlined: so `read_fast` is short enough to be inlined where lines are read.
+/// The same as `read_fast` for every command except `set`. It isn't inlined, so that `read_fast` is short enough to be inlined into the loop over
+/// the lines of a trace.
 #[inline(never)]
 fn read_other<'a>(
     space: &Space,
