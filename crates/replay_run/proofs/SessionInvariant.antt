@@ -3,7 +3,7 @@ use Rattle.std.proofs.Common.{◌≡◌, ◌⊎◌, inl, inr, ℕ, ◌+◌, ◌-
 use Rattle.std.proofs.lemmas.List.{append-nil, drop-drop, length-append, take_all, get_or_at, get_or_append_left}
 use Rattle.std.proofs.Math.Seq.{take-nil}
 use Rattle.std.proofs.lemmas.Bool.{cases_lt}
-use Rattle.outer_ports.specs.Ports.{Gained, Gave}
+use Rattle.outer_ports.specs.Ports.{Gained}
 use Rattle.outer_ports.specs.Buffers.{Gathered}
 use Rattle.outer_ports.proofs.Gains.{gained_more, gained_nothing, gave_nothing}
 use Rattle.lisp_graph.specs.declared.command.Command.{Command}
@@ -152,15 +152,10 @@ going_filled {left} {left'} {left''} {last} {last'} {held} {held'} {held''} {sta
         filled (length going.read.commands) place.bytes (tells_whole none (tells_moved f.gathered.given f.gathered.all going.tells)) (omega (arith, taken.long))
         (ap no_feed (drop_latest place.bytes last' (going.b ++ f.piece) reader'.bytes taken.tail) ∙ fresh) (λ n l below. absurd (omega (arith, going.counts))) (omega arith)
 
--- what was taken for the next line
-pub filled_by : {left left' : Option (List ℕ)} {last last' : ℕ} {old new : Buffered} {held held' : List ℕ → Type 0} {had pending : List ℕ}
-    → ((piece : List ℕ) × Gave left left' piece × (new.bytes ≡ old.bytes ++ piece) × (old.ended ≡ true → piece ≡ []) × (((piece ≡ []) × (last' ≡ last)) ⊎ ((pending ≡ []) × (no_feed (without_latest last' new.bytes) ≡ true))))
-    → (old.ended ≡ true → new.ended ≡ true) → length new.bytes ≤ 32769 → Gathered held held' pending had → Filled left left' last last' old new held held' had pending
-filled_by given ended short gathered = record { piece = given.0; gave = given.1; is = given.2; once = given.3; later = given.4; ended = ended; buffer = short; gathered = gathered }
-
--- nothing was taken, since the line is buffered
-pub filled_here : {left : Option (List ℕ)} {last : ℕ} {reader : Buffered} {held : List ℕ → Type 0} {pending : List ℕ} → length reader.bytes ≤ 32769 → Filled left left last last reader reader held held pending pending
-filled_here {left} {last} {reader} short = record {
+-- nothing was taken, and of the pending texts some were given
+pub filled_flushed : {left : Option (List ℕ)} {last : ℕ} {reader : Buffered} {held held' : List ℕ → Type 0} {had pending : List ℕ} → length reader.bytes ≤ 32769 → Gathered held held' pending had
+    → Filled left left last last reader reader held held' had pending
+filled_flushed {left} {last} {reader} short gathered = record {
   piece = [];
   gave = gave_nothing left;
   is = sym (append-nil reader.bytes);
@@ -168,8 +163,12 @@ filled_here {left} {last} {reader} short = record {
   later = inl (refl, refl);
   ended = λ is. is;
   buffer = short;
-  gathered = record { given = []; all = refl; gained = gained_nothing };
+  gathered = gathered;
 }
+
+-- nothing was taken, since the line is buffered
+pub filled_here : {left : Option (List ℕ)} {last : ℕ} {reader : Buffered} {held : List ℕ → Type 0} {pending : List ℕ} → length reader.bytes ≤ 32769 → Filled left left last last reader reader held held pending pending
+filled_here short = filled_flushed short (record { given = []; all = refl; gained = gained_nothing })
 
 -- the start of a command that is still to be read, or was read after the bytes that were taken last
 start_from : (base m n : ℕ) (starts later : List ℕ) → ((n : ℕ) → m ≤ n → n < length starts → base ≤ get_or starts n 0) → IsFrom base later → m ≤ n → n ≤ length starts → n < length (starts ++ later) → base ≤ get_or (starts ++ later) n 0

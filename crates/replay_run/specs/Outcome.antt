@@ -53,6 +53,14 @@ pub record HasNoWorldYet (b : List ℕ) : Type 0 where
   pub lines : judged start (whole_lines (lines_of b)) ≡ Ok read
   pub none : world_of read.place ≡ None
 
+-- if the input has no world before its first line with trouble, this holds
+abbrev pub IfNoWorld : Option (List ℕ) → Type 0 → Type 0
+IfNoWorld left holds = (i : List ℕ) → left ≡ Some i → HasNoWorld i → holds
+
+-- if the whole lines that the source gave keep the rules and open no world, this holds
+abbrev pub IfNoWorldYet : Option (List ℕ) → Option (List ℕ) → Type 0 → Type 0
+IfNoWorldYet left left' holds = (i b : List ℕ) → left ≡ Some i → Gave (Some i) left' b → HasNoWorldYet b → holds
+
 -- no command was executed, since the world isn't loaded
 abbrev pub IsUnloaded : Bool → Read → Type 0
 IsUnloaded loaded read = (read ≡ start) × (loaded ≡ false)

@@ -108,6 +108,10 @@ pub record HasNoRoom (command : Command) (old : State) (stands : State → Type 
   pub quiet : faults' ≡ faults
   pub gathered : Gathered held held' pending had
 
+-- if the buffer has room for this many more bytes, and the sink's count of failed calls isn't saturated, this holds
+abbrev pub IfItFits : Buffer → ℕ → ℕ → Type 0 → Type 0
+IfItFits buffer size faults holds = length buffer.pending + size ≤ buffer.room → faults < 2 ^ 64 - 1 → holds
+
 -- a buffer has room for any answer except that of a dump, and the sink's count of failed calls isn't saturated
 pub record HasRoom (buffer : Buffer) (faults : ℕ) : Type 0 where
   pub room : length buffer.pending + 1024 ≤ buffer.room

@@ -1,8 +1,8 @@
 //! A whole run.
 ghost use Rattle.std.specs.Prelude.{◌≡◌, ◌≢◌, ◌-◌, true, ℕ, List, is_some, Some};
-ghost use Rattle.outer_ports.specs.Ports.{Gave, Rose};
+ghost use Rattle.outer_ports.specs.Ports.{Rose};
 ghost use Rattle.paged_machine.specs.Holding.{StandsFor};
-ghost use Rattle.replay_run.specs.Outcome.{HasNoWorld, HasNoWorldYet, Ran};
+ghost use Rattle.replay_run.specs.Outcome.{IfNoWorld, IfNoWorldYet, Ran};
 ghost use Rattle.replay_run.specs.Reports.{ReportsSink, ReportsSwap};
 ghost use Rattle.line_input.specs.Statuses.{code};
 
@@ -33,9 +33,8 @@ pub fn answer_input<S: Source, K: Sink, E: Engine>(
     ensures source_no_fault { result ≢ Status.ReadFailed → result ≢ Status.WriteFailed → S.faults source.new ≡ S.faults source.old }
     ensures sink { ReportsSink (result ≡ Status.WriteFailed) (K.faults sink.old) (K.faults sink.new) (K.failed sink.new) }
     ensures swap { ReportsSwap (result ≡ Status.SwapFailed) (E.faults engine.old) (E.faults engine.new) }
-    ensures unopened { (i : List ℕ) → S.left source.old ≡ Some i → HasNoWorld i → engine.new ≡ engine.old }
-    ensures unread { (i b : List ℕ) → S.left source.old ≡ Some i → Gave (Some i) (S.left source.new) b → HasNoWorldYet b
-        → result ≡ Status.ReadFailed → engine.new ≡ engine.old }
+    ensures unopened { IfNoWorld (S.left source.old) (engine.new ≡ engine.old) }
+    ensures unread { IfNoWorldYet (S.left source.old) (S.left source.new) (result ≡ Status.ReadFailed → engine.new ≡ engine.old) }
 {
     engine.idle_has_no_world();
     let mut reader = match LineReader::new(alloc) {
@@ -70,9 +69,8 @@ pub fn replay<S: Source, K: Sink, D: Swap>(
     ensures source_no_fault { result ≢ 3 → result ≢ 1 → S.faults source.new ≡ S.faults source.old }
     ensures sink { ReportsSink (result ≡ 1) (K.faults sink.old) (K.faults sink.new) (K.failed sink.new) }
     ensures swap { ReportsSwap (result ≡ 6) machine.old.faults machine.new.faults }
-    ensures unopened { (i : List ℕ) → S.left source.old ≡ Some i → HasNoWorld i → machine.new ≡ machine.old }
-    ensures unread { (i b : List ℕ) → S.left source.old ≡ Some i → Gave (Some i) (S.left source.new) b → HasNoWorldYet b
-        → result ≡ 3 → machine.new ≡ machine.old }
+    ensures unopened { IfNoWorld (S.left source.old) (machine.new ≡ machine.old) }
+    ensures unread { IfNoWorldYet (S.left source.old) (S.left source.new) (result ≡ 3 → machine.new ≡ machine.old) }
 {
     answer_input(alloc, source, sink, machine).code()
 }

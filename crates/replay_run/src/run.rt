@@ -1,12 +1,10 @@
 //! The loop over the lines.
 ghost use Rattle.std.specs.Prelude.{◌≡◌, ◌≢◌, ◌⊎◌, ◌≤◌, ◌<◌, ◌-◌, ◌^◌, ◌++◌, List, [], true, false, length, Some, Err, IfErr, IfOk, IfSome, OnOk, ℕ};
-ghost use Rattle.outer_ports.specs.Ports.{Gave, IsAtEnd, Rose};
-ghost use Rattle.outer_ports.specs.Buffers.{Gathered};
-ghost use Rattle.line_input.specs.Reader.{no_feed, without_latest};
+ghost use Rattle.outer_ports.specs.Ports.{IsAtEnd, Rose};
 ghost use Rattle.input_verdict.specs.Events.{Nothing, event_of};
 ghost use Rattle.input_verdict.specs.Places.{IsPlace, MayDo};
 ghost use Rattle.input_verdict.specs.Verdict.{ending_at};
-ghost use Rattle.replay_run.specs.Outcome.{HasNoWorld, HasNoWorldYet};
+ghost use Rattle.replay_run.specs.Outcome.{IfNoWorld, IfNoWorldYet};
 ghost use Rattle.replay_run.specs.OneLine.{JudgedNext};
 ghost use Rattle.replay_run.specs.Reports.{ReportsSink, ReportsSource, ReportsSwap};
 ghost use Rattle.replay_run.specs.Steps.{Acted, Fetched, Filled, IsIn, RanTo, TakesAfter, closed};
@@ -37,14 +35,9 @@ fn next_line<S: Source, K: Sink>(
     requires sound { reader.old.ended ≡ true → IsAtEnd (S.left source.old) }
     requires at_least { 1 ≤ enough }
     requires in_range { enough ≤ 32769 }
-    ensures given { (piece : List ℕ) × Gave (S.left source.old) (S.left source.new) piece
-        × (reader.new.bytes ≡ reader.old.bytes ++ piece) × (reader.old.ended ≡ true → piece ≡ [])
-        × (((piece ≡ []) × (S.last source.new ≡ S.last source.old))
-        ⊎ ((buffer.new.pending ≡ []) × (no_feed (without_latest (S.last source.new) reader.new.bytes) ≡ true))) }
-    ensures gathers { Gathered (K.stands sink.old) (K.stands sink.new) buffer.new.pending buffer.old.pending }
+    ensures filled { Filled (S.left source.old) (S.left source.new) (S.last source.old) (S.last source.new) reader.old reader.new
+        (K.stands sink.old) (K.stands sink.new) buffer.old.pending buffer.new.pending }
     ensures end { reader.new.ended ≡ true → IsAtEnd (S.left source.new) }
-    ensures ended { reader.old.ended ≡ true → reader.new.ended ≡ true }
-    ensures at_most { length reader.new.bytes ≤ 32769 }
     ensures value { Fetched reader.new enough buffer.new.pending result }
     ensures source { ReportsSource (result ≡ Err LoopExit.Read) (S.faults source.old) (S.faults source.new) }
     ensures sink { ReportsSink (result ≡ Err LoopExit.Write) (K.faults sink.old) (K.faults sink.new) (K.failed sink.new) }
@@ -129,9 +122,8 @@ pub fn run_trace<S: Source, K: Sink, E: Engine>(
     ensures source { ReportsSource (result ≡ Err (RunStop.Tell RunError.Read)) (S.faults source.old) (S.faults source.new) }
     ensures sink { ReportsSink (result ≡ Err RunStop.Write) (K.faults sink.old) (K.faults sink.new) (K.failed sink.new) }
     ensures swap { ReportsSwap (result ≡ Err (RunStop.Tell RunError.Swap)) (E.faults engine.old) (E.faults engine.new) }
-    ensures unopened { (i : List ℕ) → S.left source.old ≡ Some i → HasNoWorld i → engine.new ≡ engine.old }
-    ensures unread { (i b : List ℕ) → S.left source.old ≡ Some i → Gave (Some i) (S.left source.new) b → HasNoWorldYet b
-        → result ≡ Err (RunStop.Tell RunError.Read) → engine.new ≡ engine.old }
+    ensures unopened { IfNoWorld (S.left source.old) (engine.new ≡ engine.old) }
+    ensures unread { IfNoWorldYet (S.left source.old) (S.left source.new) (result ≡ Err (RunStop.Tell RunError.Read) → engine.new ≡ engine.old) }
 {
     engine.idle_has_no_world();
     let mut place = InputReader::start(InputJudge::new(alloc));

@@ -6,7 +6,7 @@ ghost use Rattle.paged_machine.specs.lisp_meaning.State.{State};
 ghost use Rattle.paged_machine.specs.lisp_meaning.Step.{Accounts, area_lines};
 ghost use Rattle.replay_run.specs.Replies.{answer_text};
 ghost use Rattle.replay_run.specs.Reports.{ReportsSink};
-ghost use Rattle.replay_run.specs.Steps.{FailsInDump, HasRoom, IsIn, IsReached, Served};
+ghost use Rattle.replay_run.specs.Steps.{FailsInDump, HasRoom, IfItFits, IsIn, IsReached, Served};
 ghost use Rattle.trace_text.specs.Replies.{reply_text};
 
 use crate::halt::LoopExit;
@@ -20,7 +20,7 @@ use trace_text::{account_text, padded_text, reply_text};
 #[inline(always)]
 fn gather<K: Sink>(buffer: &mut SinkBuffer, sink: &mut K, text: &[u8]) -> Result<(), LoopExit>
     ensures gathers { Gathers (K.stands sink.old) (K.stands sink.new) buffer.old.pending buffer.new.pending text.now result }
-    ensures fits { length buffer.old.pending + length text.now ≤ buffer.old.room → K.faults sink.old < 2 ^ 64 - 1 → result ≡ Ok tt }
+    ensures fits { IfItFits buffer.old (length text.now) (K.faults sink.old) (result ≡ Ok tt) }
     ensures room { buffer.new.room ≡ buffer.old.room }
     ensures write { IfErr result (λ halt. halt ≡ LoopExit.Write) }
     ensures sink { ReportsSink (result ≡ Err LoopExit.Write) (K.faults sink.old) (K.faults sink.new) (K.failed sink.new) }
@@ -42,7 +42,7 @@ fn gather_short<K: Sink, const N: usize>(
     requires at_most { N ≤ 64 }
     requires in_range { size ≤ N }
     ensures gathers { Gathers (K.stands sink.old) (K.stands sink.new) buffer.old.pending buffer.new.pending (take size text.now) result }
-    ensures fits { length buffer.old.pending + size ≤ buffer.old.room → K.faults sink.old < 2 ^ 64 - 1 → result ≡ Ok tt }
+    ensures fits { IfItFits buffer.old size (K.faults sink.old) (result ≡ Ok tt) }
     ensures room { buffer.new.room ≡ buffer.old.room }
     ensures write { IfErr result (λ halt. halt ≡ LoopExit.Write) }
     ensures sink { ReportsSink (result ≡ Err LoopExit.Write) (K.faults sink.old) (K.faults sink.new) (K.failed sink.new) }
@@ -62,7 +62,7 @@ fn give_composed<K: Sink>(
     areas: &Areas,
 ) -> Result<(), LoopExit>
     ensures gathers { Gathers (K.stands sink.old) (K.stands sink.new) buffer.old.pending buffer.new.pending (reply_text reply.now areas.now) result }
-    ensures fits { length buffer.old.pending + 64 ≤ buffer.old.room → K.faults sink.old < 2 ^ 64 - 1 → result ≡ Ok tt }
+    ensures fits { IfItFits buffer.old 64 (K.faults sink.old) (result ≡ Ok tt) }
     ensures room { buffer.new.room ≡ buffer.old.room }
     ensures write { IfErr result (λ halt. halt ≡ LoopExit.Write) }
     ensures sink { ReportsSink (result ≡ Err LoopExit.Write) (K.faults sink.old) (K.faults sink.new) (K.failed sink.new) }
@@ -81,7 +81,7 @@ fn give_reply<K: Sink>(
     areas: &Areas,
 ) -> Result<(), LoopExit>
     ensures gathers { Gathers (K.stands sink.old) (K.stands sink.new) buffer.old.pending buffer.new.pending (reply_text reply.now areas.now) result }
-    ensures fits { length buffer.old.pending + 64 ≤ buffer.old.room → K.faults sink.old < 2 ^ 64 - 1 → result ≡ Ok tt }
+    ensures fits { IfItFits buffer.old 64 (K.faults sink.old) (result ≡ Ok tt) }
     ensures room { buffer.new.room ≡ buffer.old.room }
     ensures write { IfErr result (λ halt. halt ≡ LoopExit.Write) }
     ensures sink { ReportsSink (result ≡ Err LoopExit.Write) (K.faults sink.old) (K.faults sink.new) (K.failed sink.new) }

@@ -1,10 +1,10 @@
 //! The top call.
 ghost use Rattle.std.specs.Prelude.{◌≡◌, ◌≢◌, ◌⊎◌, ◌-◌, ◌<◌, ◌≤◌, true, false, ℕ, List, is_some, Some, None};
 ghost use Rattle.std.specs.List.{All};
-ghost use Rattle.outer_ports.specs.Ports.{FailedLast, Gave, Rose};
+ghost use Rattle.outer_ports.specs.Ports.{FailedLast, Rose};
 ghost use Rattle.paged_machine.specs.Holding.{HasReading};
 ghost use Rattle.lisp_graph.specs.declared.command.Command.TheVariants.{Dump};
-ghost use Rattle.replay_run.specs.Outcome.{HasNoWorld, HasNoWorldYet, IsEarly, Ran};
+ghost use Rattle.replay_run.specs.Outcome.{IfNoWorld, IfNoWorldYet, IsEarly, Ran};
 ghost use Rattle.line_input.specs.Statuses.{code, status_of};
 ghost use Rattle.input_verdict.specs.Verdict.{Broken, Whole, verdict};
 ghost use Rattle.command_words.specs.declared.mode.FileMode.{FileMode};
@@ -79,9 +79,8 @@ pub fn run_lispm<S: Source, K: Sink, D: Swap>(
         → result ≡ 5 → IsEarly i (S.left source.new) (S.last source.new) (K.stands sink.old) (K.stands sink.new) (is_some machine.new.heap) }
 
     // If no world was read before the first line with trouble, or before the source failed, the machine is unchanged.
-    ensures unopened { (i : List ℕ) → mode_of words.now ≡ Some Mode.Replay → S.left source.old ≡ Some i → HasNoWorld i → machine.new ≡ machine.old }
-    ensures unread { (i b : List ℕ) → mode_of words.now ≡ Some Mode.Replay → S.left source.old ≡ Some i → Gave (Some i) (S.left source.new) b → HasNoWorldYet b
-        → result ≡ 3 → machine.new ≡ machine.old }
+    ensures unopened { mode_of words.now ≡ Some Mode.Replay → IfNoWorld (S.left source.old) (machine.new ≡ machine.old) }
+    ensures unread { mode_of words.now ≡ Some Mode.Replay → IfNoWorldYet (S.left source.old) (S.left source.new) (result ≡ 3 → machine.new ≡ machine.old) }
 
     // An exercise is answered to its end, too, whatever the swap device does.
     ensures complete_made { (number count : ℕ) → mode_of words.now ≡ Some (Mode.Exercise number count)

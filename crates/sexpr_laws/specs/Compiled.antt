@@ -10,6 +10,7 @@ use Rattle.file_modes.specs.lisp_graph.declared.world.World.{World}
 use Rattle.file_modes.specs.world_text.Dump.{IsDump}
 use Rattle.file_modes.specs.sexpr_text.Meaning.{meaning}
 use Rattle.file_modes.specs.sexpr_print.Places.{parts}
+use Rattle.file_modes.specs.sexpr_print.Spelling.{IsPrint}
 
 -- an integer of 32 bits, or no integer
 abbrev pub IsInteger : Value → Type 0
@@ -34,3 +35,7 @@ pub record IsCompiledBack (text dump : List ℕ) : Type 0 where
   pub means : meaning text ≡ Ok back
   pub same : IsDump (keyed (opening back)) back.space back.areas dump
   pub only : (other : List ℕ) → IsDump (keyed (opening back)) back.space back.areas other → other ≡ dump
+
+-- A print of this world is compiled to a world that has the same dump.
+abbrev pub PrintsAreCompiledBack : World → Type 0
+PrintsAreCompiledBack world = (text dump : List ℕ) → IsPrint world text → IsDump (keyed (opening world)) world.space world.areas dump → IsCompiledBack text dump

@@ -1,5 +1,5 @@
 -- What is read from a text that was written.
-use Rattle.std.specs.Prelude.{◌≡◌, ℕ, ◌+◌, ◌<◌, ◌≤◌, ◌^◌, List, [], ◌++◌, length, map, flat_map, codes, replicate, Result, Ok}
+use Rattle.std.specs.Prelude.{◌≡◌, ℕ, ◌+◌, ◌<◌, ◌≤◌, ◌^◌, List, [], ◌∷◌, ◌++◌, length, map, flat_map, codes, replicate, Result, Ok}
 use Rattle.file_modes.specs.store_word.declared.space.Space.{Space}
 use Rattle.file_modes.specs.lisp_graph.declared.object.Value.TheVariants.{Nil}
 use Rattle.file_modes.specs.lisp_graph.declared.world.AreaRule.{AreaRule}
@@ -8,8 +8,10 @@ use Rattle.file_modes.specs.world_text.Next.{◌>>=◌}
 use Rattle.file_modes.specs.sexpr_text.declared.fault.SexprFault.{SexprFault}
 use Rattle.file_modes.specs.sexpr_text.declared.token.Piece.{Piece}
 use Rattle.file_modes.specs.sexpr_text.declared.token.Token.{Token}
+use Rattle.file_modes.specs.sexpr_text.declared.token.Token.TheVariants.{End}
+use Rattle.file_modes.specs.sexpr_text.Pieces.{pieces_of}
 use Rattle.file_modes.specs.sexpr_text.Meaning.{Head, behind_line, first_line, graph_behind, header, meaning, said_behind, second_place}
-use Rattle.file_modes.specs.sexpr_print.Spelling.{header_text}
+use Rattle.file_modes.specs.sexpr_print.Spelling.{header_text, lines_text}
 
 -- Tokens
 
@@ -20,6 +22,10 @@ tokens_of pieces = map (λ piece. piece.token) pieces
 -- the tokens of all lines
 abbrev pub in_order : List (List Token) → List Token
 in_order lines = flat_map (λ line. line) lines
+
+-- The pieces of the text of these lines spell the tokens of all lines, in order, and then the text ends.
+abbrev pub AreTokensReadBack : List AreaRule → ℕ → List (List Token) → Type 0
+AreTokensReadBack areas line lines = tokens_of (pieces_of areas line (lines_text areas lines)) ≡ in_order lines ++ End ∷ []
 
 -- Headers
 

@@ -1,21 +1,19 @@
 //! Laws of the texts of tokens and headers.
-ghost use Rattle.std.specs.Prelude.{◌≡◌, ℕ, ◌+◌, ◌*◌, ◌≤◌, List, ◌∷◌, [], ◌++◌, length};
+ghost use Rattle.std.specs.Prelude.{ℕ, ◌+◌, ◌*◌, ◌≤◌, List, length};
 ghost use Rattle.std.specs.List.{All};
 ghost use Rattle.file_modes.specs.lisp_graph.declared.world.AreaRule.{AreaRule};
 ghost use Rattle.file_modes.specs.lisp_graph.declared.world.World.{World};
 ghost use Rattle.file_modes.specs.world_text.Limits.{AreNamed, IsAccepted};
-ghost use Rattle.file_modes.specs.sexpr_text.Pieces.{pieces_of};
 ghost use Rattle.file_modes.specs.sexpr_text.declared.token.Token.{Token};
-ghost use Rattle.file_modes.specs.sexpr_text.declared.token.Token.TheVariants.{End};
 ghost use Rattle.file_modes.specs.sexpr_print.Spelling.{lines_text};
 ghost use Rattle.sexpr_laws.specs.Spellable.{AreSpellable};
-ghost use Rattle.sexpr_laws.specs.ReadBack.{IsHeaderReadBack, in_order, tokens_of};
+ghost use Rattle.sexpr_laws.specs.ReadBack.{AreTokensReadBack, IsHeaderReadBack, in_order};
 
 /// The pieces of lines of tokens spell these tokens, in order, and then the text ends. Each token takes at most 32 bytes with its
 /// gap, and each line one byte more for its line feed. Required: each area is found by its name, and each token can be spelled.
 pub fn tokens_are_read_back()
     ensures same { (areas : List AreaRule) (line : ℕ) (lines : List (List Token)) → AreNamed areas → All (AreSpellable areas) lines
-        → tokens_of (pieces_of areas line (lines_text areas lines)) ≡ in_order lines ++ End ∷ [] }
+        → AreTokensReadBack areas line lines }
     ensures short { (areas : List AreaRule) (lines : List (List Token)) → AreNamed areas → All (AreSpellable areas) lines
         → length (lines_text areas lines) ≤ 32 * length (in_order lines) + length lines }
 {}

@@ -75,7 +75,7 @@ returns-in-Err-clause-early g c = λ i asks tells others five.
     runs_out_early _ _ _ _ _ c.code-in-Err.result status i c.code-in-Err.ensures ran tells others five
 
 pub returns-in-Ok-Some-Replay-clause-unopened : goal.returns-in-Ok-Some-Replay-clause-unopened
-returns-in-Ok-Some-Replay-clause-unopened g c = λ i asks tells none. c.answer_input.ensures.unopened i tells none
+returns-in-Ok-Some-Replay-clause-unopened g c = λ asks i tells none. c.answer_input.ensures.unopened i tells none
 
 pub returns-in-Ok-Some-Replay-clause-unread : goal.returns-in-Ok-Some-Replay-clause-unread
-returns-in-Ok-Some-Replay-clause-unread g c = λ i b asks tells gave none is. c.answer_input.ensures.unread i b tells gave none (failed_read c.answer_input.result (sym c.code.ensures ∙ is))
+returns-in-Ok-Some-Replay-clause-unread g c = λ asks i b tells gave none is. c.answer_input.ensures.unread i b tells gave none (failed_read c.answer_input.result (sym c.code.ensures ∙ is))
