@@ -1,5 +1,6 @@
 -- What a reclaim does to the classes and their regions.
 use Rattle.std.specs.Prelude.{◌≡◌, ◌≢◌, ℕ, ◌/◌, ◌<◌, ◌≤◌, Bool, not, nat_eq, None, List, [], filter, slice_set, Contains}
+use Rattle.store_word.specs.declared.sizes.TheConstants.{REGION_PAGES}
 use Rattle.std.specs.List.{list_any, range_with_len}
 use Rattle.index_lists.specs.Chains.{without}
 use Rattle.area_space.specs.Table.{Table, slots_of, stale, chain, used_of, mark_of, IsOld}
@@ -56,4 +57,4 @@ is_old t region = list_any (λ slot. list_any (nat_eq region) (chain t (stale sl
 
 -- the pages outside old regions, in their order
 abbrev pub outside_old : Table → List ℕ → List ℕ
-outside_old t pages = filter (λ page. not (is_old t (page / 16))) pages
+outside_old t pages = filter (λ page. not (is_old t (page / REGION_PAGES))) pages

@@ -1,5 +1,6 @@
 -- Calls one after another, and a place for words after them.
 use Rattle.std.specs.Prelude.{◌≡◌, ◌⊎◌, ℕ, ◌+◌, ◌*◌, ◌<◌, ◌≤◌, Some, List, [], ◌∷◌, slice_index}
+use Rattle.store_word.specs.declared.sizes.TheConstants.{MAX_OBJECT_WORDS, REGION_WORDS}
 use Rattle.index_lists.specs.Chains.{last_of}
 use Rattle.lisp_graph.specs.declared.command.Condemn.{Condemn}
 use Rattle.area_space.specs.declared.classes.Origin.{Origin}
@@ -26,9 +27,9 @@ pub data Call : Type 0 where
 pub record AllowsOpening (t : Table) (area level words region : ℕ) : Type 0 where
   pub area_in : area < areas_of t
   pub level_in : level < levels_of t
-  pub few : words ≤ 2048
+  pub few : words ≤ MAX_OBJECT_WORDS
   pub within : words_of_area t area + words ≤ 2 * quota_of t area
-  pub needed : (last : ℕ) → last_of (chain t (live (slot_of t area level))) ≡ Some last → 4096 < used_of t last + words
+  pub needed : (last : ℕ) → last_of (chain t (live (slot_of t area level))) ≡ Some last → REGION_WORDS < used_of t last + words
   pub inside : region < t.regions
   pub free : IsUnclassed t region
 

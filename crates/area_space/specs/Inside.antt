@@ -1,5 +1,6 @@
 -- What the fields of a region table mean.
 use Rattle.std.specs.Prelude.{◌≡◌, ℕ, ◌*◌, ◌/◌, ◌%◌, ◌<◌, nat_eq, List, length, slice_index, slice_index_or}
+use Rattle.store_word.specs.declared.sizes.TheConstants.{REGION_PAGES}
 use Rattle.area_space.specs.declared.classes.Class.{Class}
 use Rattle.area_space.specs.declared.table.RegionTable.TheInside.{Inside}
 use Rattle.area_space.specs.PageList.{PageList}
@@ -29,7 +30,7 @@ pub record TableInvariant (t : Table) (regions areas count : ℕ) (free : PageLi
   pub table : IsTable t
   pub regions_is : regions ≡ t.regions
   pub areas_is : areas ≡ areas_of t
-  pub pages_is : count ≡ 16 * t.regions
+  pub pages_is : count ≡ REGION_PAGES * t.regions
   pub free_is : HoldsFree free (lists_of t)
   pub debts_is : HasAccounts debts t
   pub classes_is : HasClasses classes (levels_of t) (2 * slots_of t)

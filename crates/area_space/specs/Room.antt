@@ -1,5 +1,6 @@
 -- How many regions each area may have, and that there are enough.
 use Rattle.std.specs.Prelude.{ℕ, ◌+◌, ◌*◌, ◌/◌, ◌<◌, ◌≤◌, List, [], ◌∷◌, length, slice_index}
+use Rattle.store_word.specs.declared.sizes.TheConstants.{MAX_OBJECT_WORDS}
 use Rattle.lisp_graph.specs.Totals.{total}
 use Rattle.area_space.specs.Sums.{block, both}
 use Rattle.area_space.specs.Table.{Table, areas_of, levels_of, chain, quota_of}
@@ -36,4 +37,4 @@ RoomRule t = total (share t) (areas_of t) ≤ t.regions
 abbrev pub IsPacked : List ℕ → List ℕ → Type 0
 IsPacked used [] = Unit {0}
 IsPacked used (r ∷ []) = Unit {0}
-IsPacked used (r ∷ s ∷ rs) = (2048 < slice_index used r) × IsPacked used (s ∷ rs)
+IsPacked used (r ∷ s ∷ rs) = (MAX_OBJECT_WORDS < slice_index used r) × IsPacked used (s ∷ rs)

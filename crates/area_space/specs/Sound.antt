@@ -1,5 +1,6 @@
 -- What always holds of a table.
 use Rattle.std.specs.Prelude.{◌≡◌, ℕ, ◌*◌, ◌<◌, ◌≤◌, None, [], length}
+use Rattle.store_word.specs.declared.sizes.TheConstants.{REGION_WORDS}
 use Rattle.index_lists.specs.Chains.{IsSound, IsFree}
 use Rattle.lisp_graph.specs.Totals.{total}
 use Rattle.area_space.specs.Table.{Table, areas_of, slots_of, live, stale, lists_of, chain, used_of, mark_of, quota_of}
@@ -21,7 +22,7 @@ pub record IsTable (t : Table) : Type 0 where
   -- no region is in two places
   pub sound : IsSound (lists_of t)
   -- a region has 4,096 words, and no word of a free one is used
-  pub full : (region : ℕ) → used_of t region ≤ 4096
+  pub full : (region : ℕ) → used_of t region ≤ REGION_WORDS
   pub blank : (region : ℕ) → IsFree (lists_of t) region → used_of t region ≡ 0
   pub unmarked : (region : ℕ) → IsFree (lists_of t) region → mark_of t region ≡ 0
   -- a class without a region is charged nothing, and no area is charged more than its quota

@@ -3,6 +3,7 @@
 -- A slot is an area and a level, by number area * levels + level. It has two classes, each of which
 -- is a chain of regions with its charges: the live one, 2 * slot, and the old one, 2 * slot + 1.
 use Rattle.std.specs.Prelude.{ℕ, ◌+◌, ◌*◌, Bool, true, false, Option, List, [], length, slice_index, slice_index_or, Contains}
+use Rattle.store_word.specs.declared.sizes.TheConstants.{REGION_PAGES}
 use Rattle.index_lists.specs.Chains.{Chains, IsFree}
 use Rattle.lisp_graph.specs.declared.command.Condemn.{Condemn}
 use Rattle.lisp_graph.specs.declared.world.AreaKind.{AreaKind}
@@ -96,4 +97,4 @@ kind_of t area = slice_index_or t.kinds area Static
 
 -- the pages to be scanned, among all pages
 abbrev pub page_list : Table → PageList
-page_list t = record { count = 16 * t.regions; pages = t.pages }
+page_list t = record { count = REGION_PAGES * t.regions; pages = t.pages }

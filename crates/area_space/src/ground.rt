@@ -17,6 +17,7 @@ use crate::classes::Origin;
 use crate::table::RegionTable;
 use lisp_graph::Condemn;
 use mem_port::Memory;
+use store_word::{MAX_OBJECT_WORDS, PAGE_WORDS, REGION_WORDS};
 
 /// A memory and the table of its regions.
 ///
@@ -51,7 +52,7 @@ impl<M: Memory> Ground<M> {
     #[inline]
     pub fn place(&mut self, area: u8, level: u8, words: u32) -> Placed
         requires at_least { 0 < words }
-        requires at_most { words ≤ 2048 }
+        requires at_most { words ≤ MAX_OBJECT_WORDS }
         requires area { area < areas_of self.old.table }
         requires level { level < levels_of self.old.table }
 
@@ -72,10 +73,10 @@ impl<M: Memory> Ground<M> {
         ensures table { IfSome result.opened (λ region. self.new.table ≡ opened self.old.table (live (slot_of self.old.table area level)) region) }
         ensures opened { IfSome result.opened (λ region. M.seen self.new.mem ≡ with_level (view self.old).mem.store region level) }
         ensures needed { IfSome result.opened (λ _. (last : ℕ) → last_of (chain self.old.table (live (slot_of self.old.table area level))) ≡ Some last
-            → 4096 < used_of self.old.table last + words) }
+            → REGION_WORDS < used_of self.old.table last + words) }
         ensures free { IfSome result.opened (λ region. IsUnclassed self.old.table region) }
         ensures lowest { IfSome result.opened (λ region. (r : ℕ) → r < region → IsUnclassed self.old.table r → ⊥) }
-        ensures begins { IfSome result.opened (λ region. result.at ≡ 4096 * region) }
+        ensures begins { IfSome result.opened (λ region. result.at ≡ REGION_WORDS * region) }
 
         // What is unchanged in the ground and its memory.
         ensures sound { IsTable self.new.table }
@@ -93,7 +94,7 @@ impl<M: Memory> Ground<M> {
                 self.mem.set_level(region, level);
                 self.table.open(area, level, region);
                 Placed {
-                    at: region * 4096,
+                    at: region * REGION_WORDS,
                     opened: Some(region),
                 }
             }
@@ -112,12 +113,12 @@ impl<M: Memory> Ground<M> {
         ensures memory { self.new.mem ≡ self.old.mem }
         ensures table { (slot : ℕ) → IsEnd self.old.table slot placed.now.at words
             → self.new.table ≡ record (committed self.old.table slot placed.now.at words charge origin) { pages = self.new.table.pages } }
-        ensures pages { Adds (page_list self.old.table) (page_list self.new.table) (placed.now.at / 256) ((placed.now.at + words - 1) / 256) }
+        ensures pages { Adds (page_list self.old.table) (page_list self.new.table) (placed.now.at / PAGE_WORDS) ((placed.now.at + words - 1) / PAGE_WORDS) }
         ensures sound { IsTable self.new.table }
         ensures stays_ground { IsGround (view self.old) → IsGround (view self.new) }
         ensures stays_named { NamesNoFree (view self.old) → NamesNoFree (view self.new) }
     {
-        let slot = self.table.slot_at(placed.at / 4096);
+        let slot = self.table.slot_at(placed.at / REGION_WORDS);
         self.table.charge_by(slot, charge, origin);
         self.table.extend(placed.at, words);
     }
@@ -125,10 +126,10 @@ impl<M: Memory> Ground<M> {
     /// Makes `words` words of an object in a live region a husk: they remain charged to its class,
     /// but to no object. The caller must ensure that the class is charged at least this much.
     pub fn note_husk(&mut self, at: u32, words: u32)
-        requires in_range { (slot : ℕ) × Contains (chain self.old.table (live slot)) (at / 4096) }
-        requires at_most { (slot : ℕ) → Contains (chain self.old.table (live slot)) (at / 4096) → words ≤ slice_index self.old.table.charges (live slot) }
+        requires in_range { (slot : ℕ) × Contains (chain self.old.table (live slot)) (at / REGION_WORDS) }
+        requires at_most { (slot : ℕ) → Contains (chain self.old.table (live slot)) (at / REGION_WORDS) → words ≤ slice_index self.old.table.charges (live slot) }
         ensures memory { self.new.mem ≡ self.old.mem }
-        ensures table { (slot : ℕ) → Contains (chain self.old.table (live slot)) (at / 4096) → self.new.table ≡ husked self.old.table (live slot) words }
+        ensures table { (slot : ℕ) → Contains (chain self.old.table (live slot)) (at / REGION_WORDS) → self.new.table ≡ husked self.old.table (live slot) words }
         ensures stays_ground { IsGround (view self.old) → IsGround (view self.new) }
         ensures stays_named { NamesNoFree (view self.old) → NamesNoFree (view self.new) }
     {
@@ -186,7 +187,7 @@ fn clear_if_old<M: Memory>(mem: &mut M, table: &RegionTable, region: u32)
     ensures no_fault { M.faults mem.new ≡ M.faults mem.old }
     ensures taken { M.taken mem.new ≡ M.taken mem.old }
 {
-    if table.is_old(region * 4096) {
+    if table.is_old(region * REGION_WORDS) {
         mem.clear(region);
     }
 }

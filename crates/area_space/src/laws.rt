@@ -16,6 +16,8 @@ ghost use Rattle.area_space.specs.Flips.{condemns, Condemns};
 ghost use Rattle.area_space.specs.Frees.{Frees};
 ghost use Rattle.area_space.specs.Ground.{IsGround, NamesNoFree};
 
+use store_word::{MAX_OBJECT_WORDS, REGION_WORDS};
+
 /// The room rule suffices. Begin with any table that has the properties of a new one, and
 /// make calls one after another, each as its conditions require. The last table has the properties
 /// of the first. And if the first keeps the room rule, there is a place in the last for 1 to 2,048 words
@@ -24,7 +26,7 @@ ghost use Rattle.area_space.specs.Ground.{IsGround, NamesNoFree};
 pub fn room_suffices()
     ensures lasts { (first last : Table) (calls : List Call) → IsTable first → LeadsThrough calls first last → IsTable last }
     ensures place { (first last : Table) (calls : List Call) → IsTable first → RoomRule first → LeadsThrough calls first last
-        → (area level words : ℕ) → area < areas_of last → level < levels_of last → 0 < words → words ≤ 2048
+        → (area level words : ℕ) → area < areas_of last → level < levels_of last → 0 < words → words ≤ MAX_OBJECT_WORDS
         → words_of_area last area + words ≤ 2 * quota_of last area → HasPlace last (slot_of last area level) words }
 {}
 
@@ -45,9 +47,9 @@ pub fn fresh_ground()
 /// word has no address in a free region.
 pub fn stores_keep_ground()
     ensures ground { (old new : Store) (t : Table) (at : ℕ) (word : Parts) → IsGround old t → Stores old new at word
-        → at % 4096 < used_of t (at / 4096) → IsGround new t }
+        → at % REGION_WORDS < used_of t (at / REGION_WORDS) → IsGround new t }
     ensures named { (old new : Store) (t : Table) (at : ℕ) (word : Parts) → NamesNoFree old t → Stores old new at word
-        → ((to : ℕ) → address_of word.content ≡ Some to → IsUnclassed t (to / 4096) → ⊥) → NamesNoFree new t }
+        → ((to : ℕ) → address_of word.content ≡ Some to → IsUnclassed t (to / REGION_WORDS) → ⊥) → NamesNoFree new t }
 {}
 
 /// A ground remains one if no word is stored.

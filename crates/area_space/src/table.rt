@@ -18,6 +18,7 @@ use index_lists::Lists;
 use lisp_graph::{AreaKind, Condemn};
 pub use making::fresh_tables_are_sound;
 use std::marker::Model;
+use store_word::REGION_WORDS;
 
 /// The table of the regions of a memory, by number, and of the classes.
 ///
@@ -110,7 +111,7 @@ impl RegionTable {
     pub fn used(&self, region: u32) -> u32
         requires { region < self.now.regions }
         ensures used { result ≡ used_of self.now region }
-        ensures at_most { result ≤ 4096 }
+        ensures at_most { result ≤ REGION_WORDS }
         ensures regions { self.now.regions ≤ 1024 }
     {
         self.used[region as usize]
@@ -128,14 +129,14 @@ impl RegionTable {
     /// has `stale` if and only if the region is old.
     #[inline]
     pub fn class_of(&self, at: u32) -> Option<Class>
-        requires { at / 4096 < self.now.regions }
-        ensures none { IfNone result (IsUnclassed self.now (at / 4096)) }
-        ensures some { IfSome result (λ class. Contains (chain self.now (class_number self.now class)) (at / 4096)) }
+        requires { at / REGION_WORDS < self.now.regions }
+        ensures none { IfNone result (IsUnclassed self.now (at / REGION_WORDS)) }
+        ensures some { IfSome result (λ class. Contains (chain self.now (class_number self.now class)) (at / REGION_WORDS)) }
         ensures area { IfSome result (λ class. class.area < areas_of self.now) }
         ensures level { IfSome result (λ class. class.level < levels_of self.now) }
-        ensures cases { IfSome result (λ class. IsTrue class.stale ↔ IsOld self.now (at / 4096)) }
+        ensures cases { IfSome result (λ class. IsTrue class.stale ↔ IsOld self.now (at / REGION_WORDS)) }
     {
-        match self.class_at(at / 4096) {
+        match self.class_at(at / REGION_WORDS) {
             Some(number) => Some(self.classes[number as usize]),
             None => None,
         }
@@ -154,10 +155,10 @@ impl RegionTable {
     /// look for the region.
     #[inline]
     pub fn is_old(&self, at: u32) -> bool
-        requires { at / 4096 < self.now.regions }
-        ensures { IsTrue result ↔ IsOld self.now (at / 4096) }
+        requires { at / REGION_WORDS < self.now.regions }
+        ensures { IsTrue result ↔ IsOld self.now (at / REGION_WORDS) }
     {
-        self.is_collecting() && self.is_in_old_class(at / 4096)
+        self.is_collecting() && self.is_in_old_class(at / REGION_WORDS)
     }
 
     // Whether a region is in an old class.

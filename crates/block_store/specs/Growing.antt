@@ -4,6 +4,7 @@ use Rattle.store_word.specs.Words.{Parts, null_word}
 use Rattle.store_word.specs.declared.word.CdrCode.TheVariants.{Next}
 use Rattle.store_word.specs.declared.word.Content.{Content}
 use Rattle.store_word.specs.declared.word.Content.TheVariants.{Nil as NilWord, Header, HeaderForward}
+use Rattle.store_word.specs.declared.sizes.TheConstants.{REGION_WORDS}
 use Rattle.area_space.specs.lisp_graph.declared.object.Value.{Value}
 use Rattle.area_space.specs.lisp_graph.declared.object.Value.TheVariants as V
 use Rattle.area_space.specs.lisp_graph.declared.object.Body.TheVariants.{Block}
@@ -71,7 +72,7 @@ pub record PlacesGrown (m : Memory.Store) (t t' : Table) (here at wanted : ℕ) 
   pub header : (word_at m.words here).content ≡ Header code count
   pub area : ℕ
   pub level : ℕ
-  pub class : Contains (chain t (live (slot_of t area level))) (here / 4096)
+  pub class : Contains (chain t (live (slot_of t area level))) (here / REGION_WORDS)
   pub table : Table
   pub placed : PlacesNew t table area level at (grown_length count wanted + 1) (grown_length count wanted + 1)
   pub husk : t' ≡ husked table (live (slot_of t area level)) (count + 1)

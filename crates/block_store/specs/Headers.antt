@@ -3,6 +3,7 @@ use Rattle.std.specs.Prelude.{◌≡◌, ℕ, ◌+◌, ◌/◌, ◌<◌, List, l
 use Rattle.store_word.specs.Words.{Parts}
 use Rattle.store_word.specs.declared.word.Content.{Content}
 use Rattle.store_word.specs.declared.word.Content.TheVariants.{Struct as StructAt, Header}
+use Rattle.store_word.specs.declared.sizes.TheConstants.{REGION_WORDS}
 use Rattle.area_space.specs.lisp_graph.declared.object.Value.{Value}
 use Rattle.area_space.specs.lisp_graph.declared.object.Value.TheVariants as V
 use Rattle.area_space.specs.lisp_graph.declared.world.AreaRule.{AreaRule}
@@ -38,7 +39,7 @@ pub record IsHead (words : List Parts) (content : Content) (head : Head) : Type 
 pub record IsLiveIn (t : Table) (at : ℕ) (class : Class) : Type 0 where
   pub area_in : class.area < areas_of t
   pub level_in : class.level < levels_of t
-  pub region : Contains (chain t (live (slot_of t class.area class.level))) (at / 4096)
+  pub region : Contains (chain t (live (slot_of t class.area class.level))) (at / REGION_WORDS)
 
 -- Objects
 

@@ -2,6 +2,7 @@
 use Rattle.std.specs.Prelude.{◌≡◌, ℕ, ◌+◌, ◌/◌, ◌<◌}
 use Rattle.store_word.specs.declared.word.Content.{Content}
 use Rattle.store_word.specs.declared.word.Content.TheVariants.{Header}
+use Rattle.store_word.specs.declared.sizes.TheConstants.{PAGE_WORDS}
 use Rattle.area_space.specs.lisp_graph.Effect.{grown_length}
 use Rattle.mem_port.specs.Store.{Store, level_of_word}
 use Rattle.area_space.specs.Table.{Table}
@@ -14,5 +15,5 @@ pub record MarksGrown (old : Store) (t : Table) (new : Store) (content : Content
   pub count : ℕ
   pub header : (word_at old.words here).content ≡ Header code count
   pub length_is : TellsLength old t content count
-  pub unmarked : (page : ℕ) → old.marks page ≡ 0 → (here / 256 ≡ page → level_of_word new.levels (word_at new.words here) ≡ 0)
-      → ((i : ℕ) → i < grown_length count wanted + 1 → (at + i) / 256 ≡ page → level_of_word new.levels (word_at new.words (at + i)) ≡ 0) → new.marks page ≡ 0
+  pub unmarked : (page : ℕ) → old.marks page ≡ 0 → (here / PAGE_WORDS ≡ page → level_of_word new.levels (word_at new.words here) ≡ 0)
+      → ((i : ℕ) → i < grown_length count wanted + 1 → (at + i) / PAGE_WORDS ≡ page → level_of_word new.levels (word_at new.words (at + i)) ≡ 0) → new.marks page ≡ 0

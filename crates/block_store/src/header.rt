@@ -16,7 +16,7 @@ use area_space::{Class, Ground, RegionTable};
 use mem_port::Memory;
 use obj_layout::{first_word, resolve_first};
 use std::sync::ledger::Ledger;
-use store_word::{Content, Steps, Tag, Word};
+use store_word::{Content, REGION_WORDS, Steps, Tag, Word};
 
 /// The address of a block, and what its header says.
 #[derive(Clone, Copy)]
@@ -89,8 +89,8 @@ pub fn code<M: Memory, L: Ledger>(
 
 // The class of an address in a live region.
 pub(crate) fn class_of_live(table: &RegionTable, at: u32) -> Class
-    requires in_range { at / 4096 < table.now.regions }
-    requires live { IsLive table.now (at / 4096) }
+    requires in_range { at / REGION_WORDS < table.now.regions }
+    requires live { IsLive table.now (at / REGION_WORDS) }
     ensures { IsLiveIn table.now at result }
 {
     table.assert_invariant();

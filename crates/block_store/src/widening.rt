@@ -10,7 +10,7 @@ ghost use Rattle.block_store.specs.Growing.{CanLayAnew, LaysAnew, grown_word, hu
 use crate::header::Head;
 use mem_port::{Memory, Span, assert_invariant, hold_spans};
 use std::sync::ledger::Ledger;
-use store_word::{Steps, SwapFault, Word};
+use store_word::{PAGE_WORDS, Steps, SwapFault, Word};
 use transporter::copy_words;
 
 // How many of the remaining words are on one page.
@@ -18,9 +18,9 @@ fn on_one_page(at: u32, left: u32) -> u32
     requires { 0 < left }
     ensures some { 0 < result }
     ensures at_most { result ≤ left }
-    ensures page { at % 256 + result ≤ 256 }
+    ensures page { at % PAGE_WORDS + result ≤ PAGE_WORDS }
 {
-    left.min(256 - at % 256)
+    left.min(PAGE_WORDS - at % PAGE_WORDS)
 }
 
 // Writes one word at `count` addresses. Their pages are held, so no swap error occurs. It takes one memory access a

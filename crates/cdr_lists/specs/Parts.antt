@@ -4,6 +4,7 @@ use Rattle.store_word.specs.Words.{Parts}
 use Rattle.store_word.specs.declared.word.CdrCode.TheVariants.{Normal}
 use Rattle.store_word.specs.declared.word.Content.{Content}
 use Rattle.store_word.specs.declared.word.Content.TheVariants.{HeaderForward}
+use Rattle.store_word.specs.declared.sizes.TheConstants.{REGION_WORDS}
 use Rattle.lisp_graph.specs.declared.object.Value.{Value}
 use Rattle.lisp_graph.specs.declared.object.Value.TheVariants as V
 use Rattle.lisp_graph.specs.declared.object.Body.TheVariants.{Cons}
@@ -99,7 +100,7 @@ pub record LaysPair (m : Memory.Store) (t : Table) (m' : Memory.Store) (t' : Tab
   pub area : ℕ
   pub level : ℕ
   pub needed : OpensIfNeeded t room area level 2
-  pub class : Contains (chain room (live (slot_of room area level))) (cell / 4096)
+  pub class : Contains (chain room (live (slot_of room area level))) (cell / REGION_WORDS)
   pub at : ℕ
   pub end : IsEnd room (slot_of room area level) at 2
   pub commit : t' ≡ record (committed room (slot_of room area level) at 2 0 Reserve) { pages = t'.pages }

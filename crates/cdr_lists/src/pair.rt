@@ -13,7 +13,7 @@ use crate::list::CELL;
 use area_space::{Ground, Origin};
 use mem_port::Memory;
 use std::sync::ledger::Ledger;
-use store_word::{CdrCode, Steps, SwapFault, Word};
+use store_word::{CdrCode, LAST_OFFSET, PAGE_WORDS, Steps, SwapFault, Word};
 
 /// The charge of a pair that `cons` makes, in words. They are its two words.
 pub const PAIR: u32 = 2;
@@ -36,7 +36,7 @@ fn write_pair<M: Memory, L: Ledger>(
     ensures accounted { AccountsForFaults (shown M.Memory mem.old) (shown M.Memory mem.new) steps.old steps.new result }
     ensures cost { steps.new ≤ steps.old + 4 }
 {
-    if at % 256 < 255 {
+    if at % PAGE_WORDS < LAST_OFFSET {
         return mem.write_two(at, first, second, steps);
     }
     write_apart(mem, at, first, second, steps)
@@ -52,7 +52,7 @@ fn write_apart<M: Memory, L: Ledger>(
     second: Word,
     steps: &mut Steps<L>,
 ) -> Result<(), SwapFault>
-    requires page { 255 ≤ at % 256 }
+    requires page { LAST_OFFSET ≤ at % PAGE_WORDS }
     requires in_range { at + 1 < length (M.seen mem.old).words }
     requires at_most { length (M.seen mem.old).words ≤ 4194304 }
     ensures pair { OnOk result (Writes (M.seen mem.old) (M.seen mem.new) at 2 (words_of_pair first second)) }
@@ -62,7 +62,7 @@ fn write_apart<M: Memory, L: Ledger>(
     ensures accounted { AccountsForFaults (shown M.Memory mem.old) (shown M.Memory mem.new) steps.old steps.new result }
     ensures cost { steps.new ≤ steps.old + 4 }
 {
-    let page = at / 256;
+    let page = at / PAGE_WORDS;
     mem.hold(&[page, page + 1], steps)?;
     mem.write(at, first, steps)?;
     mem.write(at + 1, second, steps)

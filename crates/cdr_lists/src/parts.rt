@@ -20,7 +20,7 @@ use crate::places::read_cons;
 use area_space::{Ground, Origin};
 use mem_port::Memory;
 use std::sync::ledger::Ledger;
-use store_word::{CdrCode, Steps, SwapFault, Word};
+use store_word::{CdrCode, PAGE_WORDS, Steps, SwapFault, Word};
 use transporter::{fetch, place_for};
 
 /// Writes the car of the cons to which a word refers. The word there keeps its cdr code.
@@ -185,7 +185,7 @@ fn write_relay<M: Memory, L: Ledger>(
     ensures accounted { AccountsForFaults (shown M.Memory mem.old) (shown M.Memory mem.new) steps.old steps.new result }
     ensures cost { steps.new ≤ steps.old + 6 }
 {
-    mem.hold(&[cell / 256, at / 256, (at + 1) / 256], steps)?;
+    mem.hold(&[cell / PAGE_WORDS, at / PAGE_WORDS, (at + 1) / PAGE_WORDS], steps)?;
     mem.write(at, first, steps)?;
     mem.write(at + 1, second, steps)?;
     mem.write(cell, Word::header_forward(at), steps)

@@ -1,6 +1,7 @@
 -- The two lists of frames that represent what callers see.
 use Rattle.std.specs.Prelude.{ℕ, ◌≡◌, ◌+◌, ◌*◌, ◌<◌, ◌≤◌, ◌⊎◌, ◌^◌, Bool, List, length, slice_index, Contains, MatchOption}
 use Rattle.store_word.specs.Words.{Parts}
+use Rattle.store_word.specs.declared.sizes.TheConstants.{PAGE_WORDS}
 use Rattle.index_lists.specs.Chains.{Chains, list_at, last_of, IsSound}
 use Rattle.frame_pool.specs.Pool.{Pool}
 
@@ -19,6 +20,6 @@ pub record PoolInvariant (c : Chains) (p : Pool) : Type 0 where
   pub nodes : c.nodes ≡ length p.pages
   pub few : length p.pages ≤ 4096
   pub tag_each : length p.tags ≡ length p.pages
-  pub words_each : length p.words ≡ 256 * length p.pages
+  pub words_each : length p.words ≡ PAGE_WORDS * length p.pages
   pub each : (frame : ℕ) → frame < length p.pages → Contains p.free frame ⊎ Contains p.used frame
   pub all : length p.free + length p.used ≡ length p.pages

@@ -2,6 +2,7 @@
 use Rattle.std.specs.Prelude.{ℕ, ◌≡◌, ◌+◌, ◌*◌, ◌<◌, ◌≤◌, ◌⊎◌, Bool, false, eqb, Option, List, [], ◌∷◌, ◌++◌, length, replicate, slice_set, slice_index, slice_index_or, Contains}
 use Rattle.std.specs.List.{range_with_len, IsDistinct}
 use Rattle.store_word.specs.Words.{Parts, null_word}
+use Rattle.store_word.specs.declared.sizes.TheConstants.{PAGE_WORDS}
 use Rattle.index_lists.specs.Chains.{without}
 use Rattle.frame_pool.specs.Fills.{Fills}
 
@@ -20,7 +21,7 @@ fresh_pool n = record {
   used = [];
   pages = replicate n 0;
   tags = replicate n false;
-  words = replicate (n * 256) null_word;
+  words = replicate (n * PAGE_WORDS) null_word;
 }
 
 -- how many frames there are
@@ -64,7 +65,7 @@ with_latest p frame = record p { used = without frame p.used ++ frame ∷ [] }
 pub record IsPool (p : Pool) : Type 0 where
   pub few : frames_of p ≤ 4096
   pub tag_each : length p.tags ≡ frames_of p
-  pub words_each : length p.words ≡ 256 * frames_of p
+  pub words_each : length p.words ≡ PAGE_WORDS * frames_of p
   pub each : (frame : ℕ) → frame < frames_of p → Contains p.free frame ⊎ Contains p.used frame
   pub free_in : (frame : ℕ) → Contains p.free frame → frame < frames_of p
   pub used_in : (frame : ℕ) → Contains p.used frame → frame < frames_of p

@@ -10,7 +10,7 @@ use crate::words::FrameWords;
 use index_lists::Lists;
 use std::alloc::Global;
 use std::marker::Model;
-use store_word::{NoMemory, Word};
+use store_word::{NoMemory, PAGE_WORDS, Word};
 
 // The list of the free frames.
 const FREE: u32 = 0;
@@ -100,7 +100,7 @@ impl FramePool {
     /// the most recently used.
     pub fn take_filled(&mut self, frame: u32, page: u32, from: &[Word])
         requires free { Contains self.old.free frame }
-        requires page { length from.now ≡ 256 }
+        requires page { length from.now ≡ PAGE_WORDS }
         ensures taken { Takes self.old self.new frame page (slice_get from.now) }
         ensures used { Contains self.new.used frame }
         ensures in_range { frame < frames_of self.new }
@@ -237,9 +237,9 @@ impl FramePool {
     /// The 256 words of a frame.
     pub fn words(&self, frame: u32) -> &[Word]
         requires { frame < frames_of self.now }
-        ensures size { length result.now ≡ 256 }
-        ensures words { (k : ℕ) → k < 256
-            → slice_get result.now k ≡ slice_get self.now.words (256 * frame + k) }
+        ensures size { length result.now ≡ PAGE_WORDS }
+        ensures words { (k : ℕ) → k < PAGE_WORDS
+            → slice_get result.now k ≡ slice_get self.now.words (PAGE_WORDS * frame + k) }
         ensures sound { IsPool self.now }
     {
         self.words.page(frame)
@@ -249,8 +249,8 @@ impl FramePool {
     #[inline]
     pub fn word(&self, frame: u32, offset: u32) -> Word
         requires frame { frame < frames_of self.now }
-        requires in_range { offset < 256 }
-        ensures value { result ≡ slice_index_or self.now.words (256 * frame + offset) null_word }
+        requires in_range { offset < PAGE_WORDS }
+        ensures value { result ≡ slice_index_or self.now.words (PAGE_WORDS * frame + offset) null_word }
         ensures sound { IsPool self.now }
     {
         self.words.word(frame, offset)
@@ -259,9 +259,9 @@ impl FramePool {
     /// Changes one word of a frame. The offset is below 256.
     pub fn set_word(&mut self, frame: u32, offset: u32, word: Word)
         requires frame { frame < frames_of self.old }
-        requires in_range { offset < 256 }
+        requires in_range { offset < PAGE_WORDS }
         ensures set { self.new
-            ≡ record (self.old) { words = slice_set self.old.words (256 * frame + offset) word } }
+            ≡ record (self.old) { words = slice_set self.old.words (PAGE_WORDS * frame + offset) word } }
         ensures sound { IsPool self.new }
     {
         self.words.set(frame, offset, word);
@@ -270,9 +270,9 @@ impl FramePool {
     /// Changes two consecutive words of a frame. Both offsets are below 256.
     pub fn set_two(&mut self, frame: u32, offset: u32, first: Word, second: Word)
         requires frame { frame < frames_of self.old }
-        requires in_range { offset + 1 < 256 }
+        requires in_range { offset + 1 < PAGE_WORDS }
         ensures set { self.new
-            ≡ record (self.old) { words = slice_set (slice_set self.old.words (256 * frame + offset) first) (256 * frame + (offset + 1)) second } }
+            ≡ record (self.old) { words = slice_set (slice_set self.old.words (PAGE_WORDS * frame + offset) first) (PAGE_WORDS * frame + (offset + 1)) second } }
         ensures sound { IsPool self.new }
     {
         self.words.set_two(frame, offset, first, second);
@@ -281,7 +281,7 @@ impl FramePool {
     /// The 256 words of a frame become those of a slice.
     pub fn fill(&mut self, frame: u32, from: &[Word])
         requires frame { frame < frames_of self.old }
-        requires page { length from.now ≡ 256 }
+        requires page { length from.now ≡ PAGE_WORDS }
         ensures words { Fills self.old.words self.new.words frame (slice_get from.now) }
         ensures unchanged { self.new ≡ record (self.old) { words = self.new.words } }
         ensures sound { IsPool self.new }
@@ -293,10 +293,10 @@ impl FramePool {
     /// same one. Both places are within their frame.
     pub fn copy_words(&mut self, from_frame: u32, from: u32, to_frame: u32, to: u32, count: u32)
         requires from_held { from_frame < frames_of self.old }
-        requires from { from + count ≤ 256 }
+        requires from { from + count ≤ PAGE_WORDS }
         requires to_held { to_frame < frames_of self.old }
-        requires to { to + count ≤ 256 }
-        ensures words { FillsSpan self.old.words self.new.words (256 * to_frame + to) count (λ i. slice_index_or self.old.words (256 * from_frame + from + i) null_word) }
+        requires to { to + count ≤ PAGE_WORDS }
+        ensures words { FillsSpan self.old.words self.new.words (PAGE_WORDS * to_frame + to) count (λ i. slice_index_or self.old.words (PAGE_WORDS * from_frame + from + i) null_word) }
         ensures unchanged { self.new ≡ record (self.old) { words = self.new.words } }
         ensures sound { IsPool self.new }
     {
@@ -306,8 +306,8 @@ impl FramePool {
     /// Writes one word to `count` offsets of a frame, from one on. All are below 256.
     pub fn fill_words(&mut self, frame: u32, from: u32, count: u32, word: Word)
         requires frame { frame < frames_of self.old }
-        requires from { from + count ≤ 256 }
-        ensures words { FillsSpan self.old.words self.new.words (256 * frame + from) count (λ _. word) }
+        requires from { from + count ≤ PAGE_WORDS }
+        ensures words { FillsSpan self.old.words self.new.words (PAGE_WORDS * frame + from) count (λ _. word) }
         ensures unchanged { self.new ≡ record (self.old) { words = self.new.words } }
         ensures sound { IsPool self.new }
     {

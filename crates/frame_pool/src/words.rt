@@ -5,10 +5,10 @@ ghost use Rattle.frame_pool.specs.Fills.{Fills, FillsSpan};
 
 use std::alloc::Global;
 use std::marker::Model;
-use store_word::{NoMemory, Word};
+use store_word::{NoMemory, PAGE_WORDS, Word};
 
 // The words of a frame.
-const PAGE_WORDS: usize = 256;
+const PAGE_WORDS: usize = PAGE_WORDS;
 
 /// The words of all frames. Those of the first frames are stored, up to the last frame that was ever written to; the others
 /// are NULL. `new` reserves room for all of them, but doesn't touch it.
@@ -26,16 +26,16 @@ impl Model for FrameWords {
 
     ghost Value = { List Parts };
 
-    ghost view = { λ w. padded (256 * w.frames) w.stored.items };
+    ghost view = { λ w. padded (PAGE_WORDS * w.frames) w.stored.items };
 
-    ghost invariant = { λ w. IsStored w.frames (vec_capacity w.stored) w.stored.items × (w.blank.items ≡ replicate 256 null_word) };
+    ghost invariant = { λ w. IsStored w.frames (vec_capacity w.stored) w.stored.items × (w.blank.items ≡ replicate PAGE_WORDS null_word) };
 }
 
 impl FrameWords {
     /// The words of this many frames, at most 4,096, all of them NULL. No later call allocates memory.
     pub(crate) fn new(alloc: Global, frames: u32) -> Result<FrameWords, NoMemory>
         requires { frames ≤ 4096 }
-        ensures { IfOk result (λ words. words ≡ replicate (frames * 256) null_word) }
+        ensures { IfOk result (λ words. words ≡ replicate (frames * PAGE_WORDS) null_word) }
     {
         let stored = Vec::with_capacity(alloc, frames as usize * PAGE_WORDS)?;
         let blank = vec![in alloc; Word::null(); PAGE_WORDS]?;
@@ -48,9 +48,9 @@ impl FrameWords {
 
     /// The 256 words of a frame.
     pub(crate) fn page(&self, frame: u32) -> &[Word]
-        requires { 256 * frame + 256 ≤ length self.now }
-        ensures size { length result.now ≡ 256 }
-        ensures words { (k : ℕ) → k < 256 → slice_get result.now k ≡ slice_get self.now (256 * frame + k) }
+        requires { PAGE_WORDS * frame + PAGE_WORDS ≤ length self.now }
+        ensures size { length result.now ≡ PAGE_WORDS }
+        ensures words { (k : ℕ) → k < PAGE_WORDS → slice_get result.now k ≡ slice_get self.now (PAGE_WORDS * frame + k) }
     {
         let start = frame as usize * PAGE_WORDS;
         if start < self.stored.len() {
@@ -63,9 +63,9 @@ impl FrameWords {
     /// One word of a frame.
     #[inline]
     pub(crate) fn word(&self, frame: u32, offset: u32) -> Word
-        requires frame { 256 * frame + 256 ≤ length self.now }
-        requires in_range { offset < 256 }
-        ensures { result ≡ slice_index_or self.now (256 * frame + offset) null_word }
+        requires frame { PAGE_WORDS * frame + PAGE_WORDS ≤ length self.now }
+        requires in_range { offset < PAGE_WORDS }
+        ensures { result ≡ slice_index_or self.now (PAGE_WORDS * frame + offset) null_word }
     {
         let at = frame as usize * PAGE_WORDS + offset as usize;
         if at < self.stored.len() {
@@ -77,9 +77,9 @@ impl FrameWords {
 
     /// Changes one word of a frame.
     pub(crate) fn set(&mut self, frame: u32, offset: u32, word: Word)
-        requires frame { 256 * frame + 256 ≤ length self.old }
-        requires in_range { offset < 256 }
-        ensures { self.new ≡ slice_set self.old (256 * frame + offset) word }
+        requires frame { PAGE_WORDS * frame + PAGE_WORDS ≤ length self.old }
+        requires in_range { offset < PAGE_WORDS }
+        ensures { self.new ≡ slice_set self.old (PAGE_WORDS * frame + offset) word }
     {
         let start = frame as usize * PAGE_WORDS;
         reach(&mut self.stored, start + PAGE_WORDS);
@@ -88,9 +88,9 @@ impl FrameWords {
 
     /// Changes two consecutive words of a frame.
     pub(crate) fn set_two(&mut self, frame: u32, offset: u32, first: Word, second: Word)
-        requires frame { 256 * frame + 256 ≤ length self.old }
-        requires in_range { offset + 1 < 256 }
-        ensures { self.new ≡ slice_set (slice_set self.old (256 * frame + offset) first) (256 * frame + (offset + 1)) second }
+        requires frame { PAGE_WORDS * frame + PAGE_WORDS ≤ length self.old }
+        requires in_range { offset + 1 < PAGE_WORDS }
+        ensures { self.new ≡ slice_set (slice_set self.old (PAGE_WORDS * frame + offset) first) (PAGE_WORDS * frame + (offset + 1)) second }
     {
         let start = frame as usize * PAGE_WORDS;
         reach(&mut self.stored, start + PAGE_WORDS);
@@ -101,8 +101,8 @@ impl FrameWords {
 
     /// The words of one frame become those of a slice.
     pub(crate) fn fill(&mut self, frame: u32, from: &[Word])
-        requires in_range { 256 * frame + 256 ≤ length self.old }
-        requires page { length from.now ≡ 256 }
+        requires in_range { PAGE_WORDS * frame + PAGE_WORDS ≤ length self.old }
+        requires page { length from.now ≡ PAGE_WORDS }
         ensures { Fills self.old self.new frame (slice_get from.now) }
     {
         reach(&mut self.stored, frame as usize * PAGE_WORDS + PAGE_WORDS);
@@ -111,7 +111,7 @@ impl FrameWords {
 
     /// The words of one frame become NULL.
     pub(crate) fn clear(&mut self, frame: u32)
-        requires in_range { 256 * frame + 256 ≤ length self.old }
+        requires in_range { PAGE_WORDS * frame + PAGE_WORDS ≤ length self.old }
         ensures { Fills self.old self.new frame (λ _. Some null_word) }
     {
         reach(&mut self.stored, frame as usize * PAGE_WORDS + PAGE_WORDS);
@@ -120,11 +120,11 @@ impl FrameWords {
 
     /// Copies `count` words of a frame, from an offset on, to an offset of a frame, perhaps the same one.
     pub(crate) fn copy(&mut self, from_frame: u32, from: u32, to_frame: u32, to: u32, count: u32)
-        requires from_held { 256 * from_frame + 256 ≤ length self.old }
-        requires from { from + count ≤ 256 }
-        requires to_held { 256 * to_frame + 256 ≤ length self.old }
-        requires to { to + count ≤ 256 }
-        ensures { FillsSpan self.old self.new (256 * to_frame + to) count (λ i. slice_index_or self.old (256 * from_frame + from + i) null_word) }
+        requires from_held { PAGE_WORDS * from_frame + PAGE_WORDS ≤ length self.old }
+        requires from { from + count ≤ PAGE_WORDS }
+        requires to_held { PAGE_WORDS * to_frame + PAGE_WORDS ≤ length self.old }
+        requires to { to + count ≤ PAGE_WORDS }
+        ensures { FillsSpan self.old self.new (PAGE_WORDS * to_frame + to) count (λ i. slice_index_or self.old (PAGE_WORDS * from_frame + from + i) null_word) }
     {
         let start = from_frame as usize * PAGE_WORDS;
         let target = to_frame as usize * PAGE_WORDS;
@@ -139,9 +139,9 @@ impl FrameWords {
 
     /// Writes one word to `count` offsets of a frame, from one on.
     pub(crate) fn fill_span(&mut self, frame: u32, from: u32, count: u32, word: Word)
-        requires frame { 256 * frame + 256 ≤ length self.old }
-        requires from { from + count ≤ 256 }
-        ensures { FillsSpan self.old self.new (256 * frame + from) count (λ _. word) }
+        requires frame { PAGE_WORDS * frame + PAGE_WORDS ≤ length self.old }
+        requires from { from + count ≤ PAGE_WORDS }
+        ensures { FillsSpan self.old self.new (PAGE_WORDS * frame + from) count (λ _. word) }
     {
         let start = frame as usize * PAGE_WORDS;
         reach(&mut self.stored, start + PAGE_WORDS);
@@ -179,8 +179,8 @@ fn store_more(stored: &mut Vec<Word>, end: usize)
 
 // The words of one frame become those of a slice.
 fn fill_frame(words: &mut [Word], frame: u32, from: &[Word])
-    requires in_range { 256 * frame + 256 ≤ length words.old }
-    requires page { length from.now ≡ 256 }
+    requires in_range { PAGE_WORDS * frame + PAGE_WORDS ≤ length words.old }
+    requires page { length from.now ≡ PAGE_WORDS }
     ensures { Fills words.old words.new frame (slice_get from.now) }
 {
     let start = frame as usize * PAGE_WORDS;
@@ -189,7 +189,7 @@ fn fill_frame(words: &mut [Word], frame: u32, from: &[Word])
 
 // The words of one frame become NULL.
 fn clear_frame(words: &mut [Word], frame: u32)
-    requires in_range { 256 * frame + 256 ≤ length words.old }
+    requires in_range { PAGE_WORDS * frame + PAGE_WORDS ≤ length words.old }
     ensures { Fills words.old words.new frame (λ _. Some null_word) }
 {
     let start = frame as usize * PAGE_WORDS;

@@ -1,5 +1,6 @@
 -- What a scan does: how many units it scans, how many words it places, and how many transports it makes.
 use Rattle.std.specs.Prelude.{◌≡◌, ◌≢◌, ℕ, ◌+◌, ◌-◌, ◌*◌, ◌<◌, ◌≤◌, ◌⊎◌, true, None}
+use Rattle.store_word.specs.declared.sizes.TheConstants.{MAX_OBJECT_WORDS}
 use Rattle.lisp_graph.specs.Totals.{total}
 use Rattle.area_space.specs.Table.{Table, used_of}
 use Rattle.heap_state.specs.Views.{HasScannedAhead, RepresentsAll}
@@ -53,6 +54,6 @@ pub record ScansUnits (old new : MachineView) (limit before after : ℕ) : Type 
   -- it is the same collection
   pub begun : new.scan.begun ≡ old.scan.begun
   -- at most 2,048 words were placed for each unit
-  pub at_most : new.ground.table.placed ≤ old.ground.table.placed + 2048 * (new.scan.done - old.scan.done)
+  pub at_most : new.ground.table.placed ≤ old.ground.table.placed + MAX_OBJECT_WORDS * (new.scan.done - old.scan.done)
   -- at most 48 memory accesses for each unit, and 4 for each word placed
   pub cost : after ≤ before + 4 * (new.ground.table.placed - old.ground.table.placed) + 48 * (new.scan.done - old.scan.done)

@@ -1,6 +1,7 @@
 -- What flips and reclaims do.
 use Rattle.std.specs.Prelude.{◌≡◌, ◌*◌, ◌≤◌, List, [], None, false, true, length}
 use Rattle.store_word.specs.Words.{Parts}
+use Rattle.store_word.specs.declared.sizes.TheConstants.{REGION_PAGES}
 use Rattle.lisp_graph.specs.declared.command.Condemn.{Condemn}
 use Rattle.area_space.specs.Flips.{Condemns}
 use Rattle.area_space.specs.Frees.{Frees}
@@ -22,7 +23,7 @@ pub record BeginsCollection (old new : GroundView) (scan scan' : Scan) (what : C
   pub table : Condemns old.table (record new.table { pages = [] }) what
   -- the registers and the base pages, at most 16 for each region, remain to be scanned
   pub begins : Begins new what scan scan'
-  pub at_most : base_pages new what ≤ 16 * old.table.regions
+  pub at_most : base_pages new what ≤ REGION_PAGES * old.table.regions
   pub going : scan'.over ≡ false
   -- nothing was scanned or placed
   pub done : scan'.done ≡ 0

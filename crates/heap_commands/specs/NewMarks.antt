@@ -1,6 +1,7 @@
 -- Which pages get marks by a command that makes an object.
 use Rattle.std.specs.Prelude.{◌≡◌, ◌⊎◌, ℕ, ◌+◌, ◌/◌, ◌<◌, ◌≤◌, List, Some, get_or}
 use Rattle.store_word.specs.Words.{Parts, null_word}
+use Rattle.store_word.specs.declared.sizes.TheConstants.{PAGE_WORDS}
 use Rattle.mem_port.specs.Store.{Store, level_of_word}
 use Rattle.area_space.specs.Table.{Table}
 use Rattle.block_store.specs.lisp_meaning.Roles.{RoleMap}
@@ -23,7 +24,7 @@ pub record MarksMade (m : Store) (t : Table) (m' : Store) (t' : Table) (word : P
   pub at : ℕ
   pub final : Final m'.words address at
   pub placed : (a : ℕ) → at ≤ a → a < at + count → IsPlaced t t' a
-  pub unmarked : (page : ℕ) → m.marks page ≡ 0 → (m'.marks page ≡ 0) ⊎ ((a : ℕ) × (a / 256 ≡ page) × GivesMarks m t m' t' at count a)
+  pub unmarked : (page : ℕ) → m.marks page ≡ 0 → (m'.marks page ≡ 0) ⊎ ((a : ℕ) × (a / PAGE_WORDS ≡ page) × GivesMarks m t m' t' at count a)
 
 -- for a block that grows, the object is the wider block, whose words are its charge in each state that was represented
 abbrev pub MarksGrowth : Store → Table → List Parts → Store → Table → ℕ → ℕ → Type 0

@@ -1,6 +1,7 @@
 -- How a scan set agrees with the state.
 use Rattle.std.specs.Prelude.{◌≡◌, ℕ, ◌+◌, ◌*◌, ◌≤◌, true, false, List, length}
 use Rattle.store_word.specs.Words.{Parts}
+use Rattle.store_word.specs.declared.sizes.TheConstants.{REGION_PAGES}
 use Rattle.mem_port.specs.Store.{Store}
 use Rattle.area_space.specs.Table.{Table}
 use Rattle.transporter.specs.lisp_meaning.State.{Phase, Idle, Running, Collection}
@@ -15,7 +16,7 @@ use Rattle.scavenger.specs.Collecting.{ScanInvariant}
 pub record IsScanless (t : Table) (scan : Scan) (registers : List Parts) : Type 0 where
   pub over : scan.over ≡ true
   pub count : length registers ≡ scan.registers
-  pub pages : length scan.pages ≡ 16 * t.regions
+  pub pages : length scan.pages ≡ REGION_PAGES * t.regions
 
 -- a collection's scan, of which `ahead` more units were scanned than are paid
 pub record Sweeps (m : Store) (t : Table) (scan : Scan) (registers : List Parts) (k : RoleMap) (s : M.Store) (c : Collection) (ahead : ℕ) : Type 0 where

@@ -13,7 +13,7 @@ ghost use Rattle.heap_state.specs.Settled.{IsSettled, NoOldAddressesInRegisters}
 use area_space::Ground;
 use mem_port::Memory;
 use std::sync::ledger::Ledger;
-use store_word::{Steps, SwapFault, Word};
+use store_word::{MAX_OBJECT_WORDS, Steps, SwapFault, Word};
 use transporter::settle;
 
 /// Settles a register (the read barrier): if its word refers to an old address, the word gets the live
@@ -54,7 +54,7 @@ pub fn settle_register<M: Memory, L: Ledger>(
     ensures accounted { AccountsForFaults (view ground.old).mem (view ground.new).mem steps.old steps.new result }
 
     // What is placed, and the cost.
-    ensures at_most { ground.new.table.placed ≤ ground.old.table.placed + 2048 }
+    ensures at_most { ground.new.table.placed ≤ ground.old.table.placed + MAX_OBJECT_WORDS }
     ensures cost { OnOk result (steps.new ≤ steps.old + 4 * (ground.new.table.placed - ground.old.table.placed) + 46) }
 {
     let word = registers[register as usize];
@@ -98,7 +98,7 @@ pub fn settle_items<M: Memory, L: Ledger>(
     ensures accounted { AccountsForFaults (view ground.old).mem (view ground.new).mem steps.old steps.new result }
 
     // What is placed, and the cost.
-    ensures at_most { ground.new.table.placed ≤ ground.old.table.placed + 2048 * length items.now }
+    ensures at_most { ground.new.table.placed ≤ ground.old.table.placed + MAX_OBJECT_WORDS * length items.now }
     ensures cost { OnOk result (steps.new ≤ steps.old + 4 * (ground.new.table.placed - ground.old.table.placed) + 46 * length items.now) }
 {
     if !ground.table.is_collecting() {

@@ -3,6 +3,7 @@ use Rattle.std.specs.Prelude.{ℕ, ◌*◌, ◌/◌, ◌%◌, ◌==◌, not, eqb
 use Rattle.std.specs.List.{range_with_len}
 use Rattle.store_word.specs.Words.{null_word}
 use Rattle.store_word.specs.declared.space.Space.{Space}
+use Rattle.store_word.specs.declared.sizes.TheConstants.{REGION_WORDS}
 use Rattle.lisp_graph.specs.declared.command.Condemn.{Condemn}
 use Rattle.lisp_graph.specs.declared.world.AreaKind.{AreaKind}
 use Rattle.area_space.specs.mem_port.Swaps.{Swaps}
@@ -93,7 +94,7 @@ region_line heap region class = owned_line heap.table region (class / 2 / levels
 -- a region that isn't free, and its used words
 abbrev pub lines_of_class : HeapView → ℕ → Option ℕ → List ℕ
 lines_of_class heap region None = []
-lines_of_class heap region (Some class) = region_line heap region class ++ flat_map (word_line heap) (range_with_len (4096 * region) (used_of heap.table region))
+lines_of_class heap region (Some class) = region_line heap region class ++ flat_map (word_line heap) (range_with_len (REGION_WORDS * region) (used_of heap.table region))
 
 abbrev pub region_lines : HeapView → ℕ → List ℕ
 region_lines heap region = lines_of_class heap region (class_at heap.table region)

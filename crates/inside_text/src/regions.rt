@@ -11,6 +11,7 @@ use crate::line::{PagedHeap, Told, tell_line, tell_marked};
 use area_space::{Class, RegionTable};
 use itoa::Buffer;
 use outer_ports::{Sink, SinkBuffer};
+use store_word::REGION_WORDS;
 
 /// The word for a region's age: old or live.
 fn age_word(old: bool) -> &'static [u8]
@@ -62,7 +63,7 @@ fn tell_owned<K: Sink>(
 
 /// Gathers the line of a word of memory.
 fn tell_word<K: Sink>(buffer: &mut SinkBuffer, sink: &mut K, heap: &PagedHeap, at: u32) -> Told
-    requires { at < 4096 * heap.now.table.regions }
+    requires { at < REGION_WORDS * heap.now.table.regions }
     ensures gathers { Gathers (K.stands sink.old) (K.stands sink.new)
         buffer.old.pending buffer.new.pending (word_line heap.now at) result }
     ensures cause { HasCause (K.faults sink.old) (K.faults sink.new) result }
@@ -82,12 +83,12 @@ fn tell_words_in<K: Sink>(
 ) -> Told
     requires { region < heap.now.table.regions }
     ensures gathers { Gathers (K.stands sink.old) (K.stands sink.new)
-        buffer.old.pending buffer.new.pending (flat_map (word_line heap.now) (range_with_len (4096 * region) (used_of heap.now.table region))) result }
+        buffer.old.pending buffer.new.pending (flat_map (word_line heap.now) (range_with_len (REGION_WORDS * region) (used_of heap.now.table region))) result }
     ensures cause { HasCause (K.faults sink.old) (K.faults sink.new) result }
     ensures last { OnErr result (FailedLast (K.faults sink.old) (K.faults sink.new) (K.failed sink.new)) }
 {
     for offset in 0..heap.ground().table.used(region) {
-        tell_word(buffer, sink, heap, 4096 * region + offset)?;
+        tell_word(buffer, sink, heap, REGION_WORDS * region + offset)?;
     }
     Ok(())
 }
@@ -108,7 +109,7 @@ fn tell_region<K: Sink>(
     let table = &heap.ground().table;
     // This call gives the prover the invariant of the table.
     let _regions = table.regions();
-    match table.class_of(4096 * region) {
+    match table.class_of(REGION_WORDS * region) {
         None => Ok(()),
         Some(owner) => {
             tell_owned(buffer, sink, table, region, owner)?;

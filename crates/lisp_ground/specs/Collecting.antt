@@ -1,5 +1,6 @@
 -- Flips and reclaims on a ground.
 use Rattle.std.specs.Prelude.{◌≡◌, ℕ, ◌+◌, ◌*◌, ◌≤◌, true, false}
+use Rattle.area_space.specs.store_word.declared.sizes.TheConstants.{PAGE_WORDS}
 use Rattle.area_space.specs.lisp_graph.declared.command.Condemn.{Condemn}
 use Rattle.area_space.specs.mem_port.Store.{Store, MarksHold}
 use Rattle.area_space.specs.Table.{Table}
@@ -34,7 +35,7 @@ pub record FlipsOn (m : Store) (t u : Table) (rest rest' : Rest) (s : State) (wh
   pub fits : FitsOn m u
   pub registers : rest'.registers ≡ rest.registers
   pub scanned : IsScanned (image_of m u rest') false
-  pub units : units_left (image_of m u rest') ≤ s.space.registers + 256 * pages
+  pub units : units_left (image_of m u rest') ≤ s.space.registers + PAGE_WORDS * pages
 
 -- a reclaim of the table
 pub record ReclaimsOn (m : Store) (t : Table) (m' : Store) (u : Table) (rest rest' : Rest) : Type 0 where

@@ -1,5 +1,6 @@
 -- What always holds of a ground that represents objects.
 use Rattle.std.specs.Prelude.{◌≡◌, ℕ, ◌/◌, List, Some}
+use Rattle.area_space.specs.store_word.declared.sizes.TheConstants.{REGION_WORDS}
 use Rattle.area_space.specs.store_word.Words.{address_of}
 use Rattle.area_space.specs.store_word.declared.word.Content.{Content}
 use Rattle.area_space.specs.lisp_graph.declared.world.AreaRule.{AreaRule}
@@ -39,4 +40,4 @@ pub record GroundInvariant (memory : Store) (t : Table) (k : RoleMap) (top : ℕ
 
 -- a word has no address in a free region
 abbrev pub NamesUsed : Table → Content → Type 0
-NamesUsed t content = (to : ℕ) → address_of content ≡ Some to → IsUnclassed t (to / 4096) → ⊥
+NamesUsed t content = (to : ℕ) → address_of content ≡ Some to → IsUnclassed t (to / REGION_WORDS) → ⊥

@@ -1,5 +1,6 @@
 -- The memory image of a ground: its memory and its table determine the words, the regions, the charges and the marks.
 use Rattle.std.specs.Prelude.{ℕ, ◌*◌, ◌/◌, ◌%◌, Bool, true, false, ◌==◌, eqb, nat_lt, if◌then◌else◌, List, [], length, map, Option, Some, None, slice_index}
+use Rattle.area_space.specs.store_word.declared.sizes.TheConstants.{PAGE_WORDS}
 use Rattle.std.specs.List.{range_with_len, list_any}
 use Rattle.area_space.specs.store_word.Words.{Parts}
 use Rattle.area_space.specs.mem_port.Store.{Store}
@@ -60,7 +61,7 @@ by_class t class numbers area level = if nat_lt level (levels_of t) then slice_i
 -- the first word of a page
 abbrev pub page_start : Option ℕ → Option ℕ
 page_start None = None
-page_start (Some page) = Some (256 * page)
+page_start (Some page) = Some (PAGE_WORDS * page)
 
 -- the image of a ground
 abbrev pub image_of : Store → Table → Rest → Image

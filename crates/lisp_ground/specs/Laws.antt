@@ -1,5 +1,6 @@
 -- Laws of all grounds.
 use Rattle.std.specs.Prelude.{◌≡◌, ◌↔◌, ℕ, suc, ◌+◌, ◌*◌, ◌/◌, ◌%◌, ◌<◌, ◌≤◌, ◌==◌, true, IsTrue, List, length, get_or, Option, Some, None, Contains}
+use Rattle.area_space.specs.store_word.declared.sizes.TheConstants.{PAGE_WORDS, REGION_WORDS}
 use Rattle.area_space.specs.store_word.Words.{Parts}
 use Rattle.area_space.specs.store_word.Sets.{HasLevel}
 use Rattle.area_space.specs.store_word.declared.levels.Levels.{Levels}
@@ -61,8 +62,8 @@ pub record RegionsAreChains : Type 0 where
   pub old_is : (m : Store) (t : Table) (rest : Rest) (r slot : ℕ) → IsTable t → Contains (chain t (stale slot)) r
       → get_or (image_of m t rest).regions r no_region ≡ record { standing = Old; area = slot / levels_of t; level = slot % levels_of t; used = used_of t r }
   pub free_is : (m : Store) (t : Table) (rest : Rest) (r : ℕ) → IsTable t → IsUnclassed t r → get_or (image_of m t rest).regions r no_region ≡ no_region
-  pub live_only : (m : Store) (t : Table) (rest : Rest) → IsTable t → (a : ℕ) → (region (image_of m t rest) a).standing ≡ Live → IsLive t (a / 4096)
-  pub old_only : (m : Store) (t : Table) (rest : Rest) → IsTable t → (a : ℕ) → old_at (image_of m t rest) a ≡ true → IsOld t (a / 4096)
+  pub live_only : (m : Store) (t : Table) (rest : Rest) → IsTable t → (a : ℕ) → (region (image_of m t rest) a).standing ≡ Live → IsLive t (a / REGION_WORDS)
+  pub old_only : (m : Store) (t : Table) (rest : Rest) → IsTable t → (a : ℕ) → old_at (image_of m t rest) a ≡ true → IsOld t (a / REGION_WORDS)
 
 -- the used words of a live class are those of its chain
 abbrev pub UsedWordsAreChains : Type 0
@@ -85,7 +86,7 @@ FreshStands = (m : Store) (w : World) (regions : ℕ) → IsFresh m regions w.sp
 
 -- the page of the latest transport is the table's
 abbrev pub LatestPageIs : Type 0
-LatestPageIs = (m : Store) (t : Table) (rest : Rest) (page : ℕ) → t.last ≡ Some page → (a : ℕ) → on_page_of (image_of m t rest).last_moved a ≡ (a / 256 == page)
+LatestPageIs = (m : Store) (t : Table) (rest : Rest) (page : ℕ) → t.last ≡ Some page → (a : ℕ) → on_page_of (image_of m t rest).last_moved a ≡ (a / PAGE_WORDS == page)
 
 -- while a collection runs, the level of a survivor is that of the table
 abbrev pub SurvivorsAgree : Type 0

@@ -1,5 +1,6 @@
 -- Changes of objects on a ground.
 use Rattle.std.specs.Prelude.{◌≡◌, ℕ, suc, ◌+◌, ◌/◌, ◌<◌, ◌≤◌, List, length, slice_set, slice_get, slice_index, Some, Contains}
+use Rattle.area_space.specs.store_word.declared.sizes.TheConstants.{REGION_WORDS}
 use Rattle.area_space.specs.store_word.Words.{Parts, null_word}
 use Rattle.area_space.specs.store_word.declared.word.CdrCode.TheVariants.{Next as CdrNext, Normal as CdrNormal}
 use Rattle.area_space.specs.store_word.declared.word.Content.TheVariants.{Nil as NilWord, Header, HeaderForward}
@@ -68,7 +69,7 @@ ResettledOn =
 pub record RelaysOn (old : Store) (table : Table) (mid new : Store) (new_table : Table) (a b count area level blank : ℕ) : Type 0 where
   pub area_in : area < areas_of table
   pub level_in : level < levels_of table
-  pub stands : Contains (chain table (live (slot_of table area level))) (a / 4096)
+  pub stands : Contains (chain table (live (slot_of table area level))) (a / REGION_WORDS)
   pub end : IsEnd table (slot_of table area level) b count
   pub writes : WritesWithin old mid b count
   pub rewrites : WritesWithin mid new a (suc blank)

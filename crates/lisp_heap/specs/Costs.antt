@@ -1,5 +1,6 @@
 -- How many units remain to be scanned, and what an allocation scans and takes.
 use Rattle.std.specs.Prelude.{◌≡◌, ◌≢◌, ℕ, ◌+◌, ◌-◌, ◌*◌, ◌<◌, ◌≤◌, ◌⊎◌, if◌then◌else◌, false, true, Option}
+use Rattle.store_word.specs.declared.sizes.TheConstants.{MAX_OBJECT_WORDS}
 use Rattle.lisp_graph.specs.declared.command.Command.{Command}
 use Rattle.lisp_graph.specs.declared.reply.Reply.{Reply}
 use Rattle.lisp_graph.specs.declared.reply.Reply.TheVariants as R
@@ -43,7 +44,7 @@ pub record Costs (old new : HeapView) (before after charge words read : ℕ) : T
   -- at most 128 memory accesses a word charged, 128 a unit that the rate requires, and 8 a word copied
   pub bound : after ≤ before + 128 * charge + 128 * (old.space.rate * charge) + 8 * (new.table.placed - (placed_at old + words))
   -- at most 2,048 words are copied for each unit scanned and for each register read
-  pub copied : new.table.placed ≤ placed_at old + words + 2048 * ((new.scan.done - done_at old) + read)
+  pub copied : new.table.placed ≤ placed_at old + words + MAX_OBJECT_WORDS * ((new.scan.done - done_at old) + read)
 
 -- refused, as the quota allows too little
 abbrev pub IsRefused : Reply → Type 0
@@ -79,14 +80,14 @@ pub record CostsLook (old new : HeapView) (before after : ℕ) : Type 0 where
   -- at most 59 memory accesses, and 4 a word copied
   pub bound : after ≤ before + 59 + 4 * (new.table.placed - placed_at old)
   -- at most 2,048 words are copied
-  pub copied : new.table.placed ≤ placed_at old + 2048
+  pub copied : new.table.placed ≤ placed_at old + MAX_OBJECT_WORDS
 
 -- the same after the silent steps
 pub record LookCosts (scan scan' : Scan) (t t' : Table) (before after : ℕ) : Type 0 where
   pub still : scan' ≡ scan
   pub grows : t.placed ≤ t'.placed
   pub bound : after ≤ before + 59 + 4 * (t'.placed - t.placed)
-  pub copied : t'.placed ≤ t.placed + 2048
+  pub copied : t'.placed ≤ t.placed + MAX_OBJECT_WORDS
 
 -- After a call with this reply the counts of units and words are no less than before it, a scan that had finished still has, and it is the same collection if the block grew.
 pub record ScanGoesOn (scan scan' : Scan) (t t' : Table) (r : Reply) : Type 0 where
@@ -101,4 +102,4 @@ pub record Spends (scan scan' : Scan) (t t' : Table) (rate charge fixed read bef
   pub amount : Amount scan scan' (rate * charge)
   pub grown : t.placed + charge ≤ t'.placed
   pub bound : after ≤ before + fixed + 4 * (t'.placed - t.placed) + 48 * (scan'.done - scan.done)
-  pub copied : t'.placed ≤ t.placed + charge + 2048 * ((scan'.done - scan.done) + read)
+  pub copied : t'.placed ≤ t.placed + charge + MAX_OBJECT_WORDS * ((scan'.done - scan.done) + read)

@@ -1,6 +1,7 @@
 -- A block that grows on a ground: it is looked at, units are scanned, and its wider words are made.
 use Rattle.std.specs.Prelude.{◌≡◌, ◌≢◌, ℕ, ◌+◌, ◌≤◌, List, None}
 use Rattle.store_word.specs.Words.{Parts}
+use Rattle.store_word.specs.declared.sizes.TheConstants.{MAX_OBJECT_WORDS}
 use Rattle.area_space.specs.View.{GroundView}
 use Rattle.scavenger.specs.Scan.{Scan}
 use Rattle.scavenger.specs.Views.{ScansUpTo}
@@ -20,5 +21,5 @@ pub record LooksAndWidens (v v' : GroundView) (scan scan' : Scan) (registers reg
   pub words : List Parts
   pub others : RegistersPreserved ground.table registers words
   pub table : OnlyGrows v.table ground.table
-  pub few : ground.table.placed ≤ v.table.placed + 2048
+  pub few : ground.table.placed ≤ v.table.placed + MAX_OBJECT_WORDS
   pub widens : ScansAndWidens ground v' scan scan' words registers' charge limit

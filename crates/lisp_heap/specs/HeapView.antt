@@ -3,6 +3,7 @@ use Rattle.std.specs.Prelude.{◌≡◌, ℕ, ◌*◌, List, length, map, slice_
 use Rattle.std.specs.List.{range_with_len}
 use Rattle.store_word.specs.Words.{Parts}
 use Rattle.store_word.specs.declared.space.Space.{Space}
+use Rattle.store_word.specs.declared.sizes.TheConstants.{REGION_PAGES}
 use Rattle.mem_port.specs.Store.{Store}
 use Rattle.mem_port.specs.Swaps.{Swaps}
 use Rattle.mem_port.specs.declared.memory.Memory.{Ghosts}
@@ -19,7 +20,7 @@ pub record MemoryLists : Type 0 where
 
 -- the marks of all pages, 16 of each region
 abbrev pub lists_of : Store → MemoryLists
-lists_of s = record { words = s.words; levels = s.levels; marks = map s.marks (range_with_len 0 (16 * length s.levels)); top = s.top }
+lists_of s = record { words = s.words; levels = s.levels; marks = map s.marks (range_with_len 0 (REGION_PAGES * length s.levels)); top = s.top }
 
 abbrev pub store_of : MemoryLists → Store
 store_of lists = record { words = lists.words; levels = lists.levels; marks = λ page. slice_index lists.marks page; top = lists.top }

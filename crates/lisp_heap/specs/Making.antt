@@ -1,6 +1,7 @@
 -- In which order an allocation scans and makes its object.
 use Rattle.std.specs.Prelude.{◌≡◌, ◌≢◌, ℕ, ◌+◌, ◌*◌, ◌≤◌, true, false, List, None, IfSome}
 use Rattle.store_word.specs.Words.{Parts}
+use Rattle.store_word.specs.declared.sizes.TheConstants.{MAX_OBJECT_WORDS}
 use Rattle.lisp_graph.specs.declared.command.Condemn.TheVariants.{Chosen}
 use Rattle.area_space.specs.Table.{Table}
 use Rattle.heap_state.specs.transporter.LiveWordsUnchanged.{OnlyGrows}
@@ -33,7 +34,7 @@ pub record ScansThenMakes (from : Moment) (new : HeapView) (limit words read : �
   pub idle : from.table.aim ≡ None → scanned ≡ from
   pub still : new.scan ≡ scanned.scan
   pub grows : scanned.table.placed ≤ new.table.placed
-  pub few : new.table.placed ≤ scanned.table.placed + words + 2048 * read
+  pub few : new.table.placed ≤ scanned.table.placed + words + MAX_OBJECT_WORDS * read
 
 -- An allocation with this charge scans first, and then makes its object. After the silent steps `old.space.rate * charge` units were scanned, or all that remained.
 pub record ScansFirst (old new : HeapView) (charge words read : ℕ) : Type 0 where
@@ -46,7 +47,7 @@ pub record Looks (from next : Moment) : Type 0 where
   pub scan : next.scan ≡ from.scan
   pub registers : RegistersPreserved next.table from.registers next.registers
   pub table : OnlyGrows from.table next.table
-  pub few : next.table.placed ≤ from.table.placed + 2048
+  pub few : next.table.placed ≤ from.table.placed + MAX_OBJECT_WORDS
 
 -- A block that grows with this charge is looked at after the silent steps. Then units are scanned, as for any allocation, and then its wider words are made.
 pub record ScansBeforeGrowth (old new : HeapView) (charge : ℕ) : Type 0 where

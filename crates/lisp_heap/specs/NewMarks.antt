@@ -1,6 +1,7 @@
 -- Which pages a command may have marked that made an object.
 use Rattle.std.specs.Prelude.{◌≡◌, ◌⊎◌, ℕ, ◌+◌, ◌/◌, ◌<◌, ◌≤◌, Some}
 use Rattle.store_word.specs.Words.{Parts}
+use Rattle.store_word.specs.declared.sizes.TheConstants.{PAGE_WORDS}
 use Rattle.lisp_graph.specs.declared.command.Command.{Command}
 use Rattle.lisp_graph.specs.declared.reply.Reply.TheVariants as R
 use Rattle.mem_port.specs.Store.{level_of_word}
@@ -21,4 +22,4 @@ pub record MarksMade (c : Command) (old new : HeapView) (word : Parts) (count : 
   pub at : ℕ
   pub final : Final new.memory.words address at
   pub placed : (a : ℕ) → at ≤ a → a < at + count → WasPlaced old.table new.table a
-  pub unmarked : (page : ℕ) → (store_of old.memory).marks page ≡ 0 → ((store_of new.memory).marks page ≡ 0) ⊎ ((a : ℕ) × (a / 256 ≡ page) × GaveMarks c old new at count a)
+  pub unmarked : (page : ℕ) → (store_of old.memory).marks page ≡ 0 → ((store_of new.memory).marks page ≡ 0) ⊎ ((a : ℕ) × (a / PAGE_WORDS ≡ page) × GaveMarks c old new at count a)

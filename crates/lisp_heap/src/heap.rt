@@ -32,7 +32,7 @@ use mem_port::{Memory, assert_invariant};
 use scavenger::ScanSet;
 use std::alloc::Global;
 use std::marker::Model;
-use store_word::{NoMemory, Refused, Space, SwapFault, Word};
+use store_word::{NoMemory, REGION_PAGES, Refused, Space, SwapFault, Word};
 
 /// A heap over a memory. Of its commands only `dump` takes memory from the allocator.
 #[derive(Drop)]
@@ -109,7 +109,7 @@ impl<M: Memory> Heap<M> {
 fn make_parts(alloc: Global, space: &Space, areas: &Areas) -> Result<HeapParts, NoMemory>
     requires { IsForm space.now areas.now }
     ensures table { IfOk result (λ parts. parts.table ≡ fresh space.now.regions space.now.levels areas.now) }
-    ensures idle { IfOk result (λ parts. parts.scan ≡ nothing_left space.now.registers (16 * space.now.regions)) }
+    ensures idle { IfOk result (λ parts. parts.scan ≡ nothing_left space.now.registers (REGION_PAGES * space.now.regions)) }
     ensures registers { IfOk result (λ parts. parts.registers.items ≡ replicate space.now.registers (plain NilWord)) }
 {
     let table = RegionTable::new(alloc, space, areas)?;

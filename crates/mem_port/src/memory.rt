@@ -10,7 +10,7 @@ ghost use Rattle.mem_port.specs.Reading.{Passes};
 
 use crate::reading::WordTest;
 use std::sync::ledger::Ledger;
-use store_word::{Levels, Steps, SwapFault, Word};
+use store_word::{LAST_OFFSET, Levels, PAGE_WORDS, REGION_PAGES, Steps, SwapFault, Word};
 
 /// The most pages of one `hold`.
 pub const HOLD_LIMIT: usize = 24;
@@ -57,8 +57,8 @@ pub trait Memory {
         requires { at < length (seen self.old).words }
         ensures value { IfOk result (λ word. slice_get (seen self.old).words at ≡ Some word) }
         ensures unchanged { StoresNothing (seen self.old) (seen self.new) }
-        ensures succeeds { held self.old (at / 256) → IsOk result }
-        ensures stays_held { held self.old (at / 256) → (page : ℕ) → held self.old page → held self.new page }
+        ensures succeeds { held self.old (at / PAGE_WORDS) → IsOk result }
+        ensures stays_held { held self.old (at / PAGE_WORDS) → (page : ℕ) → held self.old page → held self.new page }
         ensures cause { TellsFaults (faults self.old) (faults self.new) result }
         ensures room { LeavesRoom (length (resident self.old)) (length (resident self.new)) result }
         ensures taken { taken self.new ≡ taken self.old + 1 }
@@ -77,15 +77,15 @@ pub trait Memory {
     ) -> Result<u32, SwapFault>
         requires at_least { 0 < count }
         requires in_range { at + count ≤ length (seen self.old).words }
-        requires page { at % 256 + count ≤ 256 }
+        requires page { at % PAGE_WORDS + count ≤ PAGE_WORDS }
 
         // What is returned. Nothing is stored.
         ensures value { IfOk result (Passes (seen self.old).words (T.wanted test.now) at count) }
         ensures unchanged { StoresNothing (seen self.old) (seen self.new) }
 
         // The pages, swap errors and the cost.
-        ensures succeeds { held self.old (at / 256) → IsOk result }
-        ensures stays_held { held self.old (at / 256) → (page : ℕ) → held self.old page → held self.new page }
+        ensures succeeds { held self.old (at / PAGE_WORDS) → IsOk result }
+        ensures stays_held { held self.old (at / PAGE_WORDS) → (page : ℕ) → held self.old page → held self.new page }
         ensures cause { TellsFaults (faults self.old) (faults self.new) result }
         ensures room { LeavesRoom (length (resident self.old)) (length (resident self.new)) result }
         ensures taken { MatchResult result (λ passed. taken self.new ≡ taken self.old + min count (passed + 1)) (λ _. taken self.new ≡ taken self.old + 1) }
@@ -102,8 +102,8 @@ pub trait Memory {
         requires { at < length (seen self.old).words }
         ensures ok { OnOk result (Stores (seen self.old) (seen self.new) at word) }
         ensures err { OnErr result (StoresNothing (seen self.old) (seen self.new)) }
-        ensures succeeds { held self.old (at / 256) → IsOk result }
-        ensures stays_held { held self.old (at / 256) → (page : ℕ) → held self.old page → held self.new page }
+        ensures succeeds { held self.old (at / PAGE_WORDS) → IsOk result }
+        ensures stays_held { held self.old (at / PAGE_WORDS) → (page : ℕ) → held self.old page → held self.new page }
         ensures cause { TellsFaults (faults self.old) (faults self.new) result }
         ensures room { LeavesRoom (length (resident self.old)) (length (resident self.new)) result }
         ensures taken { taken self.new ≡ taken self.old + 1 }
@@ -120,15 +120,15 @@ pub trait Memory {
         steps: &mut Steps<L>,
     ) -> Result<(), SwapFault>
         requires in_range { at + 1 < length (seen self.old).words }
-        requires page { at % 256 < 255 }
+        requires page { at % PAGE_WORDS < LAST_OFFSET }
 
         // What is stored.
         ensures ok { OnOk result (StoresTwo (seen self.old) (seen self.new) at first second) }
         ensures err { OnErr result (StoresNothing (seen self.old) (seen self.new)) }
 
         // The pages, swap errors and the cost.
-        ensures succeeds { held self.old (at / 256) → IsOk result }
-        ensures stays_held { held self.old (at / 256) → (page : ℕ) → held self.old page → held self.new page }
+        ensures succeeds { held self.old (at / PAGE_WORDS) → IsOk result }
+        ensures stays_held { held self.old (at / PAGE_WORDS) → (page : ℕ) → held self.old page → held self.new page }
         ensures cause { TellsFaults (faults self.old) (faults self.new) result }
         ensures room { LeavesRoom (length (resident self.old)) (length (resident self.new)) result }
         ensures taken { taken self.new ≡ taken self.old + 2 }
@@ -138,7 +138,7 @@ pub trait Memory {
     /// takes one memory access. On a swap error nothing is stored, and the count of swap errors rises.
     fn hold<L: Ledger>(&mut self, pages: &[u32], steps: &mut Steps<L>) -> Result<(), SwapFault>
         requires at_most { length pages.now ≤ HOLD_LIMIT }
-        requires in_range { All (λ page. 256 * page < length (seen self.old).words) pages.now }
+        requires in_range { All (λ page. PAGE_WORDS * page < length (seen self.old).words) pages.now }
         ensures ok { OnOk result (All (λ page. held self.new page) pages.now) }
         ensures unchanged { StoresNothing (seen self.old) (seen self.new) }
         ensures cause { TellsFaults (faults self.old) (faults self.new) result }
@@ -156,10 +156,10 @@ pub trait Memory {
         requires apart { (from + count ≤ to) ⊎ (to + count ≤ from) }
 
         // Both places are on one page each, which is held.
-        requires from_page { from % 256 + count ≤ 256 }
-        requires to_page { to % 256 + count ≤ 256 }
-        requires from_held { held self.old (from / 256) }
-        requires to_held { held self.old (to / 256) }
+        requires from_page { from % PAGE_WORDS + count ≤ PAGE_WORDS }
+        requires to_page { to % PAGE_WORDS + count ≤ PAGE_WORDS }
+        requires from_held { held self.old (from / PAGE_WORDS) }
+        requires to_held { held self.old (to / PAGE_WORDS) }
 
         // The words are copied.
         ensures written { Covers (seen self.old) (seen self.new) to count (λ i. slice_index_or (seen self.old).words (from + i) null_word) }
@@ -176,8 +176,8 @@ pub trait Memory {
     fn fill_on<L: Ledger>(&mut self, at: u32, count: u32, word: Word, steps: &mut Steps<L>)
         requires at_least { 0 < count }
         requires in_range { at + count ≤ length (seen self.old).words }
-        requires page { at % 256 + count ≤ 256 }
-        requires held { held self.old (at / 256) }
+        requires page { at % PAGE_WORDS + count ≤ PAGE_WORDS }
+        requires held { held self.old (at / PAGE_WORDS) }
         ensures filled { Covers (seen self.old) (seen self.new) at count (λ _. word) }
         ensures stays_held { (page : ℕ) → held self.old page → held self.new page }
         ensures resident { length (resident self.new) ≡ length (resident self.old) }
@@ -191,7 +191,7 @@ pub trait Memory {
         requires { region < length (seen self.old).levels }
         ensures cleared { Clears (seen self.old) (seen self.new) region }
         ensures resident { resident self.new ≡ outside region (resident self.old) }
-        ensures stays_held { (page : ℕ) → page / 16 ≢ region → held self.old page → held self.new page }
+        ensures stays_held { (page : ℕ) → page / REGION_PAGES ≢ region → held self.old page → held self.new page }
         ensures no_fault { faults self.new ≡ faults self.old }
         ensures taken { taken self.new ≡ taken self.old };
 
@@ -214,20 +214,20 @@ pub trait Memory {
 
     /// Whether the marks of a page have one of these levels.
     fn marked(&self, page: u32, levels: Levels) -> bool
-        requires { 256 * page < length (seen self.now).words }
+        requires { PAGE_WORDS * page < length (seen self.now).words }
         ensures { IsTrue result ↔ Meets ((seen self.now).marks page) levels.0 };
 
     /// The lowest page, from this one on, whose marks have one of these levels. It is None if and only
     /// if there is no such page.
     fn next_marked(&self, from: u32, levels: Levels) -> Option<u32>
-        ensures found { IfSome result (λ page. (from ≤ page) × (256 * page < length (seen self.now).words) × Meets ((seen self.now).marks page) levels.0) }
+        ensures found { IfSome result (λ page. (from ≤ page) × (PAGE_WORDS * page < length (seen self.now).words) × Meets ((seen self.now).marks page) levels.0) }
         ensures lowest { IfSome result (λ page. (other : ℕ) → from ≤ other → other < page → ¬ Meets ((seen self.now).marks other) levels.0) }
-        ensures none { IfNone result ((other : ℕ) → from ≤ other → 256 * other < length (seen self.now).words
+        ensures none { IfNone result ((other : ℕ) → from ≤ other → PAGE_WORDS * other < length (seen self.now).words
             → ¬ Meets ((seen self.now).marks other) levels.0) };
 
     /// Drops the marks of a page if no address of level 1 or more is on it.
     fn remark(&mut self, page: u32)
-        requires { 256 * page < length (seen self.old).words }
+        requires { PAGE_WORDS * page < length (seen self.old).words }
         ensures marks { Remarks (seen self.old) (seen self.new) page }
         ensures stays_held { (page : ℕ) → held self.old page → held self.new page }
         ensures resident { resident self.new ≡ resident self.old }
@@ -258,7 +258,7 @@ pub fn assert_invariant<M: Memory>(mem: &M)
 /// the page has an address of one.
 pub fn marks_tell_levels()
     ensures { (s : Store) (pages page set at : ℕ) (word : Parts) → IsSound s pages → ¬ Meets (s.marks page) set
-        → at / 256 ≡ page → slice_get s.words at ≡ Some word → 1 ≤ level_of_word s.levels word
+        → at / PAGE_WORDS ≡ page → slice_get s.words at ≡ Some word → 1 ≤ level_of_word s.levels word
         → ¬ HasLevel set (level_of_word s.levels word) }
 {}
 

@@ -11,7 +11,7 @@ use crate::tags::{tag_after, tag_anew, tag_meets, tag_with};
 use std::alloc::Global;
 use std::marker::Model;
 use std::sync::ledger::Ledger;
-use store_word::{Count, Levels, NoMemory, Space, Steps, SwapFault, Word};
+use store_word::{Count, Levels, NoMemory, PAGE_LEN, PAGE_WORDS, REGION_LEN, REGION_PAGES, REGION_WORDS, Space, Steps, SwapFault, Word};
 
 /// A memory without frames: every page of it is held at any time. It takes 8 bytes a word.
 #[derive(Drop)]
@@ -41,9 +41,9 @@ impl PlainMemory {
         ensures { IfOk result (λ memory. IsFresh (plain_store memory) space.now.regions space.now.levels) }
     {
         let regions = space.regions as usize;
-        let words = vec![in alloc; Word::null(); regions * 4096]?;
+        let words = vec![in alloc; Word::null(); regions * REGION_LEN]?;
         let levels = vec![in alloc; 0u8; regions]?;
-        let tags = vec![in alloc; false; regions * 16]?;
+        let tags = vec![in alloc; false; regions * REGION_PAGES as usize]?;
         Ok(PlainMemory {
             words,
             levels,
@@ -59,7 +59,7 @@ impl PlainMemory {
         ensures written { Stores (plain_store self.old) (plain_store self.new) at word }
         ensures taken { self.new.taken ≡ self.old.taken }
     {
-        let page = (at / 256) as usize;
+        let page = (at / PAGE_WORDS) as usize;
         let tag = tag_after(self.tags[page], &self.levels, word);
         self.words[at as usize] = word;
         self.tags[page] = tag;
@@ -147,7 +147,7 @@ impl Memory for PlainMemory {
         self.taken = self.taken.and(&taken);
         let (start, end) = (to as usize, to as usize + count as usize);
         copy_range(&mut self.words, from as usize, start, count as usize);
-        let page = (to / 256) as usize;
+        let page = (to / PAGE_WORDS) as usize;
         let tag = tag_with(self.tags[page], &self.words[start..end], &self.levels);
         self.tags[page] = tag;
     }
@@ -156,7 +156,7 @@ impl Memory for PlainMemory {
         let taken = count as u64;
         steps.tick_all(taken);
         self.taken = self.taken.and(&taken);
-        let page = (at / 256) as usize;
+        let page = (at / PAGE_WORDS) as usize;
         let tag = tag_after(self.tags[page], &self.levels, word);
         fill_range(
             &mut self.words,
@@ -171,11 +171,11 @@ impl Memory for PlainMemory {
         let region = region as usize;
         fill_range(
             &mut self.words,
-            region * 4096,
-            region * 4096 + 4096,
+            region * REGION_LEN,
+            region * REGION_LEN + REGION_LEN,
             Word::null(),
         );
-        fill_range(&mut self.tags, region * 16, region * 16 + 16, false);
+        fill_range(&mut self.tags, region * REGION_PAGES as usize, region * REGION_PAGES as usize + REGION_PAGES as usize, false);
     }
 
     fn set_level(&mut self, region: u32, level: u8) {
@@ -183,7 +183,7 @@ impl Memory for PlainMemory {
     }
 
     fn level_of(&self, at: u32) -> u8 {
-        self.levels[(at / 4096) as usize]
+        self.levels[(at / REGION_WORDS) as usize]
     }
 
     fn marked(&self, page: u32, levels: Levels) -> bool {
@@ -201,7 +201,7 @@ impl Memory for PlainMemory {
 
     fn remark(&mut self, page: u32) {
         let page = page as usize;
-        let words = &self.words[256 * page..256 * page + 256];
+        let words = &self.words[PAGE_LEN * page..PAGE_LEN * page + PAGE_LEN];
         let tag = tag_anew(self.tags[page], words, &self.levels);
         self.tags[page] = tag;
     }

@@ -3,7 +3,7 @@ ghost use Rattle.std.specs.Prelude.{ℕ, ◌↔◌, ◌≤◌, IsTrue, length};
 ghost use Rattle.mem_port.specs.Reading.{Passes};
 ghost use Rattle.store_word.specs.Words.{Parts};
 
-use store_word::Word;
+use store_word::{PAGE_WORDS, Word};
 
 /// A test of words.
 pub trait WordTest {
@@ -18,7 +18,7 @@ pub trait WordTest {
 /// How many of these words, at most 256, precede the first that is wanted: all of them if none is.
 #[inline]
 pub fn words_before<T: WordTest>(words: &[Word], test: &T) -> u32
-    requires { length words.now ≤ 256 }
+    requires { length words.now ≤ PAGE_WORDS }
     ensures { Passes words.now (T.wanted test.now) 0 (length words.now) result }
 {
     for (i, word) in words.iter().enumerate() {

@@ -5,7 +5,7 @@ ghost use Rattle.store_word.specs.Sets.{HasLevel, Meets};
 ghost use Rattle.mem_port.specs.Store.{level_of_word};
 ghost use Rattle.mem_port.specs.Tags.{marks_of_tag, HasAddress, HasEphemeral};
 
-use store_word::{Flags, Levels, Word};
+use store_word::{Flags, Levels, REGION_WORDS, Word};
 
 /// The level of the address that a word has, or 0. It is 0, too, for an address past the last
 /// region.
@@ -13,7 +13,7 @@ pub fn word_level(levels: &[u8], word: Word) -> u8
     ensures { result ≡ level_of_word levels.now word }
 {
     match word.address() {
-        Some(at) => levels.get((at / 4096) as usize).copied().unwrap_or(0),
+        Some(at) => levels.get((at / REGION_WORDS) as usize).copied().unwrap_or(0),
         None => 0,
     }
 }

@@ -1,14 +1,15 @@
 -- Pages of 256 words in a list of words, one page after another.
 use Rattle.std.specs.Prelude.{◌≡◌, ℕ, zero, suc, ◌+◌, ◌*◌, ◌<◌, ◌≤◌, List, length, slice_get, nat_lt, nat_le, ◌&&◌, if◌then◌else◌}
 use Rattle.store_word.specs.Words.{Parts}
+use Rattle.store_word.specs.declared.sizes.TheConstants.{PAGE_WORDS}
 use Rattle.outer_ports.specs.Ports.{next_count}
 
 -- the words of one page become `words`, and no other word changes
 pub record Fills (old new : List Parts) (page : ℕ) (words : List Parts) : Type 0 where
   pub size : length new ≡ length old
-  pub here : (k : ℕ) → k < 256 → slice_get new (256 * page + k) ≡ slice_get words k
-  pub below : (i : ℕ) → i < 256 * page → slice_get new i ≡ slice_get old i
-  pub above : (i : ℕ) → 256 * page + 256 ≤ i → slice_get new i ≡ slice_get old i
+  pub here : (k : ℕ) → k < PAGE_WORDS → slice_get new (PAGE_WORDS * page + k) ≡ slice_get words k
+  pub below : (i : ℕ) → i < PAGE_WORDS * page → slice_get new i ≡ slice_get old i
+  pub above : (i : ℕ) → PAGE_WORDS * page + PAGE_WORDS ≤ i → slice_get new i ≡ slice_get old i
 
 -- the page calls so far, including those that failed
 pub record Calls : Type 0 where

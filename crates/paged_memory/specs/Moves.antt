@@ -2,6 +2,7 @@
 use Rattle.std.specs.Prelude.{ℕ, ◌≡◌, ◌≢◌, ◌/◌, ◌<◌, ◌≤◌, ◌⊎◌, ◌&&◌, Bool, not, eqb, nat_le, nat_lt, Some, List, [], ◌∷◌, ◌++◌, filter, length, drop, Contains}
 use Rattle.frame_pool.specs.index_lists.Chains.{first_of}
 use Rattle.store_word.specs.Words.{Parts, null_word}
+use Rattle.store_word.specs.declared.sizes.TheConstants.{PAGE_WORDS}
 use Rattle.mem_port.specs.Store.{StoresNothing}
 use Rattle.mem_port.specs.Tags.{marks_of_tag}
 use Rattle.page_map.specs.declared.place.PagePlace.TheVariants.{InFrame, Swapped}
@@ -56,7 +57,7 @@ pub record Emptied (p : Paging) (stored : List Parts) (p' : Paging) (from to : �
   pub levels : p'.levels ≡ p.levels
   pub top : p'.top ≡ p.top
   pub order : resident_of p' ≡ filter (is_outside from to) (resident_of p)
-  pub null : (at : ℕ) → from ≤ at / 256 → at / 256 < to → word_at p' stored at ≡ null_word
-  pub others : (at : ℕ) → (from ≤ at / 256 → at / 256 < to → ⊥) → word_at p' stored at ≡ word_at p stored at
+  pub null : (at : ℕ) → from ≤ at / PAGE_WORDS → at / PAGE_WORDS < to → word_at p' stored at ≡ null_word
+  pub others : (at : ℕ) → (from ≤ at / PAGE_WORDS → at / PAGE_WORDS < to → ⊥) → word_at p' stored at ≡ word_at p stored at
   pub unmarked : (page : ℕ) → from ≤ page → page < to → marks_of p' page ≡ 0
   pub marks : (page : ℕ) → (from ≤ page → page < to → ⊥) → marks_of p' page ≡ marks_of p page

@@ -3,6 +3,7 @@ use Rattle.std.specs.Prelude.{ℕ, ◌≡◌, ◌≢◌, ◌+◌, ◌*◌, ◌/�
 use Rattle.std.specs.List.{range_with_len}
 use Rattle.store_word.specs.Words.{Parts, null_word}
 use Rattle.store_word.specs.Sets.{HasLevel}
+use Rattle.store_word.specs.declared.sizes.TheConstants.{PAGE_WORDS, REGION_PAGES}
 use Rattle.mem_port.specs.Store.{Store, level_of_word}
 use Rattle.mem_port.specs.Swaps.{Swaps}
 use Rattle.mem_port.specs.Tags.{marks_of_tag}
@@ -25,16 +26,16 @@ pub record Paging : Type 0 where
 -- the word at an address whose page is at a place; `stored` is what the device holds
 abbrev pub word_in : Pool → List Parts → ℕ → PagePlace → Parts
 word_in pool stored at Empty = null_word
-word_in pool stored at (InFrame frame) = slice_index_or pool.words (256 * frame + at % 256) null_word
+word_in pool stored at (InFrame frame) = slice_index_or pool.words (PAGE_WORDS * frame + at % PAGE_WORDS) null_word
 word_in pool stored at Swapped = slice_index_or stored at null_word
 
 -- the word at an address
 abbrev pub word_at : Paging → List Parts → ℕ → Parts
-word_at p stored at = word_in p.pool stored at (place_at p.places (at / 256))
+word_at p stored at = word_in p.pool stored at (place_at p.places (at / PAGE_WORDS))
 
 -- the frames once a word is stored into one, at an offset; the tag of this frame is set to a value
 abbrev pub stored_pool : Pool → ℕ → ℕ → Parts → Bool → Pool
-stored_pool pool frame offset word tag = record pool { words = slice_set pool.words (256 * frame + offset) word; tags = slice_set pool.tags frame tag }
+stored_pool pool frame offset word tag = record pool { words = slice_set pool.words (PAGE_WORDS * frame + offset) word; tags = slice_set pool.tags frame tag }
 
 -- two words are stored into a frame, one after the other; each sets the tag if it has an address of level 1 or more
 pub record StoresPair (old new : Pool) (levels : List ℕ) (frame offset : ℕ) (first second : Parts) : Type 0 where
@@ -49,7 +50,7 @@ size_of p = length p.places.places
 
 -- all words, by address
 abbrev pub words_of : Paging → List Parts → List Parts
-words_of p stored = map (word_at p stored) (range_with_len 0 (256 * size_of p))
+words_of p stored = map (word_at p stored) (range_with_len 0 (PAGE_WORDS * size_of p))
 
 -- the marks of a page at a place: every level if its frame has the tag, or its row
 abbrev pub marks_in : Paging → ℕ → PagePlace → ℕ
@@ -83,14 +84,14 @@ swaps_of p calls = record { out = swapped_of p; writes = calls.writes; reads = c
 
 -- a word on the page has an address of this level
 abbrev pub HasWord : (ℕ → Parts) → List ℕ → ℕ → ℕ → Type 0
-HasWord word levels page level = (k : ℕ) × ((k < 256) × (level_of_word levels (word (256 * page + k)) ≡ level))
+HasWord word levels page level = (k : ℕ) × ((k < PAGE_WORDS) × (level_of_word levels (word (PAGE_WORDS * page + k)) ≡ level))
 
 -- what always holds: each taken frame is its page's place and conversely; a swapped page has a row, which is exactly the set of the levels, 1 or
 -- more, of the addresses on it, and no other page has one; and the frame of a page with such an address has the tag
 pub record IsPaged (p : Paging) (stored : List Parts) : Type 0 where
-  pub size : length stored ≡ 256 * size_of p
+  pub size : length stored ≡ PAGE_WORDS * size_of p
   pub few : size_of p ≤ 16384
-  pub regions : 16 * length p.levels ≡ size_of p
+  pub regions : REGION_PAGES * length p.levels ≡ size_of p
   pub low : (region : ℕ) → slice_index p.levels region ≤ p.top
   pub deep : p.top ≤ 6
   pub pool : IsPool p.pool

@@ -17,7 +17,7 @@ use mem_port::{HOLD_LIMIT, Memory, WordTest, tag_anew, tag_meets, words_before};
 use outer_ports::Swap;
 use page_map::PagePlace;
 use std::sync::ledger::Ledger;
-use store_word::{Flags, Levels, Steps, SwapFault, Word};
+use store_word::{Flags, LAST_OFFSET, Levels, PAGE_WORDS, REGION_PAGES, REGION_WORDS, Steps, SwapFault, Word};
 
 impl<D: Swap> Memory for PagedMemory<D> {
     ghost seen = { λ m. store_of m.0 (D.stored m.1) };
@@ -38,10 +38,10 @@ impl<D: Swap> Memory for PagedMemory<D> {
         ensures sound { IsSound (store_of self.now.0 (D.stored self.now.1)) result }
         ensures paged { IsPaged self.now.0 (D.stored self.now.1) }
         ensures at_most { length (resident_of self.now.0) ≤ frames_of self.now.0.pool }
-        ensures absent { (at : ℕ) → at < 256 * result → place_at self.now.0.places (at / 256) ≡ PagePlace.Swapped
+        ensures absent { (at : ℕ) → at < PAGE_WORDS * result → place_at self.now.0.places (at / PAGE_WORDS) ≡ PagePlace.Swapped
             → slice_get (words_of self.now.0 (D.stored self.now.1)) at ≡ slice_get (D.stored self.now.1) at }
     {
-        self.pager.levels.all().len() as u32 * 16
+        self.pager.levels.all().len() as u32 * REGION_PAGES
     }
 
     /// The word at an address, whose page is used.
@@ -53,26 +53,26 @@ impl<D: Swap> Memory for PagedMemory<D> {
         ensures unchanged { StoresNothing (store_of self.old.0 (D.stored self.old.1)) (store_of self.new.0 (D.stored self.new.1)) }
 
         // What becomes of the pages in frames.
-        ensures succeeds { Contains (resident_of self.old.0) (at / 256) → IsOk result }
-        ensures uses { OnOk result (Uses self.old.0 self.new.0 (at / 256) false) }
+        ensures succeeds { Contains (resident_of self.old.0) (at / PAGE_WORDS) → IsOk result }
+        ensures uses { OnOk result (Uses self.old.0 self.new.0 (at / PAGE_WORDS) false) }
         ensures stops { OnErr result (Stops self.old.0 self.new.0) }
-        ensures stays_held { Contains (resident_of self.old.0) (at / 256)
+        ensures stays_held { Contains (resident_of self.old.0) (at / PAGE_WORDS)
             → (page : ℕ) → Contains (resident_of self.old.0) page → Contains (resident_of self.new.0) page }
 
         // Swap errors, the calls of the device, and the cost.
         ensures cause { TellsFaults (D.faults self.old.1) (D.faults self.new.1) result }
         ensures room { LeavesRoom (length (resident_of self.old.0)) (length (resident_of self.new.0)) result }
         ensures taken { self.new.2 ≡ self.old.2 + 1 }
-        ensures calls { OnOk result (D.calls self.new.1 ≡ calls_to_use self.old.0 (at / 256) (D.calls self.old.1)) }
-        ensures stopped { OnErr result (StopsCalls self.old.0 (at / 256) (D.calls self.old.1) (D.calls self.new.1)) }
+        ensures calls { OnOk result (D.calls self.new.1 ≡ calls_to_use self.old.0 (at / PAGE_WORDS) (D.calls self.old.1)) }
+        ensures stopped { OnErr result (StopsCalls self.old.0 (at / PAGE_WORDS) (D.calls self.old.1) (D.calls self.new.1)) }
         ensures cost { steps.new ≡ steps.old + 1 }
     {
         steps.tick();
         self.taken = self.taken.and(&1);
         let frame = self
             .pager
-            .use_page(&mut self.buffer, &mut self.swap, at / 256)?;
-        Ok(self.pager.pool.word(frame, at % 256))
+            .use_page(&mut self.buffer, &mut self.swap, at / PAGE_WORDS)?;
+        Ok(self.pager.pool.word(frame, at % PAGE_WORDS))
     }
 
     /// The words from an address on, up to the first that is wanted. Their page is used, as by reading them one after another.
@@ -85,33 +85,33 @@ impl<D: Swap> Memory for PagedMemory<D> {
     ) -> Result<u32, SwapFault>
         requires at_least { 0 < count }
         requires in_range { at + count ≤ length (words_of self.old.0 (D.stored self.old.1)) }
-        requires page { at % 256 + count ≤ 256 }
+        requires page { at % PAGE_WORDS + count ≤ PAGE_WORDS }
 
         // What is returned. Nothing is stored.
         ensures value { IfOk result (Passes (words_of self.old.0 (D.stored self.old.1)) (T.wanted test.now) at count) }
         ensures unchanged { StoresNothing (store_of self.old.0 (D.stored self.old.1)) (store_of self.new.0 (D.stored self.new.1)) }
 
         // What becomes of the pages in frames.
-        ensures succeeds { Contains (resident_of self.old.0) (at / 256) → IsOk result }
-        ensures uses { OnOk result (Uses self.old.0 self.new.0 (at / 256) false) }
+        ensures succeeds { Contains (resident_of self.old.0) (at / PAGE_WORDS) → IsOk result }
+        ensures uses { OnOk result (Uses self.old.0 self.new.0 (at / PAGE_WORDS) false) }
         ensures stops { OnErr result (Stops self.old.0 self.new.0) }
-        ensures stays_held { Contains (resident_of self.old.0) (at / 256)
+        ensures stays_held { Contains (resident_of self.old.0) (at / PAGE_WORDS)
             → (page : ℕ) → Contains (resident_of self.old.0) page → Contains (resident_of self.new.0) page }
 
         // Swap errors, the calls of the device, and the cost.
         ensures cause { TellsFaults (D.faults self.old.1) (D.faults self.new.1) result }
         ensures room { LeavesRoom (length (resident_of self.old.0)) (length (resident_of self.new.0)) result }
         ensures taken { MatchResult result (λ passed. self.new.2 ≡ self.old.2 + min count (passed + 1)) (λ _. self.new.2 ≡ self.old.2 + 1) }
-        ensures calls { OnOk result (D.calls self.new.1 ≡ calls_to_use self.old.0 (at / 256) (D.calls self.old.1)) }
-        ensures stopped { OnErr result (StopsCalls self.old.0 (at / 256) (D.calls self.old.1) (D.calls self.new.1)) }
+        ensures calls { OnOk result (D.calls self.new.1 ≡ calls_to_use self.old.0 (at / PAGE_WORDS) (D.calls self.old.1)) }
+        ensures stopped { OnErr result (StopsCalls self.old.0 (at / PAGE_WORDS) (D.calls self.old.1) (D.calls self.new.1)) }
         ensures cost { MatchResult result (λ passed. steps.new ≡ steps.old + min count (passed + 1)) (λ _. steps.new ≡ steps.old + 1) }
     {
         steps.tick();
         self.taken = self.taken.and(&1);
         let frame = self
             .pager
-            .use_page(&mut self.buffer, &mut self.swap, at / 256)?;
-        let start = (at % 256) as usize;
+            .use_page(&mut self.buffer, &mut self.swap, at / PAGE_WORDS)?;
+        let start = (at % PAGE_WORDS) as usize;
         let words = self.pager.pool.words(frame);
         let passed = words_before(&words[start..start + count as usize], test);
         let more = u64::from(passed.min(count - 1));
@@ -135,28 +135,28 @@ impl<D: Swap> Memory for PagedMemory<D> {
         ensures err { OnErr result (StoresNothing (store_of self.old.0 (D.stored self.old.1)) (store_of self.new.0 (D.stored self.new.1))) }
 
         // What becomes of the pages in frames.
-        ensures succeeds { Contains (resident_of self.old.0) (at / 256) → IsOk result }
-        ensures uses { OnOk result (Uses self.old.0 self.new.0 (at / 256) (nat_lt 0 (level_of_word self.old.0.levels word))) }
+        ensures succeeds { Contains (resident_of self.old.0) (at / PAGE_WORDS) → IsOk result }
+        ensures uses { OnOk result (Uses self.old.0 self.new.0 (at / PAGE_WORDS) (nat_lt 0 (level_of_word self.old.0.levels word))) }
         ensures stops { OnErr result (Stops self.old.0 self.new.0) }
-        ensures stays_held { Contains (resident_of self.old.0) (at / 256)
+        ensures stays_held { Contains (resident_of self.old.0) (at / PAGE_WORDS)
             → (page : ℕ) → Contains (resident_of self.old.0) page → Contains (resident_of self.new.0) page }
 
         // Swap errors, the calls of the device, and the cost.
         ensures cause { TellsFaults (D.faults self.old.1) (D.faults self.new.1) result }
         ensures room { LeavesRoom (length (resident_of self.old.0)) (length (resident_of self.new.0)) result }
         ensures taken { self.new.2 ≡ self.old.2 + 1 }
-        ensures calls { OnOk result (D.calls self.new.1 ≡ calls_to_use self.old.0 (at / 256) (D.calls self.old.1)) }
-        ensures stopped { OnErr result (StopsCalls self.old.0 (at / 256) (D.calls self.old.1) (D.calls self.new.1)) }
+        ensures calls { OnOk result (D.calls self.new.1 ≡ calls_to_use self.old.0 (at / PAGE_WORDS) (D.calls self.old.1)) }
+        ensures stopped { OnErr result (StopsCalls self.old.0 (at / PAGE_WORDS) (D.calls self.old.1) (D.calls self.new.1)) }
         ensures cost { steps.new ≡ steps.old + 1 }
     {
         steps.tick();
         self.taken = self.taken.and(&1);
         let frame = self
             .pager
-            .use_page(&mut self.buffer, &mut self.swap, at / 256)?;
+            .use_page(&mut self.buffer, &mut self.swap, at / PAGE_WORDS)?;
         self.pager
             .levels
-            .store_word(&mut self.pager.pool, frame, at % 256, word);
+            .store_word(&mut self.pager.pool, frame, at % PAGE_WORDS, word);
         Ok(())
     }
 
@@ -170,35 +170,35 @@ impl<D: Swap> Memory for PagedMemory<D> {
         steps: &mut Steps<L>,
     ) -> Result<(), SwapFault>
         requires in_range { at + 1 < length (words_of self.old.0 (D.stored self.old.1)) }
-        requires page { at % 256 < 255 }
+        requires page { at % PAGE_WORDS < LAST_OFFSET }
 
         // What is stored, and that a swap error stores nothing.
         ensures ok { OnOk result (StoresTwo (store_of self.old.0 (D.stored self.old.1)) (store_of self.new.0 (D.stored self.new.1)) at first second) }
         ensures err { OnErr result (StoresNothing (store_of self.old.0 (D.stored self.old.1)) (store_of self.new.0 (D.stored self.new.1))) }
 
         // What becomes of the pages in frames.
-        ensures succeeds { Contains (resident_of self.old.0) (at / 256) → IsOk result }
-        ensures uses { OnOk result (Uses self.old.0 self.new.0 (at / 256) (nat_lt 0 (level_of_word self.old.0.levels first) || nat_lt 0 (level_of_word self.old.0.levels second))) }
+        ensures succeeds { Contains (resident_of self.old.0) (at / PAGE_WORDS) → IsOk result }
+        ensures uses { OnOk result (Uses self.old.0 self.new.0 (at / PAGE_WORDS) (nat_lt 0 (level_of_word self.old.0.levels first) || nat_lt 0 (level_of_word self.old.0.levels second))) }
         ensures stops { OnErr result (Stops self.old.0 self.new.0) }
-        ensures stays_held { Contains (resident_of self.old.0) (at / 256)
+        ensures stays_held { Contains (resident_of self.old.0) (at / PAGE_WORDS)
             → (page : ℕ) → Contains (resident_of self.old.0) page → Contains (resident_of self.new.0) page }
 
         // Swap errors, the calls of the device, and the cost.
         ensures cause { TellsFaults (D.faults self.old.1) (D.faults self.new.1) result }
         ensures room { LeavesRoom (length (resident_of self.old.0)) (length (resident_of self.new.0)) result }
         ensures taken { self.new.2 ≡ self.old.2 + 2 }
-        ensures calls { OnOk result (D.calls self.new.1 ≡ calls_to_use self.old.0 (at / 256) (D.calls self.old.1)) }
-        ensures stopped { OnErr result (StopsCalls self.old.0 (at / 256) (D.calls self.old.1) (D.calls self.new.1)) }
+        ensures calls { OnOk result (D.calls self.new.1 ≡ calls_to_use self.old.0 (at / PAGE_WORDS) (D.calls self.old.1)) }
+        ensures stopped { OnErr result (StopsCalls self.old.0 (at / PAGE_WORDS) (D.calls self.old.1) (D.calls self.new.1)) }
         ensures cost { steps.new ≡ steps.old + 2 }
     {
         steps.tick_all(2);
         self.taken = self.taken.and(&2);
         let frame = self
             .pager
-            .use_page(&mut self.buffer, &mut self.swap, at / 256)?;
+            .use_page(&mut self.buffer, &mut self.swap, at / PAGE_WORDS)?;
         self.pager
             .levels
-            .store_two(&mut self.pager.pool, frame, at % 256, first, second);
+            .store_two(&mut self.pager.pool, frame, at % PAGE_WORDS, first, second);
         Ok(())
     }
 
@@ -206,7 +206,7 @@ impl<D: Swap> Memory for PagedMemory<D> {
     #[inline(always)]
     fn hold<L: Ledger>(&mut self, pages: &[u32], steps: &mut Steps<L>) -> Result<(), SwapFault>
         requires at_most { length pages.now ≤ HOLD_LIMIT }
-        requires in_range { All (λ page. 256 * page < length (words_of self.old.0 (D.stored self.old.1))) pages.now }
+        requires in_range { All (λ page. PAGE_WORDS * page < length (words_of self.old.0 (D.stored self.old.1))) pages.now }
         ensures ok { OnOk result (All (λ page. Contains (resident_of self.new.0) page) pages.now) }
         ensures uses { OnOk result (UsesEach self.old.0 (D.calls self.old.1) self.new.0 (D.calls self.new.1) pages.now) }
         ensures stops { OnErr result (StopsAmong self.old.0 (D.calls self.old.1) self.new.0 (D.calls self.new.1) pages.now) }
@@ -232,17 +232,17 @@ impl<D: Swap> Memory for PagedMemory<D> {
         requires from { from + count ≤ length (words_of self.old.0 (D.stored self.old.1)) }
         requires to { to + count ≤ length (words_of self.old.0 (D.stored self.old.1)) }
         requires apart { (from + count ≤ to) ⊎ (to + count ≤ from) }
-        requires from_page { from % 256 + count ≤ 256 }
-        requires to_page { to % 256 + count ≤ 256 }
-        requires from_held { Contains (resident_of self.old.0) (from / 256) }
-        requires to_held { Contains (resident_of self.old.0) (to / 256) }
+        requires from_page { from % PAGE_WORDS + count ≤ PAGE_WORDS }
+        requires to_page { to % PAGE_WORDS + count ≤ PAGE_WORDS }
+        requires from_held { Contains (resident_of self.old.0) (from / PAGE_WORDS) }
+        requires to_held { Contains (resident_of self.old.0) (to / PAGE_WORDS) }
 
         // The words are copied.
         ensures written { Covers (store_of self.old.0 (D.stored self.old.1)) (store_of self.new.0 (D.stored self.new.1)) to count
             (λ i. slice_index_or (words_of self.old.0 (D.stored self.old.1)) (from + i) null_word) }
 
         // What becomes of the pages in frames.
-        ensures uses { StoresOn self.old.0 self.new.0 (to / 256) (latest (to / 256) (latest (from / 256) (resident_of self.old.0))) }
+        ensures uses { StoresOn self.old.0 self.new.0 (to / PAGE_WORDS) (latest (to / PAGE_WORDS) (latest (from / PAGE_WORDS) (resident_of self.old.0))) }
         ensures stays_held { (page : ℕ) → Contains (resident_of self.old.0) page → Contains (resident_of self.new.0) page }
         ensures resident { length (resident_of self.new.0) ≡ length (resident_of self.old.0) }
 
@@ -262,12 +262,12 @@ impl<D: Swap> Memory for PagedMemory<D> {
     fn fill_on<L: Ledger>(&mut self, at: u32, count: u32, word: Word, steps: &mut Steps<L>)
         requires at_least { 0 < count }
         requires in_range { at + count ≤ length (words_of self.old.0 (D.stored self.old.1)) }
-        requires page { at % 256 + count ≤ 256 }
-        requires held { Contains (resident_of self.old.0) (at / 256) }
+        requires page { at % PAGE_WORDS + count ≤ PAGE_WORDS }
+        requires held { Contains (resident_of self.old.0) (at / PAGE_WORDS) }
         ensures filled { Covers (store_of self.old.0 (D.stored self.old.1)) (store_of self.new.0 (D.stored self.new.1)) at count (λ _. word) }
 
         // What becomes of the pages in frames.
-        ensures uses { StoresOn self.old.0 self.new.0 (at / 256) (latest (at / 256) (resident_of self.old.0)) }
+        ensures uses { StoresOn self.old.0 self.new.0 (at / PAGE_WORDS) (latest (at / PAGE_WORDS) (resident_of self.old.0)) }
         ensures stays_held { (page : ℕ) → Contains (resident_of self.old.0) page → Contains (resident_of self.new.0) page }
         ensures resident { length (resident_of self.new.0) ≡ length (resident_of self.old.0) }
 
@@ -288,14 +288,14 @@ impl<D: Swap> Memory for PagedMemory<D> {
         requires { region < length self.old.0.levels }
         ensures cleared { Clears (store_of self.old.0 (D.stored self.old.1)) (store_of self.new.0 (D.stored self.new.1)) region }
         ensures resident { resident_of self.new.0 ≡ outside region (resident_of self.old.0) }
-        ensures stays_held { (page : ℕ) → page / 16 ≢ region → Contains (resident_of self.old.0) page → Contains (resident_of self.new.0) page }
+        ensures stays_held { (page : ℕ) → page / REGION_PAGES ≢ region → Contains (resident_of self.old.0) page → Contains (resident_of self.new.0) page }
         ensures frames { frames_of self.new.0.pool ≡ frames_of self.old.0.pool }
         ensures unchanged { self.new.1 ≡ self.old.1 }
         ensures taken { self.new.2 ≡ self.old.2 }
         ensures no_fault { D.faults self.new.1 ≡ D.faults self.old.1 }
     {
         let _levels = self.pager.levels.all().len();
-        for page in region * 16..region * 16 + 16 {
+        for page in region * REGION_PAGES..region * REGION_PAGES + REGION_PAGES {
             self.pager.empty_page(page);
         }
     }
@@ -318,7 +318,7 @@ impl<D: Swap> Memory for PagedMemory<D> {
     }
 
     fn level_of(&self, at: u32) -> u8 {
-        self.pager.levels.all()[(at / 4096) as usize]
+        self.pager.levels.all()[(at / REGION_WORDS) as usize]
     }
 
     fn marked(&self, page: u32, levels: Levels) -> bool {
@@ -344,7 +344,7 @@ impl<D: Swap> Memory for PagedMemory<D> {
 
     /// The tag of a page in a frame is set if and only if an address of level 1 or more is stored on it.
     fn remark(&mut self, page: u32)
-        requires { 256 * page < length (words_of self.old.0 (D.stored self.old.1)) }
+        requires { PAGE_WORDS * page < length (words_of self.old.0 (D.stored self.old.1)) }
         ensures marks { Remarks (store_of self.old.0 (D.stored self.old.1)) (store_of self.new.0 (D.stored self.new.1)) page }
         ensures refused { (IsClean (store_of self.old.0 (D.stored self.old.1)) page → ⊥) → marks_of self.new.0 page ≡ marks_of self.old.0 page }
         ensures stays_held { (page : ℕ) → Contains (resident_of self.old.0) page → Contains (resident_of self.new.0) page }

@@ -13,7 +13,7 @@ use crate::pager::Pager;
 use mem_port::levels_on;
 use outer_ports::Swap;
 use page_map::PagePlace;
-use store_word::{Flags, Levels, SwapFault, Word};
+use store_word::{Flags, Levels, PAGE_WORDS, SwapFault, Word};
 
 /// Exactly the levels, 1 or more, of the addresses in these words. If they have no tag there are none, and no word is read.
 fn levels_of(tag: bool, words: &[Word], levels: &[u8]) -> Levels
@@ -67,7 +67,7 @@ impl Pager {
         requires paged { IsPaged (paging_of self.old) (D.stored swap.old) }
         requires free { Contains self.old.pool.free frame }
         requires page { place_at self.old.places page ≡ PagePlace.Swapped }
-        requires size { length buffer.old ≡ 256 }
+        requires size { length buffer.old ≡ PAGE_WORDS }
         ensures preserves { Keeps (paging_of self.old) (D.stored swap.old) (paging_of self.new) (D.stored swap.new) }
         ensures placed { OnOk result (ComesIn (paging_of self.old) (paging_of self.new) page frame) }
         ensures unchanged { OnErr result (paging_of self.new ≡ paging_of self.old) }
@@ -128,7 +128,7 @@ impl Pager {
     ) -> Result<u32, SwapFault>
         requires paged { IsPaged (paging_of self.old) (D.stored swap.old) }
         requires in_range { page < length self.old.places.places }
-        requires size { length buffer.old ≡ 256 }
+        requires size { length buffer.old ≡ PAGE_WORDS }
 
         // The page is in a frame, and the words are unchanged.
         ensures stays_held { Keeps (paging_of self.old) (D.stored swap.old) (paging_of self.new) (D.stored swap.new) }
@@ -160,7 +160,7 @@ impl Pager {
     ) -> Result<u32, SwapFault>
         requires paged { IsPaged (paging_of self.old) (D.stored swap.old) }
         requires in_range { page < length self.old.places.places }
-        requires size { length buffer.old ≡ 256 }
+        requires size { length buffer.old ≡ PAGE_WORDS }
 
         // The page is in a frame, and the words are unchanged.
         ensures stays_held { Keeps (paging_of self.old) (D.stored swap.old) (paging_of self.new) (D.stored swap.new) }
@@ -196,7 +196,7 @@ impl Pager {
         requires paged { IsPaged (paging_of self.old) (D.stored swap.old) }
         requires in_range { page < length self.old.places.places }
         requires absent { (frame : ℕ) → place_at self.old.places page ≢ PagePlace.InFrame frame }
-        requires size { length buffer.old ≡ 256 }
+        requires size { length buffer.old ≡ PAGE_WORDS }
 
         // The page is in a frame, and the words are unchanged.
         ensures stays_held { Keeps (paging_of self.old) (D.stored swap.old) (paging_of self.new) (D.stored swap.new) }

@@ -13,7 +13,7 @@ use outer_ports::{PageCalls, Swap, SwapMemory};
 use page_map::PagePlace;
 use std::alloc::Global;
 use std::marker::Model;
-use store_word::{Count, Levels, Refused, Space, Word};
+use store_word::{Count, Levels, PAGE_LEN, PAGE_WORDS, REGION_PAGES, REGION_WORDS, Refused, Space, Word};
 
 /// A memory of page frames over a swap device. A page is empty, in a frame, or swapped out.
 #[derive(Drop)]
@@ -35,7 +35,7 @@ impl<D: Swap> Model for PagedMemory<D> {
 
     ghost view = { λ a. (paging_of a.pager, a.swap, a.taken.total) };
 
-    ghost invariant = { λ a. IsPaged (paging_of a.pager) (D.stored a.swap) × (a.frames ≡ frames_of a.pager.pool) × (length a.buffer.items ≡ 256) };
+    ghost invariant = { λ a. IsPaged (paging_of a.pager) (D.stored a.swap) × (a.frames ≡ frames_of a.pager.pool) × (length a.buffer.items ≡ PAGE_WORDS) };
 }
 
 impl<D: Swap> PagedMemory<D> {
@@ -53,17 +53,17 @@ impl<D: Swap> PagedMemory<D> {
         ensures frames { IfOk result (λ m. frames_of m.0.pool ≡ space.now.frames) }
 
         // The device, prepared or returned.
-        ensures ok { IfOk result (λ m. D.stored m.1 ≡ replicate (4096 * space.now.regions) null_word) }
+        ensures ok { IfOk result (λ m. D.stored m.1 ≡ replicate (REGION_WORDS * space.now.regions) null_word) }
         ensures no_fault { IfOk result (λ m. D.faults m.1 ≡ D.faults swap) }
         ensures err { IfErr result (λ refused. refused.back ≡ swap) }
     {
         let Ok(pager) = Pager::new(alloc, space) else {
             return Err(Refused { back: swap });
         };
-        let Ok(buffer) = vec![in alloc; Word::null(); 256] else {
+        let Ok(buffer) = vec![in alloc; Word::null(); PAGE_LEN] else {
             return Err(Refused { back: swap });
         };
-        match swap.prepare(alloc, space.regions * 16) {
+        match swap.prepare(alloc, space.regions * REGION_PAGES) {
             Ok(()) => Ok(PagedMemory {
                 pager,
                 frames: space.frames,
@@ -142,9 +142,9 @@ impl PagedMemory<SwapMemory> {
         requires { at < length (words_of self.now.0 self.now.1.stored) }
         ensures { slice_get (words_of self.now.0 self.now.1.stored) at ≡ Some result }
     {
-        match self.pager.places.place_of(at / 256) {
+        match self.pager.places.place_of(at / PAGE_WORDS) {
             PagePlace::Empty => Word::null(),
-            PagePlace::InFrame(frame) => self.pager.pool.word(frame, at % 256),
+            PagePlace::InFrame(frame) => self.pager.pool.word(frame, at % PAGE_WORDS),
             PagePlace::Swapped => self.swap.peek(at),
         }
     }

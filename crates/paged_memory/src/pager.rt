@@ -9,7 +9,7 @@ use frame_pool::FramePool;
 use page_map::PageMap;
 use ref_table::RefTable;
 use std::alloc::Global;
-use store_word::{NoMemory, Space};
+use store_word::{NoMemory, REGION_PAGES, Space};
 
 /// The frames, the place of each page, the rows of swapped pages, the level of each region, and the greatest level.
 #[derive(Drop)]
@@ -28,12 +28,12 @@ impl Pager {
         requires at_most { space.now.frames ≤ 4096 }
         ensures frames { IfOk result (λ p. p.pool ≡ fresh_pool space.now.frames) }
         ensures sound { IfOk result (λ p. IsPool p.pool) }
-        ensures places { IfOk result (λ p. p.places ≡ fresh_map (space.now.regions * 16)) }
-        ensures sets { IfOk result (λ p. p.rows.sets ≡ replicate (space.now.regions * 16) no_levels) }
+        ensures places { IfOk result (λ p. p.places ≡ fresh_map (space.now.regions * REGION_PAGES)) }
+        ensures sets { IfOk result (λ p. p.rows.sets ≡ replicate (space.now.regions * REGION_PAGES) no_levels) }
         ensures levels { IfOk result (λ p. p.levels ≡ replicate space.now.regions 0) }
         ensures level { IfOk result (λ p. p.top ≡ space.now.levels) }
     {
-        let pages = space.regions * 16;
+        let pages = space.regions * REGION_PAGES;
         let pool = FramePool::new(alloc, space.frames)?;
         let places = PageMap::new(alloc, pages)?;
         let rows = RefTable::new(alloc, pages)?;

@@ -9,7 +9,7 @@ use frame_pool::FramePool;
 use mem_port::{tag_after, tag_with};
 use std::alloc::Global;
 use std::marker::Model;
-use store_word::{NoMemory, Word};
+use store_word::{NoMemory, PAGE_WORDS, Word};
 
 /// The level of each region, and whether any was ever 1 or more: as long as none was, no address has such a level.
 #[derive(Drop)]
@@ -87,7 +87,7 @@ impl RegionLevels {
     #[inline]
     pub(crate) fn store_word(&self, pool: &mut FramePool, frame: u32, offset: u32, word: Word)
         requires frame { frame < frames_of pool.old }
-        requires in_range { offset < 256 }
+        requires in_range { offset < PAGE_WORDS }
         ensures written { pool.new ≡ stored_pool pool.old frame offset word (tag_of pool.old frame || nat_lt 0 (level_of_word self.now word)) }
         ensures sound { IsPool pool.new }
     {
@@ -107,7 +107,7 @@ impl RegionLevels {
         second: Word,
     )
         requires frame { frame < frames_of pool.old }
-        requires in_range { offset + 1 < 256 }
+        requires in_range { offset + 1 < PAGE_WORDS }
         ensures written { StoresPair pool.old pool.new self.now frame offset first second }
         ensures sound { IsPool pool.new }
     {

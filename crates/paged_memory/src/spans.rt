@@ -6,7 +6,7 @@ ghost use Rattle.frame_pool.specs.Pool.{frames_of, with_latest, IsPool};
 
 use crate::pager::Pager;
 use page_map::PagePlace;
-use store_word::Word;
+use store_word::{PAGE_WORDS, Word};
 
 impl Pager {
     ghost use Rattle.paged_memory.specs.Paging.{resident_of, words_of, IsPaged};
@@ -33,7 +33,7 @@ impl Pager {
     // if it has none.
     fn tag_span(&mut self, frame: u32, offset: u32, count: u32)
         requires frame { frame < frames_of self.old.pool }
-        requires in_range { offset + count ≤ 256 }
+        requires in_range { offset + count ≤ PAGE_WORDS }
         ensures marks { (tag : Bool) × TagsSpan self.old.pool self.new.pool self.old.levels frame offset count tag }
         ensures unchanged { paging_of self.new ≡ record (paging_of self.old) { pool = self.new.pool } }
         ensures sound { IsPool self.new.pool }
@@ -48,32 +48,32 @@ impl Pager {
     pub(crate) fn copy_span(&mut self, from: u32, to: u32, count: u32)
         requires paged { (stored : List Parts) × IsPaged (paging_of self.old) stored }
         requires at_least { 0 < count }
-        requires from_page { from % 256 + count ≤ 256 }
-        requires to_page { to % 256 + count ≤ 256 }
-        requires from_held { Contains (resident_of (paging_of self.old)) (from / 256) }
-        requires to_held { Contains (resident_of (paging_of self.old)) (to / 256) }
+        requires from_page { from % PAGE_WORDS + count ≤ PAGE_WORDS }
+        requires to_page { to % PAGE_WORDS + count ≤ PAGE_WORDS }
+        requires from_held { Contains (resident_of (paging_of self.old)) (from / PAGE_WORDS) }
+        requires to_held { Contains (resident_of (paging_of self.old)) (to / PAGE_WORDS) }
         ensures { (stored : List Parts) → IsPaged (paging_of self.old) stored
             → Lays (paging_of self.old) stored (paging_of self.new) to count (λ i. slice_index_or (words_of (paging_of self.old) stored) (from + i) null_word)
-            (latest (to / 256) (latest (from / 256) (resident_of (paging_of self.old)))) }
+            (latest (to / PAGE_WORDS) (latest (from / PAGE_WORDS) (resident_of (paging_of self.old)))) }
     {
-        let from_frame = self.use_resident(from / 256);
-        let to_frame = self.use_resident(to / 256);
+        let from_frame = self.use_resident(from / PAGE_WORDS);
+        let to_frame = self.use_resident(to / PAGE_WORDS);
         self.pool
-            .copy_words(from_frame, from % 256, to_frame, to % 256, count);
-        self.tag_span(to_frame, to % 256, count);
+            .copy_words(from_frame, from % PAGE_WORDS, to_frame, to % PAGE_WORDS, count);
+        self.tag_span(to_frame, to % PAGE_WORDS, count);
     }
 
     /// Writes one word to `count` addresses of a resident page.
     pub(crate) fn fill_span(&mut self, at: u32, count: u32, word: Word)
         requires paged { (stored : List Parts) × IsPaged (paging_of self.old) stored }
         requires at_least { 0 < count }
-        requires page { at % 256 + count ≤ 256 }
-        requires held { Contains (resident_of (paging_of self.old)) (at / 256) }
+        requires page { at % PAGE_WORDS + count ≤ PAGE_WORDS }
+        requires held { Contains (resident_of (paging_of self.old)) (at / PAGE_WORDS) }
         ensures { (stored : List Parts) → IsPaged (paging_of self.old) stored
-            → Lays (paging_of self.old) stored (paging_of self.new) at count (λ _. word) (latest (at / 256) (resident_of (paging_of self.old))) }
+            → Lays (paging_of self.old) stored (paging_of self.new) at count (λ _. word) (latest (at / PAGE_WORDS) (resident_of (paging_of self.old))) }
     {
-        let frame = self.use_resident(at / 256);
-        self.pool.fill_words(frame, at % 256, count, word);
+        let frame = self.use_resident(at / PAGE_WORDS);
+        self.pool.fill_words(frame, at % PAGE_WORDS, count, word);
         self.levels.tag_word(&mut self.pool, frame, word);
     }
 }

@@ -1,6 +1,7 @@
 -- What holds of all scans.
 use Rattle.std.specs.Prelude.{◌≡◌, ℕ, ◌+◌, ◌*◌, ◌/◌, ◌%◌, ◌<◌, ◌≤◌, true, false, List, length, slice_index, Option, Some, None}
 use Rattle.store_word.specs.Words.{Parts}
+use Rattle.store_word.specs.declared.sizes.TheConstants.{PAGE_WORDS, REGION_PAGES}
 use Rattle.mem_port.specs.Store.{Store}
 use Rattle.area_space.specs.Table.{Table}
 use Rattle.area_space.specs.Sound.{IsTable}
@@ -53,10 +54,10 @@ NextIsDefined = (m : Store) (t : Table) (scan : Scan) (registers : List Parts) �
 -- the scan is past the unit: the register is scanned, or the word is one of the first of its page that are scanned or aren't units
 abbrev pub IsPast : Scan → Left → Type 0
 IsPast s (Register r) = r < s.scanned
-IsPast s (Word a) = a % 256 < slice_index s.pages (a / 256)
+IsPast s (Word a) = a % PAGE_WORDS < slice_index s.pages (a / PAGE_WORDS)
 
 -- a scan isn't past the unit that it scans, then it is; and it stays past a unit when others are scanned
 pub record ScansOnce : Type 0 where
-  pub scanned : (m m' : Store) (t t' : Table) (scan scan' : Scan) (registers registers' : List Parts) → length scan.pages ≡ 16 * t.regions → Scans m t scan registers m' t' scan' registers' Scanned
+  pub scanned : (m m' : Store) (t t' : Table) (scan scan' : Scan) (registers registers' : List Parts) → length scan.pages ≡ REGION_PAGES * t.regions → Scans m t scan registers m' t' scan' registers' Scanned
       → (unit : Left) × (next_of scan t ≡ Some unit) × (IsPast scan unit → ⊥) × IsPast scan' unit
   pub past : (m m' : Store) (t t' : Table) (scan scan' : Scan) (registers registers' : List Parts) (count : ℕ) (unit : Left) → ScansMany m t scan registers m' t' scan' registers' count → IsPast scan unit → IsPast scan' unit

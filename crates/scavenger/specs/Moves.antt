@@ -1,6 +1,7 @@
 -- Which words move by a scan.
 use Rattle.std.specs.Prelude.{◌≡◌, ℕ, zero, suc, ◌/◌, List, get_or, Option, Some, None}
 use Rattle.store_word.specs.Words.{Parts, null_word}
+use Rattle.store_word.specs.declared.sizes.TheConstants.{PAGE_WORDS}
 use Rattle.mem_port.specs.Store.{Store}
 use Rattle.area_space.specs.Table.{Table}
 use Rattle.transporter.specs.Moving.{MovesFor, FetchMoves}
@@ -16,7 +17,7 @@ pub record WordMoves (m : Store) (t : Table) (scan : Scan) (m' : Store) (t' : Ta
   pub memory : Store
   pub table : Table
   pub fetched : FetchMoves m t memory table a
-  pub ends : EndsPage memory table (word_done scan a) m' t' (a / 256)
+  pub ends : EndsPage memory table (word_done scan a) m' t' (a / PAGE_WORDS)
 
 -- the words that the scan of a unit moves: those that the settling of its own word moves, and none if that has no old address
 abbrev pub UnitMoves : Store → Table → Scan → List Parts → Store → Table → List Parts → Option ScanUnit → Type 0

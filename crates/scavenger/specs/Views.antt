@@ -6,6 +6,7 @@ use Rattle.scavenger.specs.Scan.{Scan}
 use Rattle.scavenger.specs.declared.scan_set.Progress.{Progress}
 use Rattle.scavenger.specs.declared.scan_set.Unit.{Unit as ScanUnit}
 use Rattle.store_word.specs.Words.{Parts}
+use Rattle.store_word.specs.declared.sizes.TheConstants.{REGION_WORDS}
 use Rattle.scavenger.specs.Collecting as collecting
 use Rattle.scavenger.specs.Left as left
 use Rattle.scavenger.specs.Moves as moves
@@ -27,7 +28,7 @@ IsCollecting v = collecting.IsCollecting v.mem.store v.table
 
 -- the memory has the words of the table's regions
 abbrev pub IsSized : GroundView → Type 0
-IsSized v = length v.mem.store.words ≡ 4096 * v.table.regions
+IsSized v = length v.mem.store.words ≡ REGION_WORDS * v.table.regions
 
 abbrev pub Remains : GroundView → Scan → List Parts → GroundView → Scan → List Parts → Type 0
 Remains v scan registers v' = scanning.Remains v.mem.store v.table scan registers v'.mem.store v'.table

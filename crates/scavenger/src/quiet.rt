@@ -14,7 +14,7 @@ use crate::scan_set::ScanSet;
 use area_space::RegionTable;
 use mem_port::{Memory, Span, WordTest};
 use std::sync::ledger::Ledger;
-use store_word::{Steps, SwapFault, Word};
+use store_word::{PAGE_WORDS, REGION_PAGES, REGION_WORDS, Steps, SwapFault, Word};
 
 /// Which words have an address in an old region, or one past the last region.
 #[derive(Clone, Copy)]
@@ -38,9 +38,9 @@ impl<'a> WordTest for OldAddresses<'a> {
 // Whether an address is in an old region, or past the last region.
 #[inline]
 fn may_be_old(table: &RegionTable, at: u32) -> bool
-    ensures { IsTrue result ↔ (at / 4096 < table.now.regions → IsOld table.now (at / 4096)) }
+    ensures { IsTrue result ↔ (at / REGION_WORDS < table.now.regions → IsOld table.now (at / REGION_WORDS)) }
 {
-    if table.regions() <= at / 4096 {
+    if table.regions() <= at / REGION_WORDS {
         return true;
     }
     table.is_old(at)
@@ -49,12 +49,12 @@ fn may_be_old(table: &RegionTable, at: u32) -> bool
 // How many words of a page, from this one on, precede the last used one.
 #[inline]
 fn words_before_last(table: &RegionTable, at: u32) -> u32
-    requires { at / 256 / 16 < table.now.regions }
+    requires { at / PAGE_WORDS / REGION_PAGES < table.now.regions }
     ensures { (count : ℕ) → 0 < count → count ≤ result → HasAfter table.now at count }
 {
-    let page_end = at % 4096 - at % 256 + 256;
-    let end = table.used(at / 256 / 16).min(page_end);
-    end.saturating_sub(at % 4096 + 1)
+    let page_end = at % REGION_WORDS - at % PAGE_WORDS + PAGE_WORDS;
+    let end = table.used(at / PAGE_WORDS / REGION_PAGES).min(page_end);
+    end.saturating_sub(at % REGION_WORDS + 1)
 }
 
 /// The words that a scan has passed, the one that is next after them if it is known, and whether they were read and
@@ -167,12 +167,12 @@ impl ScanSet {
     // Records that words of a page are scanned, and all before them are.
     #[inline]
     fn mark_words(&mut self, at: u32, count: u32)
-        requires in_range { at / 256 < length self.old.pages }
-        requires page { at % 256 + count ≤ 256 }
+        requires in_range { at / PAGE_WORDS < length self.old.pages }
+        requires page { at % PAGE_WORDS + count ≤ PAGE_WORDS }
         requires at_most { self.old.done < 2 ^ 40 }
         ensures { self.new ≡ words_done self.old at count }
     {
-        self.pages[(at / 256) as usize] = (at % 256 + count) as u16;
+        self.pages[(at / PAGE_WORDS) as usize] = (at % PAGE_WORDS + count) as u16;
         self.done += u64::from(count);
     }
 }

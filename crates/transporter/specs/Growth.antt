@@ -1,5 +1,6 @@
 -- How a table changes by a transport.
 use Rattle.std.specs.Prelude.{◌≡◌, ◌⊎◌, ℕ, ◌<◌, ◌≤◌}
+use Rattle.store_word.specs.declared.sizes.TheConstants.{MAX_OBJECT_WORDS}
 use Rattle.area_space.specs.Table.{Table, areas_of, levels_of, slot_of, live, IsUnclassed}
 use Rattle.area_space.specs.Places.{IsEnd, opened}
 use Rattle.transporter.specs.Relocations.{Commits}
@@ -29,7 +30,7 @@ pub record PlacesWords (t t' : Table) : Type 0 where
   pub words : ℕ
   pub charge : ℕ
   pub some : 1 ≤ words
-  pub few : words ≤ 2048
+  pub few : words ≤ MAX_OBJECT_WORDS
   pub end : IsEnd room (slot_of room area level) to words
   pub commits : Commits room t' area from level to words charge
 

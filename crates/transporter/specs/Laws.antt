@@ -2,6 +2,7 @@
 use Rattle.std.specs.Prelude.{◌≡◌, ℕ, ◌+◌, ◌/◌, ◌<◌, List, Some}
 use Rattle.store_word.specs.Words.{Parts}
 use Rattle.store_word.specs.declared.word.Content.{Content}
+use Rattle.store_word.specs.declared.sizes.TheConstants.{PAGE_WORDS, REGION_WORDS}
 use Rattle.area_space.specs.lisp_graph.declared.object.Value.{Value}
 use Rattle.area_space.specs.lisp_graph.declared.world.AreaRule.{AreaRule}
 use Rattle.mem_port.specs.Store.{Store}
@@ -49,7 +50,7 @@ pub record MarksFollowTwice : Type 0 where
 -- if the table is the same, a page whose words are the same gets no marks
 abbrev pub UnchangedUnmarked : Type 0
 UnchangedUnmarked =
-    (m m' : Store) (t : Table) (page : ℕ) → MarksFollow m t m' t → ((a : ℕ) → a / 256 ≡ page → word_at m'.words a ≡ word_at m.words a)
+    (m m' : Store) (t : Table) (page : ℕ) → MarksFollow m t m' t → ((a : ℕ) → a / PAGE_WORDS ≡ page → word_at m'.words a ≡ word_at m.words a)
     → m.marks page ≡ 0 → m'.marks page ≡ 0
 
 -- transports of two calls are those of both together
@@ -59,7 +60,7 @@ MovesTwice = (m m1 m2 : Store) (t t1 t2 : Table) (n k : ℕ) → MovesAtMost m t
 -- a compact run of cells at an old address moves as a whole: its cells leave forwards to consecutive words
 abbrev pub RunsMoveTogether : Type 0
 RunsMoveTogether =
-    (m m' : Store) (t t' : Table) (at to here : ℕ) (run : Run) → MovesFrom m t m' t' at to → Final m.words at here → IsOld t (here / 4096) → IsRun m.words here run
+    (m m' : Store) (t t' : Table) (at to here : ℕ) (run : Run) → MovesFrom m t m' t' at to → Final m.words at here → IsOld t (here / REGION_WORDS) → IsRun m.words here run
     → (i : ℕ) → i < run.cells → word_at m'.words (here + i) ≡ forward_to (to + i)
 
 -- if a table only grows, what is live stays live and used, what is old stays old, nothing else becomes old, and a collection keeps what it kept

@@ -1,5 +1,6 @@
 -- What transports leave unchanged.
 use Rattle.std.specs.Prelude.{◌≡◌, ◌≢◌, ℕ, ◌/◌, ◌%◌, ◌<◌, ◌≤◌, Contains}
+use Rattle.store_word.specs.declared.sizes.TheConstants.{REGION_WORDS}
 use Rattle.mem_port.specs.Store.{Store}
 use Rattle.area_space.specs.Table.{Table, live, stale, chain, used_of, IsLive, IsOld}
 use Rattle.obj_layout.specs.Forwards.{word_at}
@@ -17,8 +18,8 @@ pub record OnlyGrows (t t' : Table) : Type 0 where
 
 -- a used word of a live region
 pub record IsLiveWord (t : Table) (a : ℕ) : Type 0 where
-  pub live : IsLive t (a / 4096)
-  pub used : a % 4096 < used_of t (a / 4096)
+  pub live : IsLive t (a / REGION_WORDS)
+  pub used : a % REGION_WORDS < used_of t (a / REGION_WORDS)
 
 -- no used word of a live region changes
 pub record LiveWordsUnchanged (m : Store) (t : Table) (m' : Store) (t' : Table) : Type 0 where

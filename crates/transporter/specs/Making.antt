@@ -1,5 +1,6 @@
 -- New objects on a ground.
 use Rattle.std.specs.Prelude.{◌≡◌, ℕ, ◌+◌, ◌-◌, ◌/◌, ◌<◌, ◌≤◌, List, length, Some}
+use Rattle.store_word.specs.declared.sizes.TheConstants.{PAGE_WORDS}
 use Rattle.area_space.specs.lisp_graph.declared.world.AreaRule.{AreaRule}
 use Rattle.mem_port.specs.Store as Memory
 use Rattle.area_space.specs.declared.classes.Origin.TheVariants.{New}
@@ -34,4 +35,4 @@ pub record PlacesNew (t t' : Table) (area level at words charge : ℕ) : Type 0 
   pub opens : OpensOrStays t room
   pub end : IsEnd room (slot_of room area level) at words
   pub commit : t' ≡ record (committed room (slot_of room area level) at words charge New) { pages = t'.pages }
-  pub pages : Adds (page_list room) (page_list t') (at / 256) ((at + words - 1) / 256)
+  pub pages : Adds (page_list room) (page_list t') (at / PAGE_WORDS) ((at + words - 1) / PAGE_WORDS)

@@ -1,6 +1,7 @@
 -- Which words move as words are settled, one after another.
 use Rattle.std.specs.Prelude.{◌≡◌, ℕ, suc, ◌/◌, ◌≤◌, Some}
 use Rattle.store_word.specs.Words.{Parts}
+use Rattle.store_word.specs.declared.sizes.TheConstants.{REGION_WORDS}
 use Rattle.mem_port.specs.Store.{Store, StoresNothing}
 use Rattle.area_space.specs.Table.{Table, IsOld}
 use Rattle.obj_layout.specs.Forwards.{word_at}
@@ -12,7 +13,7 @@ use Rattle.transporter.specs.Transports.{MovesFrom}
 -- A word is settled: without an old address it is unchanged, and nothing moves; otherwise the object that it refers to is transported, and it gets the new address
 pub data MovesFor (m : Store) (t : Table) (m' : Store) (t' : Table) (old new : Parts) : Type 0 where
   stays : (RefersToOld t old → ⊥) → StoresNothing m m' → t' ≡ t → new ≡ old → MovesFor m t m' t' old new
-  moves : (at to : ℕ) → reference_of old.content ≡ Some at → IsOld t (at / 4096) → MovesFrom m t m' t' at to → new ≡ readdressed old to → MovesFor m t m' t' old new
+  moves : (at to : ℕ) → reference_of old.content ≡ Some at → IsOld t (at / REGION_WORDS) → MovesFrom m t m' t' at to → new ≡ readdressed old to → MovesFor m t m' t' old new
 
 -- The word at an address is settled, and the result is stored there if it differs
 pub record FetchMoves (m : Store) (t : Table) (m' : Store) (t' : Table) (a : ℕ) : Type 0 where

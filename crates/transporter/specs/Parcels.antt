@@ -1,6 +1,7 @@
 -- What moves together, and its words at the new place.
 use Rattle.std.specs.Prelude.{◌≡◌, ℕ, suc, ◌+◌, ◌-◌, ◌*◌, ◌≤◌, nat_lt, if◌then◌else◌, List, length, Option, Some, None, IsSome}
 use Rattle.store_word.specs.Words.{Parts}
+use Rattle.store_word.specs.declared.sizes.TheConstants.{MAX_OBJECT_WORDS}
 use Rattle.obj_layout.specs.declared.run.TheConstants.{RUN_LIMIT}
 use Rattle.obj_layout.specs.declared.shape.Shape.TheVariants.{Pair as PairShape, Cell as CellShape, BlockOf}
 use Rattle.obj_layout.specs.declared.run.RunEnd.TheVariants.{Nil as EndsNil, Pair as EndsPair, Forwarded}
@@ -37,7 +38,7 @@ pub data IsParcel (words : List Parts) (at : ℕ) (p : Parcel) : Type 0 where
 pub record IsFit (p : Parcel) : Type 0 where
   pub some : 1 ≤ p.objects
   pub each : p.objects ≤ p.words
-  pub few : p.words ≤ 2048
+  pub few : p.words ≤ MAX_OBJECT_WORDS
   pub cells : IsSome p.rest → p.words ≤ RUN_LIMIT
 
 -- an object has all its words in the memory, from an address on; a cell those of its compact run

@@ -2,6 +2,7 @@
 use Rattle.std.specs.Prelude.{◌≡◌, ℕ, ◌+◌, ◌/◌, ◌%◌, ◌<◌, ◌≤◌, ◌⊎◌, ◌↔◌, List, length, get_or, Contains, Some}
 use Rattle.store_word.specs.Words.{Parts, null_word, address_of}
 use Rattle.store_word.specs.declared.word.Content.{Content}
+use Rattle.store_word.specs.declared.sizes.TheConstants.{PAGE_WORDS, REGION_WORDS}
 use Rattle.area_space.specs.lisp_graph.Totals.{total}
 use Rattle.mem_port.specs.Store.{Store}
 use Rattle.area_space.specs.Table.{Table, used_of, IsOld}
@@ -11,7 +12,7 @@ use Rattle.transporter.specs.LiveWordsUnchanged.{OnlyGrows, IsLiveWord}
 
 -- no address of the content is in an old region
 abbrev pub FreshOn : Table → Content → Type 0
-FreshOn t content = (b : ℕ) → address_of content ≡ Some b → IsOld t (b / 4096) → ⊥
+FreshOn t content = (b : ℕ) → address_of content ≡ Some b → IsOld t (b / REGION_WORDS) → ⊥
 
 -- each used word of a live region is fresh
 abbrev pub NoOldAddresses : Store → Table → Type 0
@@ -19,7 +20,7 @@ NoOldAddresses m t = (a : ℕ) → IsLiveWord t a → FreshOn t (word_at m.words
 
 -- a page has a word that was placed between two tables
 abbrev pub HasPlaced : Table → Table → ℕ → Type 0
-HasPlaced t t' page = (a : ℕ) × (a / 256 ≡ page) × (used_of t (a / 4096) ≤ a % 4096) × (a % 4096 < used_of t' (a / 4096))
+HasPlaced t t' page = (a : ℕ) × (a / PAGE_WORDS ≡ page) × (used_of t (a / REGION_WORDS) ≤ a % REGION_WORDS) × (a % REGION_WORDS < used_of t' (a / REGION_WORDS))
 
 -- the set of pages has grown by the pages with such a word, and no others
 pub record PagesGrow (t t' : Table) : Type 0 where

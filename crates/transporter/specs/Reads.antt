@@ -1,5 +1,6 @@
 -- A word of a ground is read, and settled at its place.
 use Rattle.std.specs.Prelude.{◌≡◌, ℕ, ◌+◌, ◌-◌, ◌*◌, ◌≤◌, Bool, false}
+use Rattle.store_word.specs.declared.sizes.TheConstants.{MAX_OBJECT_WORDS}
 use Rattle.area_space.specs.View.{GroundView}
 use Rattle.mem_port.specs.Store.{StoresNothing}
 use Rattle.transporter.specs.Growth.{Grows}
@@ -19,6 +20,6 @@ pub record KeepsGround (v v' : GroundView) : Type 0 where
 
 -- What a read costs: at most 2,048 words are placed. It takes `least` memory accesses at most, and 4 for each word placed, and after a swap error at most 1,024 more.
 pub record ReadCosts (v v' : GroundView) (steps steps' : ℕ) (faulted : Bool) (least : ℕ) : Type 0 where
-  pub few : v'.table.placed ≤ v.table.placed + 2048
+  pub few : v'.table.placed ≤ v.table.placed + MAX_OBJECT_WORDS
   pub cost : faulted ≡ false → steps' ≤ steps + 4 * (v'.table.placed - v.table.placed) + least
   pub most : steps' ≤ steps + 4 * (v'.table.placed - v.table.placed) + (least + 1024)

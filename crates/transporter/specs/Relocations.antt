@@ -1,5 +1,6 @@
 -- What a transport does to the words and to the table.
 use Rattle.std.specs.Prelude.{◌≡◌, ℕ, ◌+◌, ◌-◌, ◌*◌, ◌/◌, ◌<◌, ◌≤◌, ◌⊎◌, true, length, Option, Some, IsSome, IfSome, slice_index, Contains}
+use Rattle.store_word.specs.declared.sizes.TheConstants.{PAGE_WORDS, REGION_WORDS}
 use Rattle.area_space.specs.index_lists.Chains.{last_of}
 use Rattle.mem_port.specs.Spans.{HoldsSpan}
 use Rattle.mem_port.specs.Store.{Store, StoresNothing}
@@ -26,7 +27,7 @@ old_class area level = record { area = area; level = level; stale = true }
 pub record IsOldIn (t : Table) (at area level : ℕ) : Type 0 where
   pub area_in : area < areas_of t
   pub level_in : level < levels_of t
-  pub region : Contains (chain t (stale (slot_of t area level))) (at / 4096)
+  pub region : Contains (chain t (stale (slot_of t area level))) (at / REGION_WORDS)
 
 -- a class is the old one of the region of an address
 pub record IsOldClass (t : Table) (at : ℕ) (class : Class) : Type 0 where
@@ -35,7 +36,7 @@ pub record IsOldClass (t : Table) (at : ℕ) (class : Class) : Type 0 where
 
 -- a region is opened for this many words only if they don't fit in the last one of the class, and it is the free one with the lowest number
 pub record OpensIfFull (t : Table) (slot words : ℕ) (region : Option ℕ) : Type 0 where
-  pub full : IfSome region (λ r. (last : ℕ) → last_of (chain t (live slot)) ≡ Some last → 4096 < used_of t last + words)
+  pub full : IfSome region (λ r. (last : ℕ) → last_of (chain t (live slot)) ≡ Some last → REGION_WORDS < used_of t last + words)
   pub lowest : IfSome region (λ r. (other : ℕ) → other < r → IsUnclassed t other → ⊥)
 
 -- no word changes, and the table at most by a region that is opened for a live class
@@ -57,8 +58,8 @@ pub record Moves (old new : Store) (p : Parcel) (to : ℕ) : Type 0 where
 
 -- the words are committed to the live class of an area and a level, and their charge leaves the old class of that area and another level; the page of the last one is noted
 pub record Commits (t t' : Table) (area from level at words charge : ℕ) : Type 0 where
-  pub table : t' ≡ record (committed t (slot_of t area level) at words charge (Moved (old_class area from))) { pages = t'.pages; last = Some ((at + words - 1) / 256) }
-  pub pages : Adds (page_list t) (page_list t') (at / 256) ((at + words - 1) / 256)
+  pub table : t' ≡ record (committed t (slot_of t area level) at words charge (Moved (old_class area from))) { pages = t'.pages; last = Some ((at + words - 1) / PAGE_WORDS) }
+  pub pages : Adds (page_list t) (page_list t') (at / PAGE_WORDS) ((at + words - 1) / PAGE_WORDS)
 
 -- an object in an old class is now in the live class of its survivors: there is a place, the words are committed, and they move
 pub record Relocates (s : Store) (t : Table) (s' : Store) (t' : Table) (p : Parcel) (to : ℕ) : Type 0 where
@@ -80,7 +81,7 @@ pub record CanMove (s : Store) (t : Table) (p : Parcel) : Type 0 where
   pub fits : IsFit p
   pub inside : p.at + p.words ≤ length s.words
   pub rest_inside : IfSome p.rest (λ rest. rest < length s.words)
-  pub one_region : (p.at + p.words - 1) / 4096 ≡ p.at / 4096
+  pub one_region : (p.at + p.words - 1) / REGION_WORDS ≡ p.at / REGION_WORDS
   pub area : ℕ
   pub level : ℕ
   pub old : IsOldIn t p.at area level
@@ -95,10 +96,10 @@ pub record CanMove (s : Store) (t : Table) (p : Parcel) : Type 0 where
 pub record CanPut (s : Store) (t : Table) (p : Parcel) (class : Class) (to : ℕ) : Type 0 where
   pub sound : IsTable t
   pub fits : IsFit p
-  pub size : length s.words ≡ 4096 * t.regions
+  pub size : length s.words ≡ REGION_WORDS * t.regions
   pub inside : p.at + p.words ≤ length s.words
   pub rest_inside : IfSome p.rest (λ rest. rest < length s.words)
-  pub one_region : (p.at + p.words - 1) / 4096 ≡ p.at / 4096
+  pub one_region : (p.at + p.words - 1) / REGION_WORDS ≡ p.at / REGION_WORDS
   pub old : IsOldIn t p.at class.area class.level
   pub stale_is : class.stale ≡ true
   pub charged : p.charge ≤ slice_index t.charges (stale (slot_of t class.area class.level))
@@ -124,7 +125,7 @@ pub record MovesHere (s : Store) (t : Table) (s' : Store) (t' : Table) (at to : 
   pub parcel : Parcel
   pub is : IsParcel s.words at parcel
   pub fits : IsFit parcel
-  pub one_region : (parcel.at + parcel.words - 1) / 4096 ≡ parcel.at / 4096
+  pub one_region : (parcel.at + parcel.words - 1) / REGION_WORDS ≡ parcel.at / REGION_WORDS
   pub read : Store
   pub stays : StoresNothing s read
   pub relocates : Relocates read t s' t' parcel to

@@ -3,6 +3,7 @@ use Rattle.std.specs.Prelude.{◌≡◌, ◌≢◌, ◌⊎◌, ℕ, ◌/◌, Lis
 use Rattle.store_word.specs.Words.{Parts}
 use Rattle.store_word.specs.declared.word.Content.{Content}
 use Rattle.store_word.specs.declared.word.Content.TheVariants.{List as ListAt, Struct as StructAt}
+use Rattle.store_word.specs.declared.sizes.TheConstants.{REGION_WORDS}
 use Rattle.area_space.specs.lisp_graph.declared.object.Value.{Value}
 use Rattle.area_space.specs.lisp_graph.declared.object.Value.TheVariants as V
 use Rattle.area_space.specs.lisp_graph.declared.world.AreaRule.{AreaRule}
@@ -33,7 +34,7 @@ readdressed word to = record word { content = content_to word.content to }
 
 -- a word is a reference to an old address
 abbrev pub RefersToOld : Table → Parts → Type 0
-RefersToOld t word = (at : ℕ) × (reference_of word.content ≡ Some at) × IsOld t (at / 4096)
+RefersToOld t word = (at : ℕ) × (reference_of word.content ≡ Some at) × IsOld t (at / REGION_WORDS)
 
 -- a collection runs, and keeps the object that a value refers to
 pub record IsKeptValue (t : Table) (registers : List Value) (s : M.Store) (aim : Condemned) (v : Value) : Type 0 where

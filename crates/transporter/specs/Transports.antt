@@ -1,5 +1,6 @@
 -- The objects that a ground represents before and after a transport.
 use Rattle.std.specs.Prelude.{◌≡◌, ℕ, ◌+◌, ◌/◌, ◌≤◌, List, Some}
+use Rattle.store_word.specs.declared.sizes.TheConstants.{REGION_WORDS}
 use Rattle.area_space.specs.lisp_graph.declared.object.Value.{Value}
 use Rattle.area_space.specs.lisp_graph.declared.world.AreaRule.{AreaRule}
 use Rattle.mem_port.specs.Store.{Store, StoresNothing}
@@ -44,13 +45,13 @@ pub record RepresentedByLaterMap (m : Store) (t : Table) (m' : Store) (t' : Tabl
 pub record ReachesOn (m : Store) (t : Table) (m' : Store) (t' : Table) (k : RoleMap) (top : ℕ) (areas : List AreaRule) (s : M.Store) (aim : Condemned) (kind : Kind) (to n : ℕ) : Type 0 where
   pub later : RepresentedByLaterMap m t m' t' k top areas s aim
   pub named : names_as kind (later.map.role to) ≡ Some n
-  pub live : IsLive t' (to / 4096)
+  pub live : IsLive t' (to / REGION_WORDS)
   pub final : IsFinal m'.words to
 
 -- The words of a transport: it returns a final address that isn't old, or moves the parcel at an old one
 pub data MovesFrom (m : Store) (t : Table) (m' : Store) (t' : Table) (at to : ℕ) : Type 0 where
-  there : Final m.words at to → (IsOld t (to / 4096) → ⊥) → StoresNothing m m' → t' ≡ t → MovesFrom m t m' t' at to
-  moved : (here : ℕ) (p : Parcel) (read : Store) → Final m.words at here → IsOld t (here / 4096) → IsParcel m.words here p → StoresNothing m read → Relocates read t m' t' p to → MovesFrom m t m' t' at to
+  there : Final m.words at to → (IsOld t (to / REGION_WORDS) → ⊥) → StoresNothing m m' → t' ≡ t → MovesFrom m t m' t' at to
+  moved : (here : ℕ) (p : Parcel) (read : Store) → Final m.words at here → IsOld t (here / REGION_WORDS) → IsParcel m.words here p → StoresNothing m read → Relocates read t m' t' p to → MovesFrom m t m' t' at to
 
 -- No word changes, and the ground represents whatever it did
 pub record WordsUnchanged (m : Store) (t : Table) (m' : Store) (t' : Table) : Type 0 where

@@ -3,6 +3,7 @@ use Rattle.std.specs.Prelude.{◌≡◌, ℕ, zero, suc, ◌+◌, ◌/◌, ◌<�
 use Rattle.store_word.specs.Words.{Parts}
 use Rattle.store_word.specs.declared.word.CdrCode.TheVariants.{Next, Normal}
 use Rattle.store_word.specs.declared.word.Content.TheVariants.{List as ListAt, GcForward}
+use Rattle.store_word.specs.declared.sizes.TheConstants.{PAGE_WORDS}
 use Rattle.mem_port.specs.Store.{Store, level_of_word}
 use Rattle.obj_layout.specs.Forwards.{word_at}
 
@@ -13,7 +14,7 @@ pub record Writes (old new : Store) (at count : ℕ) (word : ℕ → Parts) : Ty
   pub others : (a : ℕ) → ((at ≤ a) × (a < at + count) → ⊥) → word_at new.words a ≡ word_at old.words a
   pub levels : new.levels ≡ old.levels
   pub top : new.top ≡ old.top
-  pub unmarked : (page : ℕ) → old.marks page ≡ 0 → ((i : ℕ) → i < count → (at + i) / 256 ≡ page → level_of_word old.levels (word i) ≡ 0) → new.marks page ≡ 0
+  pub unmarked : (page : ℕ) → old.marks page ≡ 0 → ((i : ℕ) → i < count → (at + i) / PAGE_WORDS ≡ page → level_of_word old.levels (word i) ≡ 0) → new.marks page ≡ 0
 
 -- the forward that a transported object leaves: a GC-FORWARD to its copy
 abbrev pub forward_to : ℕ → Parts

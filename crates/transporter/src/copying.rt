@@ -10,17 +10,17 @@ ghost use Rattle.transporter.specs.Writes.{Writes, forward_to, pair_word, two_wo
 use crate::parcel::{Pair, Parcel};
 use mem_port::{Memory, assert_invariant};
 use std::sync::ledger::Ledger;
-use store_word::{CdrCode, Steps, SwapFault, Word};
+use store_word::{CdrCode, LAST_OFFSET, PAGE_WORDS, Steps, SwapFault, Word};
 
 // How many of the `left` words that remain are on one page, at each of the two places.
 fn on_one_page(from: u32, to: u32, left: u32) -> u32
     requires { 0 < left }
     ensures some { 0 < result }
     ensures at_most { result ≤ left }
-    ensures from { from % 256 + result ≤ 256 }
-    ensures to { to % 256 + result ≤ 256 }
+    ensures from { from % PAGE_WORDS + result ≤ PAGE_WORDS }
+    ensures to { to % PAGE_WORDS + result ≤ PAGE_WORDS }
 {
-    left.min(256 - from % 256).min(256 - to % 256)
+    left.min(PAGE_WORDS - from % PAGE_WORDS).min(PAGE_WORDS - to % PAGE_WORDS)
 }
 
 /// Copies `count` words to an address; old and new places don't overlap. All their pages are held,
@@ -136,7 +136,7 @@ fn write_pair<M: Memory, L: Ledger>(
     ensures cost { steps.new ≡ steps.old + 2 }
 {
     assert_invariant(mem);
-    if to % 256 < 255 {
+    if to % PAGE_WORDS < LAST_OFFSET {
         mem.write_two(to, pair.first, pair.second, steps)?;
         return Ok(());
     }
@@ -163,7 +163,7 @@ fn lay_parcel<M: Memory, L: Ledger>(
     ensures cost { steps.new ≤ steps.old + 2 * word_count_of parcel.now }
 {
     match pair {
-        Some(words) if parcel.at % 256 < 255 => write_pair(mem, words, to, steps),
+        Some(words) if parcel.at % PAGE_WORDS < LAST_OFFSET => write_pair(mem, words, to, steps),
         _ => copy_parcel(mem, parcel, to, steps),
     }
 }

@@ -19,14 +19,14 @@ use crate::parcel::{Pair, Parcel};
 use area_space::{Class, Ground, Origin, Placed, RegionTable};
 use mem_port::{Memory, Span, assert_invariant, hold_spans};
 use std::sync::ledger::Ledger;
-use store_word::{Steps, SwapFault};
+use store_word::{LAST_OFFSET, MAX_OBJECT_WORDS, PAGE_WORDS, REGION_WORDS, Steps, SwapFault};
 
 // The class of an address, if it is in an old region.
 #[inline]
 pub(crate) fn class_if_old(table: &RegionTable, at: u32) -> Option<Class>
-    requires { at / 4096 < table.now.regions }
+    requires { at / REGION_WORDS < table.now.regions }
     ensures some { IfSome result (IsOldClass table.now at) }
-    ensures none { IfNone result (IsOld table.now (at / 4096) → ⊥) }
+    ensures none { IfNone result (IsOld table.now (at / REGION_WORDS) → ⊥) }
 {
     match table.class_of(at) {
         Some(class) => if class.stale { Some(class) } else { None },
@@ -41,7 +41,7 @@ pub(crate) fn class_if_old(table: &RegionTable, at: u32) -> Option<Class>
 #[inline]
 pub fn place_for<M: Memory>(ground: &mut Ground<M>, area: u8, level: u8, words: u32) -> Placed
     requires at_least { 0 < words }
-    requires at_most { words ≤ 2048 }
+    requires at_most { words ≤ MAX_OBJECT_WORDS }
     requires area { area < areas_of ground.old.table }
     requires level { level < levels_of ground.old.table }
 
@@ -75,8 +75,8 @@ fn hold_places<M: Memory, L: Ledger>(
     to: Span,
     steps: &mut Steps<L>,
 ) -> Result<(), SwapFault>
-    requires first { from.words ≤ 2048 }
-    requires second { to.words ≤ 2048 }
+    requires first { from.words ≤ MAX_OBJECT_WORDS }
+    requires second { to.words ≤ MAX_OBJECT_WORDS }
     requires first_in_range { from.at + from.words ≤ length (M.seen mem.old).words }
     requires second_in_range { to.at + to.words ≤ length (M.seen mem.old).words }
     ensures first_held { OnOk result (HoldsSpan (M.held mem.new) from) }
@@ -86,8 +86,8 @@ fn hold_places<M: Memory, L: Ledger>(
     ensures at_most { steps.new ≤ steps.old + 18 }
 {
     assert_invariant(mem);
-    if from.words == 2 && to.words == 2 && from.at % 256 < 255 && to.at % 256 < 255 {
-        return mem.hold(&[from.at / 256, to.at / 256], steps);
+    if from.words == 2 && to.words == 2 && from.at % PAGE_WORDS < LAST_OFFSET && to.at % PAGE_WORDS < LAST_OFFSET {
+        return mem.hold(&[from.at / PAGE_WORDS, to.at / PAGE_WORDS], steps);
     }
     hold_spans(mem, from, to, steps)
 }
@@ -125,7 +125,7 @@ fn put<M: Memory, L: Ledger>(
     hold_places(&mut ground.mem, from, to, steps)?;
     ground.commit(placed, words, parcel.charge, Origin::Moved(class));
     move_words(&mut ground.mem, parcel, pair, placed.at, steps)?;
-    ground.table.note_moved((placed.at + words - 1) / 256);
+    ground.table.note_moved((placed.at + words - 1) / PAGE_WORDS);
     Ok(())
 }
 

@@ -18,7 +18,7 @@ use crate::transports::transport;
 use area_space::Ground;
 use mem_port::Memory;
 use std::sync::ledger::Ledger;
-use store_word::{Content, Steps, SwapFault, Word};
+use store_word::{Content, MAX_OBJECT_WORDS, REGION_WORDS, Steps, SwapFault, Word};
 
 // The address of a reference.
 #[inline(always)]
@@ -83,7 +83,7 @@ pub fn settle<M: Memory, L: Ledger>(
     ensures accounted { AccountsForFaults (view ground.old).mem (view ground.new).mem steps.old steps.new result }
 
     // What is placed, and the cost.
-    ensures at_most { ground.new.table.placed ≤ ground.old.table.placed + 2048 }
+    ensures at_most { ground.new.table.placed ≤ ground.old.table.placed + MAX_OBJECT_WORDS }
     ensures cost { OnOk result (steps.new ≤ steps.old + 4 * (ground.new.table.placed - ground.old.table.placed) + 43) }
     ensures cost_at_most { OnErr result (steps.new ≤ steps.old + 1069) }
 {
@@ -103,7 +103,7 @@ fn settle_old<M: Memory, L: Ledger>(
 ) -> Result<Word, SwapFault>
     requires can { IsSettleable (view ground.old) word }
     requires agrees { reference_of word.content ≡ Some at }
-    requires in_range { IsOld ground.old.table (at / 4096) }
+    requires in_range { IsOld ground.old.table (at / REGION_WORDS) }
 
     // The word that is returned, and its value.
     ensures settles { IfOk result (SettlesAlways (view ground.old) (view ground.new) word) }
@@ -118,7 +118,7 @@ fn settle_old<M: Memory, L: Ledger>(
     ensures accounted { AccountsForFaults (view ground.old).mem (view ground.new).mem steps.old steps.new result }
 
     // What is placed, and the cost.
-    ensures at_most { ground.new.table.placed ≤ ground.old.table.placed + 2048 }
+    ensures at_most { ground.new.table.placed ≤ ground.old.table.placed + MAX_OBJECT_WORDS }
     ensures cost { OnOk result (steps.new ≤ steps.old + 4 * (ground.new.table.placed - ground.old.table.placed) + 43) }
     ensures cost_at_most { OnErr result (steps.new ≤ steps.old + 1069) }
 {
@@ -166,7 +166,7 @@ pub fn fetch<M: Memory, L: Ledger>(
     ensures accounted { AccountsForFaults (view ground.old).mem (view ground.new).mem steps.old steps.new result }
 
     // What is placed, and the cost.
-    ensures at_most { ground.new.table.placed ≤ ground.old.table.placed + 2048 }
+    ensures at_most { ground.new.table.placed ≤ ground.old.table.placed + MAX_OBJECT_WORDS }
     ensures cost { OnOk result (steps.new ≤ steps.old + 4 * (ground.new.table.placed - ground.old.table.placed) + 45) }
     ensures cost_at_most { steps.new ≤ steps.old + 4 * (ground.new.table.placed - ground.old.table.placed) + 1071 }
 {

@@ -18,7 +18,7 @@ use area_space::{Class, Ground};
 use mem_port::Memory;
 use obj_layout::{Resolved, resolve_first};
 use std::sync::ledger::Ledger;
-use store_word::{Steps, SwapFault};
+use store_word::{MAX_OBJECT_WORDS, Steps, SwapFault};
 
 /// The live address of an object, by any address of it. If the object is in an old region, it moves
 /// first, into its area, at its survivors' level: a block, a pair, or a cell with the compact run
@@ -55,7 +55,7 @@ pub fn transport<M: Memory, L: Ledger>(
     ensures accounted { AccountsForFaults (view ground.old).mem (view ground.new).mem steps.old steps.new result }
 
     // What is placed, and the cost.
-    ensures at_most { ground.new.table.placed ≤ ground.old.table.placed + 2048 }
+    ensures at_most { ground.new.table.placed ≤ ground.old.table.placed + MAX_OBJECT_WORDS }
     ensures cost { OnOk result (steps.new ≤ steps.old + 4 * (ground.new.table.placed - ground.old.table.placed) + 43) }
     ensures cost_at_most { OnErr result (steps.new ≤ steps.old + 1069) }
 {

@@ -16,7 +16,7 @@ use lisp_graph::{Form, Seen, SeenCons};
 use mem_port::Memory;
 use obj_layout::resolve;
 use std::sync::ledger::Ledger;
-use store_word::{CdrCode, Content, Steps, SwapFault, Word};
+use store_word::{CdrCode, Content, REGION_WORDS, Steps, SwapFault, Word};
 
 /// The value of a word: a reference by the place of its object, to which forwards lead, into old
 /// regions too. It takes at most 12 memory accesses. On a swap error nothing is stored, and the count of swap
@@ -75,10 +75,10 @@ fn header_told(first: Word) -> (u16, u16)
 
 // The class of the region of an object.
 fn class_of_object(table: &RegionTable, at: u32) -> Class
-    requires in_range { at / 4096 < table.now.regions }
-    requires used { IsUnclassed table.now (at / 4096) → ⊥ }
+    requires in_range { at / REGION_WORDS < table.now.regions }
+    requires used { IsUnclassed table.now (at / REGION_WORDS) → ⊥ }
     ensures level { result.level < levels_of table.now }
-    ensures found { Contains (chain table.now (class_number table.now result)) (at / 4096) }
+    ensures found { Contains (chain table.now (class_number table.now result)) (at / REGION_WORDS) }
 {
     match table.class_of(at) {
         Some(class) => class,

@@ -7,6 +7,7 @@ ghost use Rattle.area_space.specs.declared.classes.Origin.TheVariants.{Moved};
 
 use super::RegionTable;
 use crate::classes::{Class, Origin};
+use store_word::REGION_WORDS;
 
 impl RegionTable {
     // Charges the live class of a slot, by the origin of the charge.
@@ -53,11 +54,11 @@ impl RegionTable {
 
     // Turns charges of the live class of a place into husks.
     pub(crate) fn note_husk(&mut self, at: u32, words: u32)
-        requires in_range { (slot : ℕ) × Contains (chain self.old (live slot)) (at / 4096) }
-        requires at_most { (slot : ℕ) → Contains (chain self.old (live slot)) (at / 4096) → words ≤ slice_index self.old.charges (live slot) }
-        ensures { (slot : ℕ) → Contains (chain self.old (live slot)) (at / 4096) → self.new ≡ husked self.old (live slot) words }
+        requires in_range { (slot : ℕ) × Contains (chain self.old (live slot)) (at / REGION_WORDS) }
+        requires at_most { (slot : ℕ) → Contains (chain self.old (live slot)) (at / REGION_WORDS) → words ≤ slice_index self.old.charges (live slot) }
+        ensures { (slot : ℕ) → Contains (chain self.old (live slot)) (at / REGION_WORDS) → self.new ≡ husked self.old (live slot) words }
     {
-        let slot = self.slot_at(at / 4096);
+        let slot = self.slot_at(at / REGION_WORDS);
         self.add_husk(2 * slot, words);
     }
 

@@ -12,7 +12,7 @@ use crate::page_set::PageSet;
 use index_lists::Lists;
 use lisp_graph::{AreaKind, AreaRule, Areas};
 use std::alloc::{AllocError, Global};
-use store_word::{NoMemory, Space};
+use store_word::{NoMemory, REGION_PAGES, Space};
 
 impl RegionTable {
     /// A table in which every region is free and no class is charged, for 1 to 1,024 regions, a
@@ -39,7 +39,7 @@ impl RegionTable {
         let charges = vec![in alloc; 0u32; numbers as usize]?;
         let husks = vec![in alloc; 0u32; numbers as usize]?;
         let debts = vec![in alloc; 0u32; count as usize]?;
-        let scan = PageSet::new(alloc, 16 * space.regions)?;
+        let scan = PageSet::new(alloc, REGION_PAGES * space.regions)?;
         Ok(RegionTable {
             chains,
             free,

@@ -8,6 +8,7 @@ ghost use Rattle.area_space.specs.Sound.{IsTable};
 ghost use Rattle.area_space.specs.PageList.{Adds};
 
 use super::RegionTable;
+use store_word::{MAX_OBJECT_WORDS, PAGE_WORDS, REGION_WORDS};
 
 impl RegionTable {
     // The used end of a live chain, if this many words fit there.
@@ -16,18 +17,18 @@ impl RegionTable {
         requires area { area < areas_of self.now }
         requires level { level < levels_of self.now }
         requires at_least { 0 < words }
-        requires at_most { words ≤ 2048 }
+        requires at_most { words ≤ MAX_OBJECT_WORDS }
         ensures some { IfSome result (λ at. IsEnd self.now (slot_of self.now area level) at words) }
         ensures none { IfNone result ((region : ℕ) → last_of (chain self.now (live (slot_of self.now area level))) ≡ Some region
-            → 4096 < used_of self.now region + words) }
+            → REGION_WORDS < used_of self.now region + words) }
         ensures sound { IsTable self.now }
     {
         let slot = self.slot(area, level);
         match self.last_region(slot) {
             Some(region) => {
                 let used = self.used(region);
-                if used + words <= 4096 {
-                    Some(region * 4096 + used)
+                if used + words <= REGION_WORDS {
+                    Some(region * REGION_WORDS + used)
                 } else {
                     None
                 }
@@ -68,7 +69,7 @@ impl RegionTable {
         requires level { level < levels_of self.old }
         requires in_range { region < self.old.regions }
         requires free { IsUnclassed self.old region }
-        requires needed { (r : ℕ) → last_of (chain self.old (live (slot_of self.old area level))) ≡ Some r → 2048 < used_of self.old r }
+        requires needed { (r : ℕ) → last_of (chain self.old (live (slot_of self.old area level))) ≡ Some r → MAX_OBJECT_WORDS < used_of self.old r }
         requires at_most { regions_of_area self.old area + 1 ≤ share self.old area }
         ensures table { self.new ≡ opened self.old (live (slot_of self.old area level)) region }
         ensures sound { IsTable self.new }
@@ -85,11 +86,11 @@ impl RegionTable {
         requires end { (slot : ℕ) × IsEnd self.old slot at words }
         ensures after { self.new ≡ record (extended self.old at words) { pages = self.new.pages } }
         ensures sound { IsTable self.new }
-        ensures pages { Adds (page_list self.old) (page_list self.new) (at / 256) ((at + words - 1) / 256) }
+        ensures pages { Adds (page_list self.old) (page_list self.new) (at / PAGE_WORDS) ((at + words - 1) / PAGE_WORDS) }
     {
-        let region = (at / 4096) as usize;
+        let region = (at / REGION_WORDS) as usize;
         self.used[region] += words;
         self.placed += words as u64;
-        self.scan.insert_span(at / 256, (at + words - 1) / 256);
+        self.scan.insert_span(at / PAGE_WORDS, (at + words - 1) / PAGE_WORDS);
     }
 }

@@ -5,6 +5,7 @@ ghost use Rattle.area_space.specs.PageList.{Adds, Drops};
 
 use super::RegionTable;
 use crate::page_set::PageSet;
+use store_word::REGION_PAGES;
 
 impl RegionTable {
     /// The page of the last word of the latest transport; None if nothing was moved since the
@@ -17,7 +18,7 @@ impl RegionTable {
 
     /// Notes the page of the last word of a transport.
     pub fn note_moved(&mut self, page: u32)
-        requires { page < 16 * self.old.regions }
+        requires { page < REGION_PAGES * self.old.regions }
         ensures { self.new ≡ record self.old { last = Some page } }
     {
         self.last = Some(page);
@@ -33,7 +34,7 @@ impl RegionTable {
 
     /// Adds a page to those that have a word to be scanned.
     pub fn add_scan_page(&mut self, page: u32)
-        requires { page < 16 * self.old.regions }
+        requires { page < REGION_PAGES * self.old.regions }
         ensures unchanged { self.new ≡ record self.old { pages = self.new.pages } }
         ensures pages { Adds (page_list self.old) (page_list self.new) page page }
     {
@@ -42,7 +43,7 @@ impl RegionTable {
 
     /// Removes a page from those that have a word to be scanned.
     pub fn drop_scan_page(&mut self, page: u32)
-        requires { page < 16 * self.old.regions }
+        requires { page < REGION_PAGES * self.old.regions }
         ensures unchanged { self.new ≡ record self.old { pages = self.new.pages } }
         ensures pages { Drops (page_list self.old) (page_list self.new) page }
     {

@@ -17,7 +17,7 @@ use heap_state::settle_register;
 use lisp_graph::{Command, Reply};
 use mem_port::Memory;
 use std::sync::ledger::Ledger;
-use store_word::{Steps, SwapFault, Word};
+use store_word::{MAX_OBJECT_WORDS, Steps, SwapFault, Word};
 
 /// What `find_growing` finds before a block grows.
 #[derive(Clone, Copy, Debug)]
@@ -55,7 +55,7 @@ pub fn find_growing<M: Memory, L: Ledger>(
 
     // costs and swap errors
     ensures accounted { AccountsForFaultsIf (view ground.old).mem (view ground.new).mem steps.old steps.new (is_found_fault result) }
-    ensures placed { ground.new.table.placed ≤ ground.old.table.placed + 2048 }
+    ensures placed { ground.new.table.placed ≤ ground.old.table.placed + MAX_OBJECT_WORDS }
     ensures cost { result ≢ Growing.Answered Reply.Fault → steps.new ≤ steps.old + 4 * (ground.new.table.placed - ground.old.table.placed) + 59 }
 {
     let Ok(word) = settle_register(ground, registers, target, steps) else {

@@ -13,7 +13,7 @@ use heap_state::{settle_register, show_into};
 use lisp_graph::{Command, Reply};
 use mem_port::Memory;
 use std::sync::ledger::Ledger;
-use store_word::{Steps, SwapFault, Word};
+use store_word::{MAX_MOVED_WORDS, MAX_OBJECT_WORDS, Steps, SwapFault, Word};
 
 /// `size`: how many fields the block in a register has. It places at most 2,048 words. If no swap error
 /// occurs, it takes at most 59 memory accesses, and 4 for each word placed.
@@ -27,7 +27,7 @@ pub fn size<M: Memory, L: Ledger>(
     requires in_range { of < list_length registers.old }
     ensures performs { Performs (view ground.old) registers.old (view ground.new) registers.new (Command.Size of) (reply_of result) }
     ensures moves { MovesAtMost (view ground.old) (view ground.new) 1 }
-    ensures costs { CommandCosts (view ground.old) (view ground.new) steps.old steps.new result 2048 59 }
+    ensures costs { CommandCosts (view ground.old) (view ground.new) steps.old steps.new result MAX_OBJECT_WORDS 59 }
 {
     let block = settle_register(ground, registers, of, steps)?;
     match length(ground, block, steps) {
@@ -58,7 +58,7 @@ pub fn get<M: Memory, L: Ledger>(
     requires from { from < list_length registers.old }
     ensures performs { Performs (view ground.old) registers.old (view ground.new) registers.new (Command.Get to from index) (reply_of result) }
     ensures moves { MovesAtMost (view ground.old) (view ground.new) 2 }
-    ensures costs { CommandCosts (view ground.old) (view ground.new) steps.old steps.new result 4096 120 }
+    ensures costs { CommandCosts (view ground.old) (view ground.new) steps.old steps.new result MAX_MOVED_WORDS 120 }
 {
     let block = settle_register(ground, registers, from, steps)?;
     match field(ground, block, index, steps) {

@@ -13,7 +13,7 @@ use heap_state::settle_items;
 use lisp_graph::{Command, Reply};
 use mem_port::Memory;
 use std::sync::ledger::Ledger;
-use store_word::{Steps, SwapFault, Word};
+use store_word::{MAX_MOVED_WORDS, Steps, SwapFault, Word};
 
 /// `put`: the field of this index of the block in a register gets the value of another register. It places at
 /// most 4,096 words. If no swap error occurs, it takes at most 107 memory accesses, and 4 for each word placed.
@@ -30,7 +30,7 @@ pub fn put<M: Memory, L: Ledger>(
     requires from { from < length registers.old }
     ensures performs { Performs (view ground.old) registers.old (view ground.new) registers.new (Command.Put target index from) (reply_of result) }
     ensures moves { MovesAtMost (view ground.old) (view ground.new) 2 }
-    ensures costs { CommandCosts (view ground.old) (view ground.new) steps.old steps.new result 4096 107 }
+    ensures costs { CommandCosts (view ground.old) (view ground.new) steps.old steps.new result MAX_MOVED_WORDS 107 }
 {
     settle_items(ground, registers, &[target, from], steps)?;
     let block = registers[target as usize];

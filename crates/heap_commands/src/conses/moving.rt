@@ -11,7 +11,7 @@ use heap_state::{is_same, settle_items, settle_register};
 use lisp_graph::{Command, Reply};
 use mem_port::Memory;
 use std::sync::ledger::Ledger;
-use store_word::{Steps, SwapFault, Word};
+use store_word::{MAX_MOVED_WORDS, MAX_OBJECT_WORDS, Steps, SwapFault, Word};
 
 /// `move`: a register gets the value of another. It places at most 2,048 words. If no swap error occurs,
 /// it takes at most 46 memory accesses, and 4 for each word placed.
@@ -27,7 +27,7 @@ pub fn copy_register<M: Memory, L: Ledger>(
     requires from { from < length registers.old }
     ensures performs { Performs (view ground.old) registers.old (view ground.new) registers.new (Command.Move to from) (reply_of result) }
     ensures moves { MovesAtMost (view ground.old) (view ground.new) 1 }
-    ensures costs { CommandCosts (view ground.old) (view ground.new) steps.old steps.new result 2048 46 }
+    ensures costs { CommandCosts (view ground.old) (view ground.new) steps.old steps.new result MAX_OBJECT_WORDS 46 }
 {
     let word = settle_register(ground, registers, from, steps)?;
     registers[to as usize] = word;
@@ -55,7 +55,7 @@ pub fn eq<M: Memory, L: Ledger>(
     requires right { right < length registers.old }
     ensures performs { Performs (view ground.old) registers.old (view ground.new) registers.new (Command.Eq left right) (reply_of result) }
     ensures moves { MovesAtMost (view ground.old) (view ground.new) 2 }
-    ensures costs { CommandCosts (view ground.old) (view ground.new) steps.old steps.new result 4096 116 }
+    ensures costs { CommandCosts (view ground.old) (view ground.new) steps.old steps.new result MAX_MOVED_WORDS 116 }
 {
     settle_items(ground, registers, &[left, right], steps)?;
     let first = registers[left as usize];

@@ -14,7 +14,7 @@ use heap_state::{settle_items, settle_register, show_into};
 use lisp_graph::{Command, Reply};
 use mem_port::Memory;
 use std::sync::ledger::Ledger;
-use store_word::{Steps, SwapFault, Word};
+use store_word::{MAX_MOVED_WORDS, Steps, SwapFault, Word};
 
 /// `car`: a register gets the car of the cons in another. It places at most 4,096 words. If no swap
 /// error occurs, it takes at most 119 memory accesses, and 4 for each word placed.
@@ -30,7 +30,7 @@ pub fn car<M: Memory, L: Ledger>(
     requires from { from < length registers.old }
     ensures performs { Performs (view ground.old) registers.old (view ground.new) registers.new (Command.Car to from) (reply_of result) }
     ensures moves { MovesAtMost (view ground.old) (view ground.new) 2 }
-    ensures costs { CommandCosts (view ground.old) (view ground.new) steps.old steps.new result 4096 119 }
+    ensures costs { CommandCosts (view ground.old) (view ground.new) steps.old steps.new result MAX_MOVED_WORDS 119 }
 {
     let cons = settle_register(ground, registers, from, steps)?;
     match cdr_lists::car(ground, cons, steps) {
@@ -54,7 +54,7 @@ pub fn cdr<M: Memory, L: Ledger>(
     requires from { from < length registers.old }
     ensures performs { Performs (view ground.old) registers.old (view ground.new) registers.new (Command.Cdr to from) (reply_of result) }
     ensures moves { MovesAtMost (view ground.old) (view ground.new) 2 }
-    ensures costs { CommandCosts (view ground.old) (view ground.new) steps.old steps.new result 4096 120 }
+    ensures costs { CommandCosts (view ground.old) (view ground.new) steps.old steps.new result MAX_MOVED_WORDS 120 }
 {
     let cons = settle_register(ground, registers, from, steps)?;
     match cdr_lists::cdr(ground, cons, steps) {
@@ -78,7 +78,7 @@ pub fn rplaca<M: Memory, L: Ledger>(
     requires from { from < length registers.old }
     ensures performs { Performs (view ground.old) registers.old (view ground.new) registers.new (Command.Rplaca target from) (reply_of result) }
     ensures moves { MovesAtMost (view ground.old) (view ground.new) 2 }
-    ensures costs { CommandCosts (view ground.old) (view ground.new) steps.old steps.new result 4096 106 }
+    ensures costs { CommandCosts (view ground.old) (view ground.new) steps.old steps.new result MAX_MOVED_WORDS 106 }
 {
     settle_items(ground, registers, &[target, from], steps)?;
     let cons = registers[target as usize];

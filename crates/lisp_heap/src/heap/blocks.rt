@@ -12,7 +12,7 @@ use crate::heap::{Heap, finish_reply, finish_step};
 use lisp_graph::{Command, Reply};
 use mem_port::Memory;
 use std::sync::ledger::Ledger;
-use store_word::Steps;
+use store_word::{MAX_MOVED_WORDS, MAX_OBJECT_WORDS, Steps};
 
 impl<M: Memory> Heap<M> {
     /// `make`: a register gets a new block of at most 2,047 fields, all nil. Its charge is one word
@@ -66,7 +66,7 @@ impl<M: Memory> Heap<M> {
         requires to { to < length self.old.registers }
         requires from { from < length self.old.registers }
         ensures runs { Runs self.old self.new steps.old steps.new (Command.Get to from index) result }
-        ensures costs { Takes self.old self.new steps.old steps.new 4096 120 result }
+        ensures costs { Takes self.old self.new steps.old steps.new MAX_MOVED_WORDS 120 result }
         ensures moves { MovesAtMost self.old self.new 2 }
     {
         let answer = heap_commands::get(
@@ -92,7 +92,7 @@ impl<M: Memory> Heap<M> {
         requires target { target < length self.old.registers }
         requires from { from < length self.old.registers }
         ensures runs { Runs self.old self.new steps.old steps.new (Command.Put target index from) result }
-        ensures costs { Takes self.old self.new steps.old steps.new 4096 107 result }
+        ensures costs { Takes self.old self.new steps.old steps.new MAX_MOVED_WORDS 107 result }
         ensures moves { MovesAtMost self.old self.new 2 }
     {
         let answer = heap_commands::put(
@@ -111,7 +111,7 @@ impl<M: Memory> Heap<M> {
     pub fn size<L: Ledger>(&mut self, of: u8, steps: &mut Steps<L>) -> Reply
         requires in_range { of < length self.old.registers }
         ensures runs { Runs self.old self.new steps.old steps.new (Command.Size of) result }
-        ensures costs { Takes self.old self.new steps.old steps.new 2048 59 result }
+        ensures costs { Takes self.old self.new steps.old steps.new MAX_OBJECT_WORDS 59 result }
         ensures moves { MovesAtMost self.old self.new 1 }
     {
         let answer = heap_commands::size(&mut self.ground, &mut self.registers, of, steps);

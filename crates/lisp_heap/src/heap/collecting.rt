@@ -17,7 +17,7 @@ use heap_collect::{flip, reclaim, scavenge};
 use lisp_graph::{Command, Condemn, Reply};
 use mem_port::{Memory, assert_invariant};
 use std::sync::ledger::Ledger;
-use store_word::Steps;
+use store_word::{MAX_OBJECT_WORDS, Steps};
 
 impl<M: Memory> Heap<M> {
     /// `flip`: begins a collection, and replies with the number of base pages to scan; if one runs,
@@ -53,7 +53,7 @@ impl<M: Memory> Heap<M> {
         ensures moves { MovesAtMost self.old self.new (self.new.scan.done - self.old.scan.done + 1) }
         ensures going { result ≡ Reply.More → IsUnfinished self.new }
         ensures done { result ≡ Reply.Done → left_in self.new ≡ 0 }
-        ensures at_most { result ≢ Reply.Fault → self.new.table.placed ≤ self.old.table.placed + 2048 * (self.new.scan.done - self.old.scan.done) }
+        ensures at_most { result ≢ Reply.Fault → self.new.table.placed ≤ self.old.table.placed + MAX_OBJECT_WORDS * (self.new.scan.done - self.old.scan.done) }
         ensures cost { result ≢ Reply.Fault → steps.new ≤ steps.old + 4 * (self.new.table.placed - self.old.table.placed) + 48 * (self.new.scan.done - self.old.scan.done) }
     {
         let reply = scavenge(

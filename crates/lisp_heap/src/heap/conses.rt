@@ -15,7 +15,7 @@ use heap_commands::{CELL, PAIR};
 use lisp_graph::{Command, Items, Reply};
 use mem_port::Memory;
 use std::sync::ledger::Ledger;
-use store_word::Steps;
+use store_word::{MAX_MOVED_WORDS, Steps};
 
 impl<M: Memory> Heap<M> {
     /// `cons`: a register gets a new cons of the values of two registers. In a world with a capacity above 0
@@ -122,7 +122,7 @@ impl<M: Memory> Heap<M> {
         requires to { to < length self.old.registers }
         requires from { from < length self.old.registers }
         ensures runs { Runs self.old self.new steps.old steps.new (Command.Car to from) result }
-        ensures costs { Takes self.old self.new steps.old steps.new 4096 119 result }
+        ensures costs { Takes self.old self.new steps.old steps.new MAX_MOVED_WORDS 119 result }
         ensures moves { MovesAtMost self.old self.new 2 }
     {
         let answer = heap_commands::car(&mut self.ground, &mut self.registers, to, from, steps);
@@ -135,7 +135,7 @@ impl<M: Memory> Heap<M> {
         requires to { to < length self.old.registers }
         requires from { from < length self.old.registers }
         ensures runs { Runs self.old self.new steps.old steps.new (Command.Cdr to from) result }
-        ensures costs { Takes self.old self.new steps.old steps.new 4096 120 result }
+        ensures costs { Takes self.old self.new steps.old steps.new MAX_MOVED_WORDS 120 result }
         ensures moves { MovesAtMost self.old self.new 2 }
     {
         let answer = heap_commands::cdr(&mut self.ground, &mut self.registers, to, from, steps);
@@ -148,7 +148,7 @@ impl<M: Memory> Heap<M> {
         requires target { target < length self.old.registers }
         requires from { from < length self.old.registers }
         ensures runs { Runs self.old self.new steps.old steps.new (Command.Rplaca target from) result }
-        ensures costs { Takes self.old self.new steps.old steps.new 4096 106 result }
+        ensures costs { Takes self.old self.new steps.old steps.new MAX_MOVED_WORDS 106 result }
         ensures moves { MovesAtMost self.old self.new 2 }
     {
         let answer = heap_commands::rplaca(

@@ -13,7 +13,7 @@ use area_space::Ground;
 use lisp_graph::AreaKind;
 use mem_port::Memory;
 use scavenger::{ScanSet, Unit};
-use store_word::{Space, Word};
+use store_word::{REGION_PAGES, Space, Word};
 
 impl<M: Memory> Heap<M> {
     /// Its memory and the table of its regions.
@@ -30,7 +30,7 @@ impl<M: Memory> Heap<M> {
     /// What remains to be scanned. It has one number for each page.
     pub fn scan(&self) -> &ScanSet
         ensures value { result.now ≡ self.now.scan }
-        ensures pages { length self.now.scan.pages ≡ 16 * self.now.table.regions }
+        ensures pages { length self.now.scan.pages ≡ REGION_PAGES * self.now.table.regions }
     {
         &self.scan
     }

@@ -12,7 +12,7 @@ use heap_state::commands_are_steps;
 use lisp_graph::{Command, Reply, Value};
 use mem_port::{Memory, assert_invariant};
 use std::sync::ledger::Ledger;
-use store_word::{Steps, Word};
+use store_word::{MAX_MOVED_WORDS, MAX_OBJECT_WORDS, Steps, Word};
 
 impl<M: Memory> Heap<M> {
     /// `set`: a register gets a value that isn't a reference.
@@ -35,7 +35,7 @@ impl<M: Memory> Heap<M> {
         requires to { to < length self.old.registers }
         requires from { from < length self.old.registers }
         ensures runs { Runs self.old self.new steps.old steps.new (Command.Move to from) result }
-        ensures costs { Takes self.old self.new steps.old steps.new 2048 46 result }
+        ensures costs { Takes self.old self.new steps.old steps.new MAX_OBJECT_WORDS 46 result }
         ensures moves { MovesAtMost self.old self.new 1 }
     {
         let answer = heap_commands::copy_register(
@@ -55,7 +55,7 @@ impl<M: Memory> Heap<M> {
         requires left { left < length self.old.registers }
         requires right { right < length self.old.registers }
         ensures runs { Runs self.old self.new steps.old steps.new (Command.Eq left right) result }
-        ensures costs { Takes self.old self.new steps.old steps.new 4096 116 result }
+        ensures costs { Takes self.old self.new steps.old steps.new MAX_MOVED_WORDS 116 result }
         ensures moves { MovesAtMost self.old self.new 2 }
     {
         let answer = heap_commands::eq(&mut self.ground, &mut self.registers, left, right, steps);

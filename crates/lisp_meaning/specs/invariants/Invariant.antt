@@ -1,5 +1,6 @@
 -- The invariant that every transition keeps. It implies which state a machine represents.
 use Rattle.std.specs.Prelude.{◌≡◌, ℕ, suc, ◌+◌, ◌<◌, ◌≤◌, true, false, ◌&&◌, List, length, get_or, Some, IsTrue}
+use Rattle.lisp_graph.specs.store_word.declared.sizes.TheConstants.{MAX_OBJECT_WORDS}
 use Rattle.lisp_graph.specs.store_word.Words.{null_word}
 use Rattle.lisp_graph.specs.declared.object.Value.TheVariants as V
 use Rattle.lisp_graph.specs.declared.world.AreaRule.{AreaRule}
@@ -46,7 +47,7 @@ pub record MemoryInvariant (g : Image) (k : RoleMap) (top : ℕ) (areas : List A
   pub room_live : (area level : ℕ) → used_words g (of_class area level) + spares_in s k (classes g) (in_class area level) ≤ g.live_charge area level + g.live_husks area level
   pub room_husks : HusksFit g k
   pub room_old : (area : ℕ) → used_words g (old_of area) ≤ charges s (λ n. aim.condemned n && per_area s area n) + aim.gone area
-  pub chains : (i : ℕ) → i < length g.regions → is_free (get_or g.regions i no_region).standing ≡ false → g.is_last i ≡ false → 2048 < (get_or g.regions i no_region).used
+  pub chains : (i : ℕ) → i < length g.regions → is_free (get_or g.regions i no_region).standing ≡ false → g.is_last i ≡ false → MAX_OBJECT_WORDS < (get_or g.regions i no_region).used
   pub marks : Marks g
 
 -- the whole machine

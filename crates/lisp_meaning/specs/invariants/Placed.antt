@@ -1,5 +1,6 @@
 -- What placing and writing words changes in the table and the memory, in numbers alone.
 use Rattle.std.specs.Prelude.{◌≡◌, ℕ, ◌+◌, ◌<◌, ◌≤◌, true, false, length, get_or}
+use Rattle.lisp_graph.specs.store_word.declared.sizes.TheConstants.{MAX_OBJECT_WORDS}
 use Rattle.lisp_meaning.specs.reading.Image.{Image, word, region, is_free, is_used, used_words, Live, no_region}
 use Rattle.lisp_meaning.specs.reading.Classes.{classes, class_at, region_of, of_class, old_of}
 
@@ -17,7 +18,7 @@ pub record Placed (g g' : Image) (b count area level : ℕ) : Type 0 where
   pub used_class : used_words g' (of_class area level) ≡ used_words g (of_class area level) + count
   pub used_else : (x y : ℕ) → ((x ≡ area) × (y ≡ level) → ⊥) → used_words g' (of_class x y) ≡ used_words g (of_class x y)
   pub used_old : (x : ℕ) → used_words g' (old_of x) ≡ used_words g (old_of x)
-  pub chains : (i : ℕ) → i < length g'.regions → is_free (get_or g'.regions i no_region).standing ≡ false → g'.is_last i ≡ false → 2048 < (get_or g'.regions i no_region).used
+  pub chains : (i : ℕ) → i < length g'.regions → is_free (get_or g'.regions i no_region).standing ≡ false → g'.is_last i ≡ false → MAX_OBJECT_WORDS < (get_or g'.regions i no_region).used
 
 -- and they are charged to their class, as those of a new object
 pub record Charged (g g' : Image) (area level charge : ℕ) : Type 0 where

@@ -1,5 +1,6 @@
 -- Flips and reclaims keep the invariant.
 use Rattle.std.specs.Prelude.{◌≡◌, ℕ, ◌+◌, ◌*◌, ◌<◌, ◌≤◌, true, false, Some, None}
+use Rattle.lisp_graph.specs.store_word.declared.sizes.TheConstants.{PAGE_WORDS}
 use Rattle.lisp_graph.specs.declared.command.Condemn.{Condemn}
 use Rattle.lisp_meaning.specs.machine.State.{Collection, Idle, Running, State}
 use Rattle.lisp_meaning.specs.machine.Flip.{flipped, Settles}
@@ -20,7 +21,7 @@ abbrev pub Flipped : Type 0
 Flipped =
     (g g' : Image) (k : RoleMap) (s : State) (what : Condemn) (pages : ℕ)
     → MachineInvariant g k s → s.phase ≡ Idle → TableFlipped g g' s.space.levels (condemned_classes s.areas what)
-    → g'.registers ≡ g.registers → g'.collection ≡ Some what → IsScanned g' false → units_left g' ≤ s.space.registers + 256 * pages
+    → g'.registers ≡ g.registers → g'.collection ≡ Some what → IsScanned g' false → units_left g' ≤ s.space.registers + PAGE_WORDS * pages
     → MachineInvariant g' k (flipped s what pages)
 
 -- if a collection's scan is finished and the old regions were freed, the machine represents a state in which the collection has ended

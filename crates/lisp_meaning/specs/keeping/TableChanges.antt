@@ -1,5 +1,6 @@
 -- What a flip and a reclaim do to classes, words and the table's numbers.
 use Rattle.std.specs.Prelude.{◌≡◌, ℕ, suc, ◌<◌, Bool, true, false, not, ◌&&◌, if◌then◌else◌, List, length, get_or}
+use Rattle.lisp_graph.specs.store_word.declared.sizes.TheConstants.{MAX_OBJECT_WORDS}
 use Rattle.lisp_graph.specs.store_word.Words.{Parts, null_word}
 use Rattle.lisp_graph.specs.declared.world.AreaRule.{AreaRule}
 use Rattle.lisp_graph.specs.declared.command.Condemn.{Condemn}
@@ -30,7 +31,7 @@ pub record TableFlipped (g g' : Image) (top : ℕ) (test : ℕ → ℕ → Bool)
   pub old_charge : (x y : ℕ) → g'.old_charge x y ≡ if_true (test x y) (g.live_charge x y)
   pub live_husks : (x y : ℕ) → g'.live_husks x y ≡ if_true (not (test x y)) (g.live_husks x y)
   pub old_husks : (x y : ℕ) → g'.old_husks x y ≡ if_true (test x y) (g.live_husks x y)
-  pub chains : (i : ℕ) → i < length g'.regions → is_free (get_or g'.regions i no_region).standing ≡ false → g'.is_last i ≡ false → 2048 < (get_or g'.regions i no_region).used
+  pub chains : (i : ℕ) → i < length g'.regions → is_free (get_or g'.regions i no_region).standing ≡ false → g'.is_last i ≡ false → MAX_OBJECT_WORDS < (get_or g'.regions i no_region).used
   pub marks : Marks g'
 
 -- A reclaim
@@ -58,5 +59,5 @@ pub record TableFreed (g g' : Image) : Type 0 where
   pub old_charge : (x y : ℕ) → g'.old_charge x y ≡ 0
   pub live_husks : (x y : ℕ) → g'.live_husks x y ≡ g.live_husks x y
   pub old_husks : (x y : ℕ) → g'.old_husks x y ≡ 0
-  pub chains : (i : ℕ) → i < length g'.regions → is_free (get_or g'.regions i no_region).standing ≡ false → g'.is_last i ≡ false → 2048 < (get_or g'.regions i no_region).used
+  pub chains : (i : ℕ) → i < length g'.regions → is_free (get_or g'.regions i no_region).standing ≡ false → g'.is_last i ≡ false → MAX_OBJECT_WORDS < (get_or g'.regions i no_region).used
   pub marks : Marks g'

@@ -1,5 +1,6 @@
 -- A collection begins with a flip, and ends with a reclaim.
 use Rattle.std.specs.Prelude.{◌≡◌, ℕ, suc, ◌+◌, ◌*◌, Bool, true, false, not, ◌&&◌, ◌||◌, ◌⊎◌, if◌then◌else◌, List, Option, Some, None, IsTrue}
+use Rattle.lisp_graph.specs.store_word.declared.sizes.TheConstants.{PAGE_WORDS}
 use Rattle.lisp_graph.specs.declared.world.AreaRule.{AreaRule}
 use Rattle.lisp_graph.specs.declared.command.Condemn.{Condemn}
 use Rattle.lisp_graph.specs.Graph.{Graph, refers_in}
@@ -50,7 +51,7 @@ abbrev pub flipped : State → Condemn → ℕ → State
 flipped s what pages = record s {
   phase = Running (record {
     aim = aim_by s what pages;
-    owed = s.space.registers + 256 * pages + charges s.store (condemned_by s.areas s.store what);
+    owed = s.space.registers + PAGE_WORDS * pages + charges s.store (condemned_by s.areas s.store what);
     paid = 0;
     over = false;
   });

@@ -1,5 +1,6 @@
 -- Runs: lists of commands, one transition each, and the silent steps before them.
 use Rattle.std.specs.Prelude.{◌≡◌, ℕ, suc, ◌-◌, ◌*◌, ◌^◌, ◌≤◌, Bool, true, false, ◌&&◌, nat_lt, nat_le, List, [], ◌∷◌, slice_index, MatchBool}
+use Rattle.lisp_graph.specs.store_word.declared.sizes.TheConstants.{REGION_PAGES}
 use Rattle.std.specs.List.{list_any}
 use Rattle.lisp_graph.specs.store_word.declared.levels.Levels.{Levels}
 use Rattle.lisp_graph.specs.declared.command.Command.{Command}
@@ -47,7 +48,7 @@ SilentReclaim s (Running c) new = MatchBool c.over (Settles s c.aim new) (new �
 abbrev pub SilentFlip : State → State → Type 0
 SilentFlip s new =
     MatchBool (is_idle s.phase && some_below (λ i. is_full s (suc i)) s.space.levels)
-    ((pages : ℕ) × (pages ≤ 16 * s.space.regions) × (new ≡ flipped s (Chosen (full_levels s)) pages))
+    ((pages : ℕ) × (pages ≤ REGION_PAGES * s.space.regions) × (new ≡ flipped s (Chosen (full_levels s)) pages))
     (new ≡ s)
 
 -- the silent steps before a command

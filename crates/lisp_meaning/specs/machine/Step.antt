@@ -1,5 +1,6 @@
 -- The transition of one command.
 use Rattle.std.specs.Prelude.{◌≡◌, ℕ, suc, ◌+◌, ◌*◌, ◌≤◌, Bool, true, false, not, ◌&&◌, ◌||◌, ◌⊎◌, if◌then◌else◌, nat_lt, nat_le, List, [], ◌∷◌, length, Option, Some, None, is_some, unwrap_or, IsTrue, MatchBool}
+use Rattle.lisp_graph.specs.store_word.declared.sizes.TheConstants.{REGION_PAGES}
 use Rattle.lisp_graph.specs.declared.command.Command.{Command}
 use Rattle.lisp_graph.specs.declared.command.Command.TheVariants as C
 use Rattle.lisp_graph.specs.declared.command.Condemn.{Condemn}
@@ -150,7 +151,7 @@ Answers s c e a new = Ends s c (answer_of s c e).0 (answer_of s c e).1 a new
 
 abbrev pub Flips : State → Phase → Condemn → Answer → State → Type 0
 Flips s (Running c) what a new = (a ≡ Replied R.Busy) × (new ≡ s)
-Flips s Idle what a new = (pages : ℕ) × (pages ≤ 16 * s.space.regions) × (a ≡ Replied (R.Flipped pages)) × (new ≡ flipped s what pages)
+Flips s Idle what a new = (pages : ℕ) × (pages ≤ REGION_PAGES * s.space.regions) × (a ≡ Replied (R.Flipped pages)) × (new ≡ flipped s what pages)
 
 abbrev pub Scavenges : State → Phase → ℕ → Answer → State → Type 0
 Scavenges s Idle count a new = (a ≡ Replied R.NotFlipped) × (new ≡ s)

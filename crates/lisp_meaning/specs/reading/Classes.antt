@@ -1,5 +1,6 @@
 -- Classes of regions: an area, a level, and whether it is live or old.
 use Rattle.std.specs.Prelude.{ℕ, ◌/◌, Bool, ◌&&◌, nat_eq, get_or}
+use Rattle.lisp_graph.specs.store_word.declared.sizes.TheConstants.{REGION_WORDS}
 use Rattle.lisp_meaning.specs.reading.Image.{Standing, is_live, is_old, Region, no_region, Image}
 
 -- the class of a region; a free one has area and level 0
@@ -16,7 +17,7 @@ abbrev pub classes : Image → (ℕ → Class)
 classes g = λ i. class_of (get_or g.regions i no_region)
 
 abbrev pub region_of : ℕ → ℕ
-region_of a = a / 4096
+region_of a = a / REGION_WORDS
 
 -- the class of an address
 abbrev pub class_at : (ℕ → Class) → ℕ → Class

@@ -1,5 +1,6 @@
 -- The memory image of a machine: its words, its regions, the numbers of its table, its registers, and the units that remain to be scanned.
 use Rattle.std.specs.Prelude.{ℕ, ◌+◌, ◌*◌, ◌/◌, Bool, true, false, nat_lt, List, length, get_or, Option}
+use Rattle.lisp_graph.specs.store_word.declared.sizes.TheConstants.{REGION_WORDS}
 use Rattle.lisp_graph.specs.store_word.Words.{Parts, null_word}
 use Rattle.lisp_graph.specs.declared.command.Condemn.{Condemn}
 use Rattle.lisp_graph.specs.Totals.{total, if_true}
@@ -48,7 +49,7 @@ with_words g ws = record g { words = ws }
 
 -- the region of an address
 abbrev pub region : Image → ℕ → Region
-region g a = get_or g.regions (a / 4096) no_region
+region g a = get_or g.regions (a / REGION_WORDS) no_region
 
 abbrev pub is_live : Standing → Bool
 is_live Live = true
@@ -71,7 +72,7 @@ old_at g a = is_old (region g a).standing
 
 -- the address is below the used end of its region
 abbrev pub is_used : Image → ℕ → Bool
-is_used g a = nat_lt a (4096 * (a / 4096) + (region g a).used)
+is_used g a = nat_lt a (REGION_WORDS * (a / REGION_WORDS) + (region g a).used)
 
 -- the number of used words of the regions that pass
 abbrev pub used_words : Image → (Region → Bool) → ℕ

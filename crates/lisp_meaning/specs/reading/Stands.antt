@@ -1,5 +1,6 @@
 -- What it means that a machine represents a state.
 use Rattle.std.specs.Prelude.{◌≡◌, ℕ, suc, ◌+◌, ◌*◌, ◌<◌, ◌≤◌, Bool, true, false, not, ◌&&◌, ◌||◌, ◌==◌, ◌⊎◌, List, length, get_or, Some, None, IsTrue}
+use Rattle.lisp_graph.specs.store_word.declared.sizes.TheConstants.{MAX_OBJECT_WORDS}
 use Rattle.lisp_graph.specs.store_word.Words.{Parts, null_word, address_of}
 use Rattle.lisp_graph.specs.store_word.declared.word.CdrCode.{CdrCode}
 use Rattle.lisp_graph.specs.store_word.declared.word.CdrCode.TheVariants.{Next as CdrNext, Nil as CdrNil}
@@ -109,7 +110,7 @@ pub record Room (g : Image) (s : Store) (aim : Condemned) (at : ℕ → ℕ) : T
   pub live : (area level : ℕ) → used_words g (of_class area level) + 2 * cells_in g s at (of_class area level) ≤ charged_in g s at (of_class area level) + s.husks area level
   pub husks : (area level : ℕ) → husk_words_in g s at (of_class area level) ≤ s.husks area level
   pub old : (area : ℕ) → used_words g (old_of area) ≤ condemned_in s aim area + aim.gone area
-  pub chains : (i : ℕ) → i < length g.regions → is_free (get_or g.regions i no_region).standing ≡ false → g.is_last i ≡ false → 2048 < (get_or g.regions i no_region).used
+  pub chains : (i : ℕ) → i < length g.regions → is_free (get_or g.regions i no_region).standing ≡ false → g.is_last i ≡ false → MAX_OBJECT_WORDS < (get_or g.regions i no_region).used
   pub above : (a : ℕ) → is_used g a ≡ false → word g a ≡ null_word
 
 -- a HEADER-FORWARD whose final address is that of a held name in the same class

@@ -1,5 +1,6 @@
 -- The units of a collection: the registers and the words that remain to be scanned.
 use Rattle.std.specs.Prelude.{◌≡◌, ℕ, zero, suc, ◌+◌, ◌/◌, ◌<◌, Bool, false, ◌&&◌, ◌==◌, if◌then◌else◌, length, Option, Some, None}
+use Rattle.lisp_graph.specs.store_word.declared.sizes.TheConstants.{PAGE_WORDS}
 use Rattle.lisp_graph.specs.Totals.{total, if_true}
 use Rattle.lisp_meaning.specs.reading.Image.{Image}
 
@@ -25,7 +26,7 @@ lowest passes (suc n) = lowest_or (lowest passes n) n (passes n)
 -- the address is on the page of another, if there is one
 abbrev pub on_page_of : Option ℕ → ℕ → Bool
 on_page_of None a = false
-on_page_of (Some last) a = a / 256 == last / 256
+on_page_of (Some last) a = a / PAGE_WORDS == last / PAGE_WORDS
 
 abbrev pub first_of : Option ℕ → Option ℕ → Option ℕ → Option ScanUnit
 first_of (Some near) register far = Some (InWord near)

@@ -8,7 +8,7 @@ use crate::swaps::page_slots::PageSlots;
 use crate::swaps::swap::Swap;
 use std::alloc::Global;
 use std::marker::Model;
-use store_word::{NoMemory, SwapFault, Word};
+use store_word::{NoMemory, PAGE_WORDS, SwapFault, Word};
 
 /// A swap device in memory. At most one of its page calls fails.
 #[derive(Drop)]
@@ -90,7 +90,7 @@ impl Swap for SwapMemory {
     ghost calls = { λ s. record { writes = s.writes; reads = s.reads } };
 
     fn prepare(&mut self, alloc: Global, pages: u32) -> Result<(), NoMemory>
-        ensures ok { OnOk result (self.new ≡ record self.old { stored = replicate (256 * pages) null_word }) }
+        ensures ok { OnOk result (self.new ≡ record self.old { stored = replicate (PAGE_WORDS * pages) null_word }) }
         ensures err { OnErr result (self.new ≡ self.old) }
     {
         let pages = PageSlots::of_pages(alloc, pages)?;
@@ -99,10 +99,10 @@ impl Swap for SwapMemory {
     }
 
     fn read_page(&mut self, page: u32, into: &mut [Word]) -> Result<(), SwapFault>
-        requires in_range { 256 * page + 256 ≤ length self.old.stored }
-        requires room { length into.old ≡ 256 }
-        ensures words { OnOk result ((k : ℕ) → k < 256 →
-            slice_get into.new k ≡ slice_get self.old.stored (256 * page + k)) }
+        requires in_range { PAGE_WORDS * page + PAGE_WORDS ≤ length self.old.stored }
+        requires room { length into.old ≡ PAGE_WORDS }
+        ensures words { OnOk result ((k : ℕ) → k < PAGE_WORDS →
+            slice_get into.new k ≡ slice_get self.old.stored (PAGE_WORDS * page + k)) }
         ensures after { self.new ≡ after_read self.old }
         ensures fails { IsErr result ↔ (self.old.calls + 1 ≡ self.old.fail) }
         ensures cause { TellsFaults (faults_of self.old) (faults_of self.new) result }
@@ -114,8 +114,8 @@ impl Swap for SwapMemory {
     }
 
     fn write_page(&mut self, page: u32, from: &[Word]) -> Result<(), SwapFault>
-        requires in_range { 256 * page + 256 ≤ length self.old.stored }
-        requires size { length from.now ≡ 256 }
+        requires in_range { PAGE_WORDS * page + PAGE_WORDS ≤ length self.old.stored }
+        requires size { length from.now ≡ PAGE_WORDS }
         ensures ok { OnOk result (Fills self.old.stored self.new.stored page from.now) }
         ensures err { OnErr result (self.new.stored ≡ self.old.stored) }
         ensures after { self.new ≡ record (after_write self.old) { stored = self.new.stored } }
