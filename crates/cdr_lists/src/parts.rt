@@ -185,7 +185,10 @@ fn write_relay<M: Memory, L: Ledger>(
     ensures accounted { AccountsForFaults (shown M.Memory mem.old) (shown M.Memory mem.new) steps.old steps.new result }
     ensures cost { steps.new ≤ steps.old + 6 }
 {
-    mem.hold(&[cell / PAGE_WORDS, at / PAGE_WORDS, (at + 1) / PAGE_WORDS], steps)?;
+    mem.hold(
+        &[cell / PAGE_WORDS, at / PAGE_WORDS, (at + 1) / PAGE_WORDS],
+        steps,
+    )?;
     mem.write(at, first, steps)?;
     mem.write(at + 1, second, steps)?;
     mem.write(cell, Word::header_forward(at), steps)

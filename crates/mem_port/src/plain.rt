@@ -11,7 +11,10 @@ use crate::tags::{tag_after, tag_anew, tag_meets, tag_with};
 use std::alloc::Global;
 use std::marker::Model;
 use std::sync::ledger::Ledger;
-use store_word::{Count, Levels, NoMemory, PAGE_LEN, PAGE_WORDS, REGION_LEN, REGION_PAGES, REGION_WORDS, Space, Steps, SwapFault, Word};
+use store_word::{
+    Count, Levels, NoMemory, PAGE_LEN, PAGE_WORDS, REGION_LEN, REGION_PAGES, REGION_WORDS, Space,
+    Steps, SwapFault, Word,
+};
 
 /// A memory without frames: every page of it is held at any time. It takes 8 bytes a word.
 #[derive(Drop)]
@@ -175,7 +178,12 @@ impl Memory for PlainMemory {
             region * REGION_LEN + REGION_LEN,
             Word::null(),
         );
-        fill_range(&mut self.tags, region * REGION_PAGES as usize, region * REGION_PAGES as usize + REGION_PAGES as usize, false);
+        fill_range(
+            &mut self.tags,
+            region * REGION_PAGES as usize,
+            region * REGION_PAGES as usize + REGION_PAGES as usize,
+            false,
+        );
     }
 
     fn set_level(&mut self, region: u32, level: u8) {

@@ -13,7 +13,10 @@ pub fn word_level(levels: &[u8], word: Word) -> u8
     ensures { result ≡ level_of_word levels.now word }
 {
     match word.address() {
-        Some(at) => levels.get((at / REGION_WORDS) as usize).copied().unwrap_or(0),
+        Some(at) => levels
+            .get((at / REGION_WORDS) as usize)
+            .copied()
+            .unwrap_or(0),
         None => 0,
     }
 }

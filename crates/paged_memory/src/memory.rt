@@ -17,7 +17,9 @@ use mem_port::{HOLD_LIMIT, Memory, WordTest, tag_anew, tag_meets, words_before};
 use outer_ports::Swap;
 use page_map::PagePlace;
 use std::sync::ledger::Ledger;
-use store_word::{Flags, LAST_OFFSET, Levels, PAGE_WORDS, REGION_PAGES, REGION_WORDS, Steps, SwapFault, Word};
+use store_word::{
+    Flags, LAST_OFFSET, Levels, PAGE_WORDS, REGION_PAGES, REGION_WORDS, Steps, SwapFault, Word,
+};
 
 impl<D: Swap> Memory for PagedMemory<D> {
     ghost seen = { λ m. store_of m.0 (D.stored m.1) };
@@ -196,9 +198,7 @@ impl<D: Swap> Memory for PagedMemory<D> {
         let frame = self
             .pager
             .use_page(&mut self.buffer, &mut self.swap, at / PAGE_WORDS)?;
-        self.pager
-            .levels
-            .store_two(&mut self.pager.pool, frame, at % PAGE_WORDS, first, second);
+        self.pager.levels.store_two(&mut self.pager.pool, frame, at % PAGE_WORDS, first, second);
         Ok(())
     }
 

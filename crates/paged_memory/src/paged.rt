@@ -13,7 +13,9 @@ use outer_ports::{PageCalls, Swap, SwapMemory};
 use page_map::PagePlace;
 use std::alloc::Global;
 use std::marker::Model;
-use store_word::{Count, Levels, PAGE_LEN, PAGE_WORDS, REGION_PAGES, REGION_WORDS, Refused, Space, Word};
+use store_word::{
+    Count, Levels, PAGE_LEN, PAGE_WORDS, REGION_PAGES, REGION_WORDS, Refused, Space, Word,
+};
 
 /// A memory of page frames over a swap device. A page is empty, in a frame, or swapped out.
 #[derive(Drop)]

@@ -58,8 +58,13 @@ impl Pager {
     {
         let from_frame = self.use_resident(from / PAGE_WORDS);
         let to_frame = self.use_resident(to / PAGE_WORDS);
-        self.pool
-            .copy_words(from_frame, from % PAGE_WORDS, to_frame, to % PAGE_WORDS, count);
+        self.pool.copy_words(
+            from_frame,
+            from % PAGE_WORDS,
+            to_frame,
+            to % PAGE_WORDS,
+            count,
+        );
         self.tag_span(to_frame, to % PAGE_WORDS, count);
     }
 

@@ -20,7 +20,8 @@ fn on_one_page(from: u32, to: u32, left: u32) -> u32
     ensures from { from % PAGE_WORDS + result ≤ PAGE_WORDS }
     ensures to { to % PAGE_WORDS + result ≤ PAGE_WORDS }
 {
-    left.min(PAGE_WORDS - from % PAGE_WORDS).min(PAGE_WORDS - to % PAGE_WORDS)
+    left.min(PAGE_WORDS - from % PAGE_WORDS)
+        .min(PAGE_WORDS - to % PAGE_WORDS)
 }
 
 /// Copies `count` words to an address; old and new places don't overlap. All their pages are held,

@@ -86,7 +86,11 @@ fn hold_places<M: Memory, L: Ledger>(
     ensures at_most { steps.new ≤ steps.old + 18 }
 {
     assert_invariant(mem);
-    if from.words == 2 && to.words == 2 && from.at % PAGE_WORDS < LAST_OFFSET && to.at % PAGE_WORDS < LAST_OFFSET {
+    if from.words == 2
+        && to.words == 2
+        && from.at % PAGE_WORDS < LAST_OFFSET
+        && to.at % PAGE_WORDS < LAST_OFFSET
+    {
         return mem.hold(&[from.at / PAGE_WORDS, to.at / PAGE_WORDS], steps);
     }
     hold_spans(mem, from, to, steps)
@@ -125,7 +129,9 @@ fn put<M: Memory, L: Ledger>(
     hold_places(&mut ground.mem, from, to, steps)?;
     ground.commit(placed, words, parcel.charge, Origin::Moved(class));
     move_words(&mut ground.mem, parcel, pair, placed.at, steps)?;
-    ground.table.note_moved((placed.at + words - 1) / PAGE_WORDS);
+    ground
+        .table
+        .note_moved((placed.at + words - 1) / PAGE_WORDS);
     Ok(())
 }
 

@@ -91,6 +91,7 @@ impl RegionTable {
         let region = (at / REGION_WORDS) as usize;
         self.used[region] += words;
         self.placed += words as u64;
-        self.scan.insert_span(at / PAGE_WORDS, (at + words - 1) / PAGE_WORDS);
+        self.scan
+            .insert_span(at / PAGE_WORDS, (at + words - 1) / PAGE_WORDS);
     }
 }
