@@ -22,6 +22,7 @@ pub(crate) struct FrameWords {
 impl Model for FrameWords {
     ghost use Rattle.std.specs.Prelude.{◌≡◌, ◌*◌, List, replicate, vec_capacity};
     ghost use Rattle.store_word.specs.Words.{Parts, null_word};
+    ghost use Rattle.store_word.specs.declared.sizes.TheConstants.{PAGE_WORDS};
     ghost use Rattle.frame_pool.specs.Stored.{padded, IsStored};
 
     ghost Value = { List Parts };

@@ -29,6 +29,7 @@ pub struct PagedMemory<D: Swap> {
 
 impl<D: Swap> Model for PagedMemory<D> {
     ghost use Rattle.std.specs.Prelude.{◌≡◌, ℕ, length};
+    ghost use Rattle.store_word.specs.declared.sizes.TheConstants.{PAGE_WORDS};
     ghost use Rattle.frame_pool.specs.Pool.{frames_of};
     ghost use Rattle.paged_memory.specs.Paging.{Paging, IsPaged};
     ghost use Rattle.paged_memory.specs.Moves.{paging_of};

@@ -18,6 +18,7 @@ pub(crate) struct PageSlots {
 impl Model for PageSlots {
     ghost use Rattle.std.specs.Prelude.{List, ◌*◌, ◌≤◌, length, vec_capacity};
     ghost use Rattle.store_word.specs.Words.{Parts};
+    ghost use Rattle.store_word.specs.declared.sizes.TheConstants.{PAGE_WORDS};
     ghost use Rattle.outer_ports.specs.Slots.{words_of, IsSlotted};
 
     ghost Value = { List Parts };
