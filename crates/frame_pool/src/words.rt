@@ -5,10 +5,7 @@ ghost use Rattle.frame_pool.specs.Fills.{Fills, FillsSpan};
 
 use std::alloc::Global;
 use std::marker::Model;
-use store_word::{NoMemory, PAGE_WORDS, Word};
-
-// The words of a frame.
-const PAGE_WORDS: usize = PAGE_WORDS;
+use store_word::{NoMemory, PAGE_LEN, PAGE_WORDS, Word};
 
 /// The words of all frames. Those of the first frames are stored, up to the last frame that was ever written to; the others
 /// are NULL. `new` reserves room for all of them, but doesn't touch it.
@@ -38,8 +35,8 @@ impl FrameWords {
         requires { frames ≤ 4096 }
         ensures { IfOk result (λ words. words ≡ replicate (frames * PAGE_WORDS) null_word) }
     {
-        let stored = Vec::with_capacity(alloc, frames as usize * PAGE_WORDS)?;
-        let blank = vec![in alloc; Word::null(); PAGE_WORDS]?;
+        let stored = Vec::with_capacity(alloc, frames as usize * PAGE_LEN)?;
+        let blank = vec![in alloc; Word::null(); PAGE_LEN]?;
         Ok(FrameWords {
             stored,
             blank,
@@ -53,9 +50,9 @@ impl FrameWords {
         ensures size { length result.now ≡ PAGE_WORDS }
         ensures words { (k : ℕ) → k < PAGE_WORDS → slice_get result.now k ≡ slice_get self.now (PAGE_WORDS * frame + k) }
     {
-        let start = frame as usize * PAGE_WORDS;
+        let start = frame as usize * PAGE_LEN;
         if start < self.stored.len() {
-            &self.stored[start..start + PAGE_WORDS]
+            &self.stored[start..start + PAGE_LEN]
         } else {
             &self.blank
         }
@@ -68,7 +65,7 @@ impl FrameWords {
         requires in_range { offset < PAGE_WORDS }
         ensures { result ≡ slice_index_or self.now (PAGE_WORDS * frame + offset) null_word }
     {
-        let at = frame as usize * PAGE_WORDS + offset as usize;
+        let at = frame as usize * PAGE_LEN + offset as usize;
         if at < self.stored.len() {
             self.stored[at]
         } else {
@@ -82,8 +79,8 @@ impl FrameWords {
         requires in_range { offset < PAGE_WORDS }
         ensures { self.new ≡ slice_set self.old (PAGE_WORDS * frame + offset) word }
     {
-        let start = frame as usize * PAGE_WORDS;
-        reach(&mut self.stored, start + PAGE_WORDS);
+        let start = frame as usize * PAGE_LEN;
+        reach(&mut self.stored, start + PAGE_LEN);
         self.stored[start + offset as usize] = word;
     }
 
@@ -93,8 +90,8 @@ impl FrameWords {
         requires in_range { offset + 1 < PAGE_WORDS }
         ensures { self.new ≡ slice_set (slice_set self.old (PAGE_WORDS * frame + offset) first) (PAGE_WORDS * frame + (offset + 1)) second }
     {
-        let start = frame as usize * PAGE_WORDS;
-        reach(&mut self.stored, start + PAGE_WORDS);
+        let start = frame as usize * PAGE_LEN;
+        reach(&mut self.stored, start + PAGE_LEN);
         let at = start + offset as usize;
         self.stored[at] = first;
         self.stored[at + 1] = second;
@@ -106,7 +103,7 @@ impl FrameWords {
         requires page { length from.now ≡ PAGE_WORDS }
         ensures { Fills self.old self.new frame (slice_get from.now) }
     {
-        reach(&mut self.stored, frame as usize * PAGE_WORDS + PAGE_WORDS);
+        reach(&mut self.stored, frame as usize * PAGE_LEN + PAGE_LEN);
         fill_frame(&mut self.stored, frame, from);
     }
 
@@ -115,7 +112,7 @@ impl FrameWords {
         requires in_range { PAGE_WORDS * frame + PAGE_WORDS ≤ length self.old }
         ensures { Fills self.old self.new frame (λ _. Some null_word) }
     {
-        reach(&mut self.stored, frame as usize * PAGE_WORDS + PAGE_WORDS);
+        reach(&mut self.stored, frame as usize * PAGE_LEN + PAGE_LEN);
         clear_frame(&mut self.stored, frame);
     }
 
@@ -127,9 +124,9 @@ impl FrameWords {
         requires to { to + count ≤ PAGE_WORDS }
         ensures { FillsSpan self.old self.new (PAGE_WORDS * to_frame + to) count (λ i. slice_index_or self.old (PAGE_WORDS * from_frame + from + i) null_word) }
     {
-        let start = from_frame as usize * PAGE_WORDS;
-        let target = to_frame as usize * PAGE_WORDS;
-        reach(&mut self.stored, start.max(target) + PAGE_WORDS);
+        let start = from_frame as usize * PAGE_LEN;
+        let target = to_frame as usize * PAGE_LEN;
+        reach(&mut self.stored, start.max(target) + PAGE_LEN);
         copy_span(
             &mut self.stored,
             start + from as usize,
@@ -144,8 +141,8 @@ impl FrameWords {
         requires from { from + count ≤ PAGE_WORDS }
         ensures { FillsSpan self.old self.new (PAGE_WORDS * frame + from) count (λ _. word) }
     {
-        let start = frame as usize * PAGE_WORDS;
-        reach(&mut self.stored, start + PAGE_WORDS);
+        let start = frame as usize * PAGE_LEN;
+        reach(&mut self.stored, start + PAGE_LEN);
         fill_span(
             &mut self.stored,
             start + from as usize,
@@ -184,8 +181,8 @@ fn fill_frame(words: &mut [Word], frame: u32, from: &[Word])
     requires page { length from.now ≡ PAGE_WORDS }
     ensures { Fills words.old words.new frame (slice_get from.now) }
 {
-    let start = frame as usize * PAGE_WORDS;
-    words[start..start + PAGE_WORDS].copy_from_slice(from);
+    let start = frame as usize * PAGE_LEN;
+    words[start..start + PAGE_LEN].copy_from_slice(from);
 }
 
 // The words of one frame become NULL.
@@ -193,8 +190,8 @@ fn clear_frame(words: &mut [Word], frame: u32)
     requires in_range { PAGE_WORDS * frame + PAGE_WORDS ≤ length words.old }
     ensures { Fills words.old words.new frame (λ _. Some null_word) }
 {
-    let start = frame as usize * PAGE_WORDS;
-    words[start..start + PAGE_WORDS].fill(Word::null());
+    let start = frame as usize * PAGE_LEN;
+    words[start..start + PAGE_LEN].fill(Word::null());
 }
 
 // The `count` words from one place on become those from another.
