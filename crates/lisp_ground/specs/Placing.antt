@@ -6,7 +6,7 @@ use Rattle.area_space.specs.Sound.{IsTable}
 use Rattle.area_space.specs.Places.{opened}
 use Rattle.area_space.specs.Ground.{IsGround, NamesNoFree, with_level}
 
--- nothing has changed, or the free region with the lowest number was opened for the live class of an area and a level
+-- nothing has changed, or the free region with the lowest number was opened for the live class of an area and a level. (Seven parameters: memory and table, each before and after, and the region, the area and the level, which vary independently.)
 pub record Opens (old : Store) (table : Table) (new : Store) (new_table : Table) (region : Option ℕ) (area level : ℕ) : Type 0 where
   pub same : IfNone region (new_table ≡ table)
   pub behind : IfNone region (new ≡ old)
