@@ -16,7 +16,7 @@ module _ {M : Type 0} (g : Ghosts M) where
   abbrev pub shown : M → MemoryView
   shown it = record { store = g.seen it; faults = g.faults it; taken = g.taken it; resident = length (g.resident it) }
 
--- a call reports each swap error, counts each of its memory accesses, and evicts no page except for another one
+-- a call reports each swap error, counts each of its memory accesses, and evicts no page except for another one. (Seven parameters: a result with its two types, and the memory and the count of accesses, each before and after, which are two arguments of a call.)
 pub record AccountsForFaults {T E : Type 0} (old new : MemoryView) (steps steps' : ℕ) (result : Result T E) : Type 0 where
   pub cause : TellsFaults old.faults new.faults result
   pub honest : new.taken + steps ≡ old.taken + steps'

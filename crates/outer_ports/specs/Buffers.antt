@@ -13,7 +13,7 @@ pub record Gathered (before now : List ℕ → Type 0) (pending bytes : List ℕ
   pub all : bytes ≡ given ++ pending
   pub gained : Gained before now given
 
--- if the call succeeded, the whole text was gathered after what was pending; otherwise a prefix of it, and not all
+-- if the call succeeded, the whole text was gathered after what was pending; otherwise a prefix of it, and not all. (Eight parameters: a result with its two types, what the sink has and what its buffer has, each before and after, which are two arguments of a call, and the text.)
 pub record Gathers {T E : Type 0} (before now : List ℕ → Type 0) (had pending text : List ℕ) (result : Result T E) : Type 0 where
   pub whole : OnOk result (Gathered before now pending (had ++ text))
   pub part : OnErr result ((front : List ℕ) × IsCut text front × Gathered before now pending (had ++ front))

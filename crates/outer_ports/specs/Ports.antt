@@ -40,7 +40,7 @@ pub record Gained (before now : List ℕ → Type 0) (bytes : List ℕ) : Type 0
 abbrev pub IsCut : List ℕ → List ℕ → Type 0
 IsCut text front = (rest : List ℕ) × (0 < length rest) × (text ≡ front ++ rest)
 
--- if the call that writes the text succeeded, the sink gained it; otherwise it gained a prefix of it, and not all
+-- if the call that writes the text succeeded, the sink gained it; otherwise it gained a prefix of it, and not all. (Six parameters: a result with its two types, what the sink has before and after, and the text.)
 pub record Wrote {T E : Type 0} (before now : List ℕ → Type 0) (text : List ℕ) (result : Result T E) : Type 0 where
   pub whole : OnOk result (Gained before now text)
   pub part : OnErr result ((front : List ℕ) × IsCut text front × Gained before now front)
