@@ -30,6 +30,6 @@ charged_by t slot charge New = charged t (live slot) charge
 charged_by t slot charge (Moved from) = charged (discharged t (stale (slot_of t from.area from.level)) charge) (live slot) charge
 charged_by t slot charge Reserve = t
 
--- words are committed: the used end has moved, and the class is charged
+-- words are committed: the used end has moved, and the class is charged. (Six parameters: a table, and the class, the address, the number of words, their charge and their origin, which vary independently.)
 abbrev pub committed : Table → ℕ → ℕ → ℕ → ℕ → Origin → Table
 committed t slot at words charge origin = charged_by (extended t at words) slot charge origin

@@ -19,7 +19,7 @@ pub record WordMoves (m : Store) (t : Table) (scan : Scan) (m' : Store) (t' : Ta
   pub fetched : FetchMoves m t memory table a
   pub ends : EndsPage memory table (word_done scan a) m' t' (a / PAGE_WORDS)
 
--- the words that the scan of a unit moves: those that the settling of its own word moves, and none if that has no old address
+-- the words that the scan of a unit moves: those that the settling of its own word moves, and none if that has no old address. (Eight parameters: memory, table and registers, each before and after, the scan, and the unit, by whose cases this is defined.)
 abbrev pub UnitMoves : Store → Table → Scan → List Parts → Store → Table → List Parts → Option ScanUnit → Type 0
 UnitMoves m t scan registers m' t' registers' (Some (Register r)) = MovesFor m t m' t' (get_or registers r null_word) (get_or registers' r null_word)
 UnitMoves m t scan registers m' t' registers' (Some (Word a)) = WordMoves m t scan m' t' a

@@ -29,7 +29,7 @@ pub record MadeOn (m : Memory.Store) (t : Table) (m' : Memory.Store) (t' : Table
   pub there : names_as kind (map.role at) ≡ Some (length s.objects)
   pub old : old_on m' t' s' aim map.at ≡ old_on m t s aim k.at
 
--- this many words are placed at the used end of a live class, which is charged this much for new objects, and their pages are to be scanned; at most one region was opened for them
+-- this many words are placed at the used end of a live class, which is charged this much for new objects, and their pages are to be scanned; at most one region was opened for them. (Seven parameters: the table before and after, and the area, the level, the address, the number of words and their charge, which vary independently.)
 pub record PlacesNew (t t' : Table) (area level at words charge : ℕ) : Type 0 where
   pub room : Table
   pub opens : OpensOrStays t room

@@ -10,7 +10,7 @@ use Rattle.transporter.specs.LiveWordsUnchanged.{IsLiveWord}
 use Rattle.transporter.specs.Settling.{reference_of, readdressed, RefersToOld, Replaces}
 use Rattle.transporter.specs.Transports.{MovesFrom}
 
--- A word is settled: without an old address it is unchanged, and nothing moves; otherwise the object that it refers to is transported, and it gets the new address
+-- A word is settled: without an old address it is unchanged, and nothing moves; otherwise the object that it refers to is transported, and it gets the new address. (Six parameters: memory, table and word, each before and after.)
 pub data MovesFor (m : Store) (t : Table) (m' : Store) (t' : Table) (old new : Parts) : Type 0 where
   stays : (RefersToOld t old → ⊥) → StoresNothing m m' → t' ≡ t → new ≡ old → MovesFor m t m' t' old new
   moves : (at to : ℕ) → reference_of old.content ≡ Some at → IsOld t (at / REGION_WORDS) → MovesFrom m t m' t' at to → new ≡ readdressed old to → MovesFor m t m' t' old new

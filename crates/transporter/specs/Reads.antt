@@ -18,7 +18,7 @@ pub record KeepsGround (v v' : GroundView) : Type 0 where
   pub stays_fresh : NoOldAddresses v → NoOldAddresses v'
   pub marks : MarksFollow v v'
 
--- What a read costs: at most 2,048 words are placed. It takes `least` memory accesses at most, and 4 for each word placed, and after a swap error at most 1,024 more.
+-- What a read costs: at most 2,048 words are placed. It takes `least` memory accesses at most, and 4 for each word placed, and after a swap error at most 1,024 more. (Six parameters: the ground and the count of accesses, each before and after, whether a swap error occurred, and the bound, which each function has of its own.)
 pub record ReadCosts (v v' : GroundView) (steps steps' : ℕ) (faulted : Bool) (least : ℕ) : Type 0 where
   pub few : v'.table.placed ≤ v.table.placed + MAX_OBJECT_WORDS
   pub cost : faulted ≡ false → steps' ≤ steps + 4 * (v'.table.placed - v.table.placed) + least

@@ -17,7 +17,7 @@ pub record MeansOn (m : Memory.Store) (t : Table) (m' : Memory.Store) (t' : Tabl
   pub later : RepresentedByLaterMap m t m' t' k top areas s aim
   pub value_is : value_of later.map.role word.content ≡ Some value
 
--- The word at an address has this content and the cdr code that it had. No other used word of a live region has changed
+-- The word at an address has this content and the cdr code that it had. No other used word of a live region has changed. (Six parameters: memory and table, each before and after, an address, and its new content.)
 pub record SettlesAt (m : Memory.Store) (t : Table) (m' : Memory.Store) (t' : Table) (a : ℕ) (content : Content) : Type 0 where
   pub code : (word_at m'.words a).cdr ≡ (word_at m.words a).cdr
   pub settled : (word_at m'.words a).content ≡ content

@@ -42,7 +42,7 @@ pub record IsKeptValue (t : Table) (registers : List Value) (s : M.Store) (aim :
   pub reaches : Reaches registers s aim
   pub name : (n : ℕ) → v ≡ V.Ref n → IsTrue (is_kept s aim n)
 
--- a word that is a reference has a value and, if its address is old, one that the running collection keeps
+-- a word that is a reference has a value and, if its address is old, one that the running collection keeps. (Ten parameters: a ground, a word with its value, and the six parts of what is represented, of which a transport changes only the map.)
 pub record CanSettle (m : Store) (t : Table) (k : RoleMap) (top : ℕ) (areas : List AreaRule) (registers : List Value) (s : M.Store) (aim : Condemned) (word : Parts) (v : Value) : Type 0 where
   pub kept : GroundInvariant m t k top areas s aim
   pub value : (at : ℕ) → reference_of word.content ≡ Some at → value_of k.role word.content ≡ Some v
@@ -64,7 +64,7 @@ pub record Settles (t t' : Table) (old new : Parts) : Type 0 where
   pub is : (new ≡ old) ⊎ ((to : ℕ) × RefersToOld t old × (new ≡ readdressed old to))
   pub fresh : RefersToOld t' new → ⊥
 
--- the ground represents the same objects by a later map, by which the new word has each value that the old one had
+-- the ground represents the same objects by a later map, by which the new word has each value that the old one had. (Eleven parameters: memory, table and word, each before and after, and the five parts of what is represented, of which only the map changes.)
 pub record SettlesOn (m : Store) (t : Table) (m' : Store) (t' : Table) (k : RoleMap) (top : ℕ) (areas : List AreaRule) (s : M.Store) (aim : Condemned) (old new : Parts) : Type 0 where
   pub later : RepresentedByLaterMap m t m' t' k top areas s aim
   pub value : (v : Value) → value_of k.role old.content ≡ Some v → value_of later.map.role new.content ≡ Some v

@@ -16,7 +16,7 @@ use Rattle.transporter.specs.declared.parcel.Parcel.{Parcel}
 use Rattle.transporter.specs.Parcels.{IsParcel}
 use Rattle.transporter.specs.Relocations.{Relocates}
 
--- a reference to an address is one to an object that the running collection keeps
+-- a reference to an address is one to an object that the running collection keeps. (Eleven parameters: a ground, a reference with its object, and the six parts of what is represented, of which a transport changes only the map.)
 pub record CanTransport (m : Store) (t : Table) (k : RoleMap) (top : ℕ) (areas : List AreaRule) (registers : List Value) (s : M.Store) (aim : Condemned) (kind : Kind) (at n : ℕ) : Type 0 where
   pub kept : GroundInvariant m t k top areas s aim
   pub survives : Survives k registers s aim kind at n
@@ -34,21 +34,21 @@ pub record IsTransportable (m : Store) (t : Table) (at : ℕ) : Type 0 where
   pub name : ℕ
   pub can : CanTransport m t map top areas registers store aim kind at name
 
--- The ground represents the same objects by a later map: each reference still has its meaning. The charge of condemned objects in old regions has fallen by at least the number of words placed.
+-- The ground represents the same objects by a later map: each reference still has its meaning. The charge of condemned objects in old regions has fallen by at least the number of words placed. (Nine parameters: memory and table, each before and after, and the five parts of what is represented, of which only the map changes.)
 pub record RepresentedByLaterMap (m : Store) (t : Table) (m' : Store) (t' : Table) (k : RoleMap) (top : ℕ) (areas : List AreaRule) (s : M.Store) (aim : Condemned) : Type 0 where
   pub map : RoleMap
   pub kept : GroundInvariant m' t' map top areas s aim
   pub refines : Refines k.role map.role
   pub work : t'.placed + old_on m' t' s aim map.at ≤ t.placed + old_on m t s aim k.at
 
--- the same, and a reference to an address means an object, which is there, live
+-- the same, and a reference to an address means an object, which is there, live. (Twelve parameters: memory and table, each before and after, a reference with its object, and the five parts of what is represented, of which only the map changes.)
 pub record ReachesOn (m : Store) (t : Table) (m' : Store) (t' : Table) (k : RoleMap) (top : ℕ) (areas : List AreaRule) (s : M.Store) (aim : Condemned) (kind : Kind) (to n : ℕ) : Type 0 where
   pub later : RepresentedByLaterMap m t m' t' k top areas s aim
   pub named : names_as kind (later.map.role to) ≡ Some n
   pub live : IsLive t' (to / REGION_WORDS)
   pub final : IsFinal m'.words to
 
--- The words of a transport: it returns a final address that isn't old, or moves the parcel at an old one
+-- The words of a transport: it returns a final address that isn't old, or moves the parcel at an old one. (Six parameters: memory, table and address, each before and after.)
 pub data MovesFrom (m : Store) (t : Table) (m' : Store) (t' : Table) (at to : ℕ) : Type 0 where
   there : Final m.words at to → (IsOld t (to / REGION_WORDS) → ⊥) → StoresNothing m m' → t' ≡ t → MovesFrom m t m' t' at to
   moved : (here : ℕ) (p : Parcel) (read : Store) → Final m.words at here → IsOld t (here / REGION_WORDS) → IsParcel m.words here p → StoresNothing m read → Relocates read t m' t' p to → MovesFrom m t m' t' at to
