@@ -56,7 +56,7 @@ pub record CanSet (m : Memory.Store) (t : Table) (content : Content) (written : 
   pub new_is : value_of map.role written.content ≡ Some new
   pub young : RefersToOld t written → ⊥
 
--- whatever objects the ground represented, it represents them by the same map, with the value of what was written in the field of this index
+-- whatever objects the ground represented, it represents them by the same map, with the value of what was written in the field of this index. (Six parameters: the memory before and after, the table, which stays the same, and a block, an index and a content, which vary independently.)
 abbrev pub SetsField : Memory.Store → Table → Memory.Store → Content → ℕ → Content → Type 0
 SetsField m t m' content index written =
     (k : RoleMap) (top : ℕ) (areas : List AreaRule) (s : Store) (aim : Condemned) (n code : ℕ) (fields : List Value) (new : Value)
@@ -69,13 +69,13 @@ WritesField m m' content index word =
     (at to : ℕ) → content ≡ StructAt at → Final m.words at to
     → Memory.Stores m m' (suc to + index) (record word { cdr = (word_at m.words (suc to + index)).cdr })
 
--- no page except that of the field of this index gets marks without a word that may give them
+-- no page except that of the field of this index gets marks without a word that may give them. (Six parameters: memory and table, each before and after, and a field as its block and index.)
 abbrev pub MarksField : Memory.Store → Table → Memory.Store → Table → Content → ℕ → Type 0
 MarksField m t m' t' content index = (at to : ℕ) → content ≡ StructAt at → Final m.words at to → MarksFollowBut m t m' t' (suc to + index)
 
 -- Reads
 
--- whatever objects the ground represented, it represents them, and the word means the field of this index
+-- whatever objects the ground represented, it represents them, and the word means the field of this index. (Seven parameters: memory and table, each before and after, a field as its block and index, and the word that was read.)
 abbrev pub ReadsField : Memory.Store → Table → Memory.Store → Table → Content → ℕ → Parts → Type 0
 ReadsField m t m' t' content index word =
     (k : RoleMap) (top : ℕ) (areas : List AreaRule) (registers : List Value) (s : Store) (aim : Condemned) (n code : ℕ) (fields : List Value)

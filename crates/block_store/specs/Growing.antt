@@ -65,7 +65,7 @@ pub record IsHusk (old new : Memory.Store) (here at wanted : ℕ) : Type 0 where
   pub grown : (i : ℕ) → i < grown_length count wanted + 1 → word_at new.words (at + i) ≡ grown_word old.words here code count (grown_length count wanted) i
   pub others : (a : ℕ) → (Within here (count + 1) a → ⊥) → (Within at (grown_length count wanted + 1) a → ⊥) → word_at new.words a ≡ word_at old.words a
 
--- the words of the grown block are placed in the class of the old one, which is charged for them, and then the words of the old one become a husk
+-- the words of the grown block are placed in the class of the old one, which is charged for them, and then the words of the old one become a husk. (Six parameters: the memory before, the table before and after, the address of the block before and after, and the number of fields that is wanted.)
 pub record PlacesGrown (m : Memory.Store) (t t' : Table) (here at wanted : ℕ) : Type 0 where
   pub code : ℕ
   pub count : ℕ
@@ -103,7 +103,7 @@ pub record LaidOn (m : Memory.Store) (t : Table) (m' : Memory.Store) (t' : Table
   pub old : old_on m' t' s' aim map.at ≡ old_on m t s aim k.at
   pub placed : t'.placed ≡ t.placed + words
 
--- a block grew: whatever objects the ground represented, it represents them with the wider block at an address, and with the husk of the old one in its class
+-- a block grew: whatever objects the ground represented, it represents them with the wider block at an address, and with the husk of the old one in its class. (Seven parameters: memory and table, each before and after, the block, the number of fields that is wanted, and the new address.)
 abbrev pub GrowsBlock : Memory.Store → Table → Memory.Store → Table → Content → ℕ → ℕ → Type 0
 GrowsBlock m t m' t' content wanted at =
     (k : RoleMap) (top : ℕ) (areas : List AreaRule) (s : Store) (aim : Condemned) (n code level : ℕ) (fields : List Value)

@@ -10,7 +10,7 @@ use Rattle.block_store.specs.Faults.{is_fault}
 use Rattle.block_store.specs.declared.fault.BlockFault.{BlockFault}
 use Rattle.block_store.specs.declared.fault.BlockFault.TheVariants.{NotABlock, NoField}
 
--- A word is refused if and only if it isn't tagged STRUCT. The ground is unchanged, a swap error is counted, and it takes at most 13 memory accesses
+-- A word is refused if and only if it isn't tagged STRUCT. The ground is unchanged, a swap error is counted, and it takes at most 13 memory accesses. (Seven parameters: a result with its type, the ground and the count of accesses, each before and after, and the word.)
 pub record LooksAtBlock {T : Type 0} (v v' : GroundView) (of : Parts) (result : Result T BlockFault) (steps steps' : ℕ) : Type 0 where
   pub not_a_block : (result ≡ Err NotABlock) ↔ (tag_of of.content ≢ StructTag)
   pub every_field : (count : ℕ) → result ≢ Err (NoField count)

@@ -23,7 +23,7 @@ pub record CanMake (m : Memory.Store) (t : Table) (area level count : ℕ) : Typ
   pub kept : GroundInvariant m t map top areas objects aim
   pub quota : HasQuota top areas objects aim area level (suc count)
 
--- a block was made at an address: whatever objects the ground represented, it represents them and a new block whose fields are nil
+-- a block was made at an address: whatever objects the ground represented, it represents them and a new block whose fields are nil. (Nine parameters: memory and table, each before and after, and the area, the level, the code, the number of fields and the address of the block, which vary independently.)
 abbrev pub MakesBlock : Memory.Store → Table → Memory.Store → Table → ℕ → ℕ → ℕ → ℕ → ℕ → Type 0
 MakesBlock m t m' t' area level code count at =
     (k : RoleMap) (top : ℕ) (areas : List AreaRule) (s : Store) (aim : Condemned)

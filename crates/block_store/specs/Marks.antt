@@ -9,7 +9,7 @@ use Rattle.area_space.specs.Table.{Table}
 use Rattle.obj_layout.specs.Forwards.{word_at}
 use Rattle.block_store.specs.Headers.{TellsLength}
 
--- a page without marks gets some only if a word of the wider block, or the first word of its husk, is on it and has an address of level 1 or more
+-- a page without marks gets some only if a word of the wider block, or the first word of its husk, is on it and has an address of level 1 or more. (Seven parameters: the memory before and after, the table, the block, its address before and after, and the number of fields that is wanted.)
 pub record MarksGrown (old : Store) (t : Table) (new : Store) (content : Content) (here at wanted : ℕ) : Type 0 where
   pub code : ℕ
   pub count : ℕ

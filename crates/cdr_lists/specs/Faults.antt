@@ -10,6 +10,6 @@ is_fault (Ok x) = false
 is_fault (Err NotACons) = false
 is_fault (Err (Swap fault)) = true
 
--- each swap error is reported and counted, and only a swap error is
+-- each swap error is reported and counted, and only a swap error is. (Six parameters: a result with its type, and the memory and the count of accesses, each before and after.)
 abbrev pub AccountsForRefusals : {T : Type 0} → MemoryView → MemoryView → ℕ → ℕ → Result T ListFault → Type 0
 AccountsForRefusals old new steps steps' result = AccountsForFaultsIf old new steps steps' (is_fault result)

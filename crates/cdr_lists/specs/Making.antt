@@ -49,7 +49,7 @@ AddsPair v v' car cdr = AddsOnly v v' (FreshOn v.table car.content × FreshOn v.
 abbrev pub AddsCells : GroundView → GroundView → List Parts → List ℕ → Type 0
 AddsCells v v' registers items = AddsOnly v v' ((i : ℕ) → i < length items → FreshOn v.table (item_word registers items i).content)
 
--- After a swap error every word is unchanged, though a region may have been opened. The result and the count of swap errors agree.
+-- After a swap error every word is unchanged, though a region may have been opened. The result and the count of swap errors agree. (Six parameters: a result with its type, and the ground and the count of accesses, each before and after.)
 pub record FailsWhole {T : Type 0} (v v' : GroundView) (result : Result T SwapFault) (steps steps' : ℕ) : Type 0 where
   pub opened : OnErr result (OpensOrStays v.table v'.table)
   pub fault : OnErr result (WordsUnchanged v v')

@@ -31,7 +31,7 @@ abbrev pub words_of_pair : Parts → Parts → ℕ → Parts
 words_of_pair first second zero = first
 words_of_pair first second (suc i) = second
 
--- a pair of this charge can be made of these words: the ground represents some objects, for which there is quota, and of which the words have values
+-- a pair of this charge can be made of these words: the ground represents some objects, for which there is quota, and of which the words have values. (Seven parameters: a ground, the two words, and the area, the level and the charge, which vary independently.)
 pub record CanPair (m : Memory.Store) (t : Table) (area level charge : ℕ) (car cdr : Parts) : Type 0 where
   pub map : RoleMap
   pub top : ℕ
@@ -44,7 +44,7 @@ pub record CanPair (m : Memory.Store) (t : Table) (area level charge : ℕ) (car
   pub car_value : (v : Value) × (value_of map.role car.content ≡ Some v)
   pub cdr_value : (v : Value) × (value_of map.role cdr.content ≡ Some v)
 
--- a pair of this charge was made at an address: whatever objects the ground represented, it represents them and a new cons
+-- a pair of this charge was made at an address: whatever objects the ground represented, it represents them and a new cons. (Ten parameters: memory and table, each before and after, the two words, and the area, the level, the charge and the address, which vary independently.)
 abbrev pub PairedOn : Memory.Store → Table → Memory.Store → Table → ℕ → ℕ → ℕ → Parts → Parts → ℕ → Type 0
 PairedOn m t m' t' area level charge first second at =
     (k : RoleMap) (top : ℕ) (areas : List AreaRule) (s : Store) (aim : Condemned) (car cdr : Value)

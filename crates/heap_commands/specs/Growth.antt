@@ -50,7 +50,7 @@ pub record IsAnswered (m : Store) (t : Table) (registers : List Parts) (m' : Sto
   pub performs : Performs m t registers m' t' registers' (C.Grow target wanted) reply
   pub unwanted : reply ≢ R.Fault → (k : RoleMap) (s : State) → Represents m t registers k s → Reach s s.phase → wanted_by (effect (graph_of s) (C.Grow target wanted)) ≡ None
 
--- what was found: a reply, or what a block will be charged
+-- what was found: a reply, or what a block will be charged. (Nine parameters: memory, table and registers, each before and after, the two arguments of the command, and what was returned.)
 abbrev pub Finds : Store → Table → List Parts → Store → Table → List Parts → ℕ → ℕ → Growing → Type 0
 Finds m t registers m' t' registers' target wanted (Answered reply) = IsAnswered m t registers m' t' registers' target wanted reply
 Finds m t registers m' t' registers' target wanted (Wants area charge) = WantsGrowth m' t' registers' target wanted area charge
@@ -71,7 +71,7 @@ pub record CanGrowIn (m : Store) (t : Table) (registers : List Parts) (target wa
   pub area_in : area < areas_of t
   pub fits : account_of t area + charge ≤ quota_of t area
 
--- the number of words placed is the block's charge in each state that was represented
+-- the number of words placed is the block's charge in each state that was represented. (Six parameters: memory, table and registers before, the table after, and the two arguments of the command.)
 abbrev pub PlacesGrowth : Store → Table → List Parts → Table → ℕ → ℕ → Type 0
 PlacesGrowth m t registers t' target wanted =
     (k : RoleMap) (s : State) (area charge : ℕ) → Represents m t registers k s → IsGrowing s target wanted area charge → t'.placed ≡ t.placed + charge

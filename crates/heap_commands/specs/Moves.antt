@@ -22,6 +22,6 @@ pub record LaysCell (m : Store) (t : Table) (m' : Store) (t' : Table) (target cd
   pub car : MovesAtMost ready table between room 1
   pub lays : LaysPair between room m' t' cell (word_at between.words cell) cdr
 
--- whatever was placed was placed by at most three transports; or that cell was relocated after them
+-- whatever was placed was placed by at most three transports; or that cell was relocated after them. (Six parameters: memory and table, each before and after, and the two words that the command settled.)
 abbrev pub MovesOrLays : Store → Table → Store → Table → Parts → Parts → Type 0
 MovesOrLays m t m' t' target cdr = MovesAtMost m t m' t' 3 ⊎ LaysCell m t m' t' target cdr

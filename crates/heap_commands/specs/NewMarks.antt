@@ -17,7 +17,7 @@ pub record GivesMarks (m : Store) (t : Table) (m' : Store) (t' : Table) (at coun
   pub may : MayMark m t m' t' a
   pub young : at ≤ a → a < at + count → 0 < level_of_word m'.levels (word_at m'.words a)
 
--- A word refers to an object that was made, of `count` words at its final address. They were placed, and a page without marks gets some only from a word that gives them.
+-- A word refers to an object that was made, of `count` words at its final address. They were placed, and a page without marks gets some only from a word that gives them. (Six parameters: memory and table, each before and after, the word, and the number of words of its object.)
 pub record MarksMade (m : Store) (t : Table) (m' : Store) (t' : Table) (word : Parts) (count : ℕ) : Type 0 where
   pub address : ℕ
   pub refers : reference_of word.content ≡ Some address
@@ -26,7 +26,7 @@ pub record MarksMade (m : Store) (t : Table) (m' : Store) (t' : Table) (word : P
   pub placed : (a : ℕ) → at ≤ a → a < at + count → IsPlaced t t' a
   pub unmarked : (page : ℕ) → m.marks page ≡ 0 → (m'.marks page ≡ 0) ⊎ ((a : ℕ) × (a / PAGE_WORDS ≡ page) × GivesMarks m t m' t' at count a)
 
--- for a block that grows, the object is the wider block, whose words are its charge in each state that was represented
+-- for a block that grows, the object is the wider block, whose words are its charge in each state that was represented. (Seven parameters: memory and table, each before and after, the registers before, and the two arguments of the command.)
 abbrev pub MarksGrowth : Store → Table → List Parts → Store → Table → ℕ → ℕ → Type 0
 MarksGrowth m t registers m' t' target wanted =
     (k : RoleMap) (s : State) (area charge : ℕ) → Represents m t registers k s → IsGrowing s target wanted area charge → MarksMade m t m' t' (get_or registers target null_word) charge

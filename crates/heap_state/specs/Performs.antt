@@ -32,7 +32,7 @@ pub record AnswersOn (m : Store) (t : Table) (m' : Store) (t' : Table) (register
   pub sure : r ≢ R.Fault
   pub represented : RepresentsLater m t m' t' registers' k s (answer_of s c effect_of).1 (owed_wanting s c effect_of effect_of.wanted)
 
--- what is represented after a command with this reply: its effect, or after a swap error what was represented before
+-- what is represented after a command with this reply: its effect, or after a swap error what was represented before. (Eight parameters: memory, table and registers, each before and after, and the command with its reply.)
 pub record Performs (m : Store) (t : Table) (registers : List Parts) (m' : Store) (t' : Table) (registers' : List Parts) (c : Command) (r : Reply) : Type 0 where
   pub performed : (k : RoleMap) (s : State) → Represents m t registers k s → Reach s s.phase → FaultsOn m t m' t' registers' c r k s ⊎ AnswersOn m t m' t' registers' c r k s
   pub preserves : PreservesScanned m t m' t'
@@ -51,7 +51,7 @@ pub record PerformsOn (m : Store) (t : Table) (registers : List Parts) (m' : Sto
   pub marks : MarksOf c r m t m' t'
   pub settled : IsDone r → (i : ℕ) → IsTrue (reads c i) → IsSettled t' registers' i
 
--- and for each state in which the objects that a command makes in an area are of this level
+-- and for each state in which the objects that a command makes in an area are of this level. (Ten parameters: memory, table and registers, each before and after, the command with its reply, and an area with its level.)
 abbrev pub PerformsAt : Store → Table → List Parts → Store → Table → List Parts → Command → Reply → ℕ → ℕ → Type 0
 PerformsAt m t registers m' t' registers' c r area level =
     (k : RoleMap) (s : State) → Represents m t registers k s → Reach s s.phase → level ≡ new_level (rule_of s.areas area).kind → PerformsOn m t registers m' t' registers' c r k s

@@ -16,6 +16,6 @@ pub record RepresentsLater (m : Store) (t : Table) (m' : Store) (t' : Table) (re
   pub refines : Refines k.role map.role
   pub work : t'.placed + old_on m' t' s'.store (aim_of s'.phase) map.at ≤ t.placed + old_on m t s.store (aim_of s.phase) k.at + more
 
--- each state that was represented is represented, with no more work
+-- each state that was represented is represented, with no more work. (Six parameters: memory, table and registers, each before and after.)
 abbrev pub RepresentsSame : Store → Table → List Parts → Store → Table → List Parts → Type 0
 RepresentsSame m t registers m' t' registers' = (k : RoleMap) (s : State) → Represents m t registers k s → Reach s s.phase → RepresentsLater m t m' t' registers' k s s 0

@@ -15,7 +15,7 @@ use Rattle.heap_state.specs.Represents.{Represents}
 use Rattle.heap_state.specs.Scans.{Scans}
 use Rattle.heap_state.specs.Wanting.{paid_wanting}
 
--- a state after a transition with this reply is represented, and the scan is its scan
+-- a state after a transition with this reply is represented, and the scan is its scan. (Seven parameters: memory, table, scan and registers after the transition, the state before it, and its command and reply.)
 pub record StepsTo (m : Store) (t : Table) (scan : Scan) (registers : List Parts) (s : State) (c : Command) (r : Reply) : Type 0 where
   pub next : State
   pub step : Step s c (Replied r) next

@@ -37,7 +37,7 @@ pub record ScansSome (new : HeapView) (before done placed limit : ℕ) : Type 0 
   -- while the scan hasn't finished, the units that remain are those that remained before and the words placed, less the units scanned
   pub left : new.scan.over ≡ false → left_in new + (new.scan.done + placed) ≡ before + (done + new.table.placed)
 
--- An allocation with this charge was made, with these counts of memory accesses before and after it. It made `words` words and read `read` registers.
+-- An allocation with this charge was made, with these counts of memory accesses before and after it. It made `words` words and read `read` registers. (Seven parameters: the heap and the count of accesses, each before and after, and the charge, the words made and the registers read, which each command has of its own.)
 pub record Costs (old new : HeapView) (before after charge words read : ℕ) : Type 0 where
   -- the units scanned for each word charged are those that the rate requires, or all that remained
   pub scans : ScansSome new (left_at old new) (done_at old) (placed_at old) (old.space.rate * charge)
@@ -57,12 +57,12 @@ pub record CostsNothing (old new : HeapView) (before after : ℕ) : Type 0 where
   pub placed : new.table.placed ≡ placed_at old
   pub steps : after ≡ before
 
--- The same by the reply: it was made with this charge, or it was refused.
+-- The same by the reply: it was made with this charge, or it was refused. (Eight parameters: the heap and the count of accesses, each before and after, the charge, the words made and the registers read, which each command has of its own, and the reply.)
 pub record Makes (old new : HeapView) (before after charge words read : ℕ) (r : Reply) : Type 0 where
   pub costs : r ≡ R.Fine → Costs old new before after charge words read
   pub refused : IsRefused r → CostsNothing old new before after
 
--- A command with this reply, and these counts of memory accesses before and after it, placed at most `words` words; and if no swap error occurred it took at most `steps` memory accesses, and 4 for each word placed.
+-- A command with this reply, and these counts of memory accesses before and after it, placed at most `words` words; and if no swap error occurred it took at most `steps` memory accesses, and 4 for each word placed. (Seven parameters: the heap and the count of accesses, each before and after, the two bounds, which each command has of its own, and the reply.)
 pub record Takes (old new : HeapView) (before after words steps : ℕ) (r : Reply) : Type 0 where
   pub few : new.table.placed ≤ old.table.placed + words
   pub cost : r ≢ R.Fault → after ≤ before + 4 * (new.table.placed - old.table.placed) + steps

@@ -77,7 +77,7 @@ pub record Told (old new : HeapView) (before after : ℕ) (c : Command) (r : Rep
   pub room : r ≢ R.Fault → frees_pages c ≡ false → length (resident_before c old) ≤ length new.resident
   pub gone : frees_pages c ≡ false → length (resident_before c old) ≤ length new.resident + 1
 
--- A command ran with this reply: from each state that the heap represented the definition does it, and the heap represents what follows. The world is the same, and what it met is reported; a swap error undoes nothing. A register that was read is settled, if the command was done. No page got marks without a word that may give them. A command that neither pays for units nor begins a scan leaves the scan as it is.
+-- A command ran with this reply: from each state that the heap represented the definition does it, and the heap represents what follows. The world is the same, and what it met is reported; a swap error undoes nothing. A register that was read is settled, if the command was done. No page got marks without a word that may give them. A command that neither pays for units nor begins a scan leaves the scan as it is. (Six parameters: the heap and the count of accesses, each before and after, and the command with its reply.)
 pub record Runs (old new : HeapView) (before after : ℕ) (c : Command) (r : Reply) : Type 0 where
   pub does : (s : State) → Stands old s → ((next : State) × Does s c (Replied r) next × Stands new next)
   pub world : SameWorld old new
