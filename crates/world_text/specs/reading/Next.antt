@@ -52,7 +52,7 @@ each read (word ∷ words) = do
 
 -- What a function returned
 
--- it is what reading gives, seen through `view`
+-- it is what reading gives, seen through `view`. (Six parameters: three types, a view from one to another, what was returned, and what is read.)
 abbrev pub Gives : {X Y E : Type 0} → (X → Y) → Result X E → Result Y E → Type 0
 Gives view (Ok x) read = read ≡ Ok (view x)
 Gives view (Err e) read = read ≡ Err e

@@ -62,7 +62,7 @@ pub record AreDumped (graph : KeyedGraph) (old new : VisitedObjects) (objects : 
   pub shown : All (λ key. All (Shows graph) (fields_of graph key)) new.keys
   pub is : objects ≡ map (dumped_object graph new.keys) new.keys
 
--- the objects that have numbers are visited, until all that are reached have one, and their lines are written after this text
+-- the objects that have numbers are visited, until all that are reached have one, and their lines are written after this text. (Six parameters: the graph with its areas, and the visited objects and the text, each before and after; they are separate values.)
 pub record WritesObjects (graph : KeyedGraph) (areas : List AreaRule) (old new : VisitedObjects) (before after : List ℕ) : Type 0 where
   pub objects : List Object
   pub dumped : AreDumped graph old new objects
