@@ -44,7 +44,7 @@ pub record WasAnswered (mode : FileMode) (left left' : Option (List ℕ)) (outco
   pub rest : i ≡ b ++ unwrap_or left' []
   pub right : IsOutcome mode i b outcome
 
--- A run that ended with this status: i is the file, and b what the source gave of it. If the source doesn't report what remains, the file is what it gave. The outcome reports a failed source only if the source's count of failed calls rose. The sink gained the text of the outcome, and the status is that of the outcome; or the sink failed, and gained a prefix of the text.
+-- A run that ended with this status: i is the file, and b what the source gave of it. If the source doesn't report what remains, the file is what it gave. The outcome reports a failed source only if the source's count of failed calls rose. The sink gained the text of the outcome, and the status is that of the outcome; or the sink failed, and gained a prefix of the text. (Seven parameters: the mode, what the source and the sink have, each before and after, whether an error of the source occurred, and the status.)
 pub record Ran (mode : FileMode) (left left' : Option (List ℕ)) (held held' : List ℕ → Type 0) (source_rose : Type 0) (status : Status) : Type 0 where
   pub i : List ℕ
   pub b : List ℕ

@@ -41,7 +41,7 @@ Told held held' replies text ended status =
     ((status ≡ ended) × Gained held held' (replies ++ text))
     ⊎ ((status ≡ WriteFailed) × ((front : List ℕ) × IsCut text front × Gained held held' (replies ++ front)))
 
--- A run that shows its machine, and ended with this status. The input, what the source gave and the replies are as in a run that ended with the status `ended` and had this heap at its end: the heap has the meaning of its last state. If `ended` is `Done`, the heap is written after the replies; otherwise it isn't. The status is `ended`, or the sink failed in the heap's text.
+-- A run that shows its machine, and ended with this status. The input, what the source gave and the replies are as in a run that ended with the status `ended` and had this heap at its end: the heap has the meaning of its last state. If `ended` is `Done`, the heap is written after the replies; otherwise it isn't. The status is `ended`, or the sink failed in the heap's text. (Nine parameters: what the source and the sink have, each before and after, the length of the latest piece, the heap, the errors of source and swap device, and the status.)
 pub record Shows (left left' : Option (List ℕ)) (last : ℕ) (held held' : List ℕ → Type 0) (heap : Option HeapView) (source_rose : Type 0) (rose : ℕ) (status : Status) : Type 0 where
   pub i : List ℕ
   pub b : List ℕ

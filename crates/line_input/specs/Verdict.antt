@@ -46,7 +46,7 @@ abbrev pub unless_broken : {A : Type 0} → ℕ → Option Reason → Result A R
 unless_broken number (Some reason) said = Err (T.Line number reason)
 unless_broken number None said = said
 
--- What a line of this text and size leads to in its place, in an input of at most 2^40 bytes.
+-- What a line of this text and size leads to in its place, in an input of at most 2^40 bytes. (Six parameters: the two types of the rules, which every definition on rules has, the rules, the place, and the text and size of a line.)
 abbrev pub judged_as : {J W : Type 0} → Rules J W → InputReader J → List ℕ → ℕ → Said J
 judged_as rules place text size =
     unless_broken (place.lines + 1) (broken_limit (2 ^ 40) (rules.is_whole place.judge) place.bytes (length text) size) (counted place size (rules.says (place.lines + 1) place.judge text))
@@ -108,7 +108,7 @@ Reads rules judge i b (Err T.Memory) = Unit {0}
 Reads rules judge i b (Err T.Read) = IsUndecided rules judge b
 Reads rules judge i b (Err trouble) = IsOfLine trouble × (verdict rules judge i ≡ Err trouble)
 
--- An input that was read: i is the input, and b what the source gave of it. If the source doesn't report what remains, the input is what it gave.
+-- An input that was read: i is the input, and b what the source gave of it. If the source doesn't report what remains, the input is what it gave. (Seven parameters: the two types of the rules, the rules, the judge before the first line, what the source has before and after, and the result.)
 pub record WasRead {J W : Type 0} (rules : Rules J W) (judge : J) (left left' : Option (List ℕ)) (result : Result W RunError) : Type 0 where
   pub i : List ℕ
   pub b : List ℕ

@@ -33,12 +33,12 @@ pub record IsEnded (old new : Seen) (room room' : List ℕ) (needed result : ℕ
 abbrev pub IsLate : Seen → Seen → List ℕ → List ℕ → ℕ → ℕ → Type 0
 IsLate old new room room' needed result = (new ≡ old) × IsHanded room room' needed result [] (late_number old.state)
 
--- what a line does, by the session's state
+-- what a line does, by the session's state. (Eight parameters: the state, the session before and after, the line, the buffer before and after, and the two numbers that C gets.)
 abbrev pub Feeds : SessionState → Seen → Seen → List ℕ → List ℕ → List ℕ → ℕ → ℕ → Type 0
 Feeds Open old new text room room' needed result = IsFed old new text room room' needed result
 Feeds (Ended status) old new text room room' needed result = IsLate old new room room' needed result
 
--- what the end of the input does
+-- what the end of the input does. (Seven parameters: the state, the session before and after, the buffer before and after, and the two numbers that C gets.)
 abbrev pub Ends : SessionState → Seen → Seen → List ℕ → List ℕ → ℕ → ℕ → Type 0
 Ends Open old new room room' needed result = IsEnded old new room room' needed result
 Ends (Ended status) old new room room' needed result = IsLate old new room room' needed result

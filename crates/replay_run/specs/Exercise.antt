@@ -34,7 +34,7 @@ pub record RanMade (number count : ℕ) (stands : State → Type 0) (loaded : Bo
   pub untouched : IsUntouched ended (world_of read.place) rose
   pub counts : ended ≡ Done → tally ≡ (counted_of replies).tally
 
--- An exercise that ended with this status: the generated input was run, and what has to be written for its replies was written, or the sink failed in it.
+-- An exercise that ended with this status: the generated input was run, and what has to be written for its replies was written, or the sink failed in it. (Eight parameters: the two arguments, what the sink has before and after, what is represented, whether a world is loaded, the swap errors, and the status.)
 pub record Exercised (number count : ℕ) (held held' : List ℕ → Type 0) (stands : State → Type 0) (loaded : Bool) (rose : ℕ) (status : Status) : Type 0 where
   pub ended : Status
   pub read : Read

@@ -160,7 +160,7 @@ abbrev pub Wrote : Status → Observed → Type 0
 Wrote WriteFailed o = CutReply o ⊎ CutLine o
 Wrote status o = EndsWith status o
 
--- A run that ended with this status, as its source and its sink report it. If the source doesn't report what remains, the input is what it gave.
+-- A run that ended with this status, as its source and its sink report it. If the source doesn't report what remains, the input is what it gave. (Six parameters: what the source and the sink have, each before and after, what is observed, and the status.)
 pub record Ran (left left' : Option (List ℕ)) (held held' : List ℕ → Type 0) (o : Observed) (status : Status) : Type 0 where
   pub input : IfSome left (λ bytes. bytes ≡ o.input)
   pub gave : Gave left left' o.taken
@@ -168,7 +168,7 @@ pub record Ran (left left' : Option (List ℕ)) (held held' : List ℕ → Type 
   pub gained : Gained held held' o.written
   pub wrote : Wrote status o
 
--- Memory ran out before the first command of the input i, when the world wasn't loaded yet: no more was taken than the line of that command needed, and only the error line is written.
+-- Memory ran out before the first command of the input i, when the world wasn't loaded yet: no more was taken than the line of that command needed, and only the error line is written. (Six parameters: the input, what remains of it, the length of the latest piece, what the sink has before and after, and whether a world is loaded.)
 pub record IsEarly (i : List ℕ) (left' : Option (List ℕ)) (last : ℕ) (held held' : List ℕ → Type 0) (loaded : Bool) : Type 0 where
   pub b : List ℕ
   pub gave : Gave (Some i) left' b

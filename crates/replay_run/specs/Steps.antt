@@ -62,7 +62,7 @@ abbrev pub Stopped : Result (Unit {0}) RunStop → Observed → List ℕ → Typ
 Stopped (Err Write) o pending = CutReply o
 Stopped result o pending = StopsAt (outcome_status result) (outcome_line result) o pending
 
--- a run that stopped, as its source and its sink report it
+-- a run that stopped, as its source and its sink report it. (Seven parameters: what the source and the sink have, each before and after, what is observed, the pending bytes, and the result.)
 pub record RanTo (left left' : Option (List ℕ)) (held held' : List ℕ → Type 0) (o : Observed) (pending : List ℕ) (result : Result (Unit {0}) RunStop) : Type 0 where
   pub input : IfSome left (λ bytes. bytes ≡ o.input)
   pub gave : Gave left left' o.taken
