@@ -30,14 +30,14 @@ pub record Elapses (before now : ℕ) (past since : ℕ → List ℕ → Type 0)
   pub nothing_else : (t : ℕ) (image : List ℕ) → t ≤ before → since t image → past t image ⊎ images image
   pub keeps : (t : ℕ) (image : List ℕ) → t ≤ before → past t image → since t image
 
--- Each image of a crash at any moment since `old` has P.
+-- Each image of a crash at any moment since `old` has P. (Six parameters: a type of disks with the two things shown of a disk on which this depends, the disk before and after, and what each image has.)
 pub record LeavesOnly {D : Type 0} (clock : D → ℕ) (images_since : D → ℕ → List ℕ → Type 0) (old new : D) (P : List ℕ → Type 0) : Type 0 where
   pub later : clock old ≤ clock new
   pub each : (image : List ℕ) → images_since new (clock old) image → P image
   -- and so for moments since an earlier one
   pub before : (t : ℕ) (image : List ℕ) → t ≤ clock old → images_since new t image → images_since old t image ⊎ P image
 
--- Calls that only read: the bytes and the room are unchanged, and during them no image is possible that wasn't possible before.
+-- Calls that only read: the bytes and the room are unchanged, and during them no image is possible that wasn't possible before. (Eight parameters: a type of disks with the five things shown of a disk on which this depends, and the disk before and after.)
 pub record ReadsOnly {D : Type 0} (bytes : D → List ℕ) (space : D → ℕ) (images : D → List ℕ → Type 0) (clock : D → ℕ) (images_since : D → ℕ → List ℕ → Type 0) (old new : D) : Type 0 where
   pub bytes_stay : bytes new ≡ bytes old
   pub space_stays : space new ≡ space old

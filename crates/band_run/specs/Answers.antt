@@ -29,7 +29,7 @@ pub record Replies {D : Type 0} (bytes : D → List ℕ) (images : D → List �
   pub goes_on : Runs given (last_state (start saves) steps) later more
   pub calm : faults_in more ≡ 0
 
--- Whatever the disk contained, the text is that of replies, of which `closed` and `fault` are as required, and which bound the number of requested writes and syncs; and if the disk started synced, they are the replies of one run from there.
+-- Whatever the disk contained, the text is that of replies, of which `closed` and `fault` are as required, and which bound the number of requested writes and syncs; and if the disk started synced, they are the replies of one run from there. (Thirteen parameters: a type of disks with the seven things shown of a disk, the disk before and after, the commands that were done and the others, and the text.)
 pub record Answers {D : Type 0} (bytes : D → List ℕ) (space : D → ℕ) (images : D → List ℕ → Type 0) (clock : D → ℕ) (images_since : D → ℕ → List ℕ → Type 0) (faults changes : D → ℕ)
     (old new : D) (done later : List BandCommand) (text : List ℕ) : Type 0 where
   pub replies : HasReplies done text (faults old) (faults new) (changes old) (changes new)

@@ -75,7 +75,7 @@ Wrote WriteFailed answers source_rose i b w = CutReply answers i b w ⊎ CutLine
 Wrote status answers source_rose i b w =
     (done later : List BandCommand) × (text line : List ℕ) × Demands status i b done later line × answers done later text × (w ≡ text ++ line)
 
--- A run that ended with this status: i is the input, b what the source gave of it, and w what the sink gained. If the source doesn't report what remains, the input is what it gave.
+-- A run that ended with this status: i is the input, b what the source gave of it, and w what the sink gained. If the source doesn't report what remains, the input is what it gave. (Seven parameters: what the source and the sink have, each before and after, which texts answer commands, whether an error of the source occurred, and the status.)
 pub record Ran (left left' : Option (List ℕ)) (held held' : List ℕ → Type 0) (answers : List BandCommand → List BandCommand → List ℕ → Type 0) (source_rose : Type 0) (status : Status) : Type 0 where
   pub i : List ℕ
   pub b : List ℕ

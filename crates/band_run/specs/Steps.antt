@@ -49,7 +49,7 @@ DidNot bytes space images clock images_since store old new =
     (given : Given) (first : List ℕ) (s : BandState) → Stands given first s store (bytes old) (space old) (images old)
     → Undone images clock images_since given first s old new
 
--- what a command did to a store and its disk, by its result, in each run in which they represented a state
+-- what a command did to a store and its disk, by its result, in each run in which they represented a state. (Twelve parameters: a type of disks with the five things shown of a disk on which this depends, the command and its result, and store and disk, each before and after.)
 abbrev pub Did : {D : Type 0} → (D → List ℕ) → (D → ℕ) → (D → List ℕ → Type 0) → (D → ℕ) → (D → ℕ → List ℕ → Type 0)
     → BandCommand → Store → Store → D → D → Result Reply NoMemory → Type 0
 Did bytes space images clock images_since command store store' old new (Ok reply) =
@@ -97,7 +97,7 @@ Acted bytes space images clock images_since faults changes command store store' 
 Acted bytes space images clock images_since faults changes command store store' old new held held' had pending (Err (Tell trouble)) =
     (trouble ≡ Memory) × DidNot bytes space images clock images_since store old new × Gathered held held' pending had × (faults new ≡ faults old) × (changes new ≡ changes old)
 
--- Commands that were run to their end, or until the run stopped: those that were done, the others, and the text of the replies, of which the last bytes are pending. If the sink failed, it gained a prefix of the text.
+-- Commands that were run to their end, or until the run stopped: those that were done, the others, and the text of the replies, of which the last bytes are pending. If the sink failed, it gained a prefix of the text. (Six parameters: which texts answer commands, the commands, what the sink has before and after, the pending bytes, and the result.)
 abbrev pub RanTo : (List BandCommand → List BandCommand → List ℕ → Type 0) → List BandCommand → (List ℕ → Type 0) → (List ℕ → Type 0) → List ℕ → Result (Unit {0}) RunStop → Type 0
 RanTo answers commands held held' pending (Ok _) = (text : List ℕ) × answers commands [] text × Gathered held held' pending text
 RanTo answers commands held held' pending (Err Write) =
