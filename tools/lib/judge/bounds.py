@@ -297,16 +297,7 @@ class Bounds:
         return self.collection is not None and self.collection.over is False
 
     def reclaimed_if_over(self) -> List["Bounds"]:
-        run = self.collection
-        found: List["Bounds"] = []
-        if run is None or run.over is False:
-            return [self]
-        if run.over is None:
-            other = self.copy()
-            if other.goes_on():
-                found.append(other)
-        self.reclaim()
-        return found + [self]
+        return collecting.reclaimed_if_over(self, Bounds.reclaim)
 
     def flipped_if_full(self) -> List["Bounds"]:
         return [self] if self.collection is not None else self.silent_flips()

@@ -1,5 +1,5 @@
 """Flips, reclaims and silent steps of a hypothesis."""
-from typing import TYPE_CHECKING, Dict, FrozenSet, Iterable, List, Set, Tuple
+from typing import TYPE_CHECKING, Callable, Dict, FrozenSet, Iterable, List, Set, Tuple, TypeVar
 
 from ..inputs.values import Levels
 from . import closed_parts, sums
@@ -7,8 +7,10 @@ from .groups import Collection, Group
 from .known import Class, Garbage, Known
 
 if TYPE_CHECKING:
+    from .bounds import Bounds
     from .hypothesis import Hypothesis
 
+Followed = TypeVar("Followed", "Bounds", "Hypothesis")
 Classes = Dict[Class, FrozenSet[int]]
 NONE: FrozenSet[int] = frozenset()
 
@@ -166,18 +168,18 @@ def settle_groups(hypothesis: "Hypothesis", groups: List[Group]) -> None:
 
 # ----------------------------------------------------------------- silent steps
 
-def reclaimed_if_over(hypothesis: "Hypothesis") -> List["Hypothesis"]:
-    """The hypotheses after a reclaim if the scan of a collection has finished; if it may have, one for each case."""
-    run = hypothesis.collection
-    found: List["Hypothesis"] = []
+def reclaimed_if_over(followed: Followed, reclaim_all: Callable[[Followed], None]) -> List[Followed]:
+    """The hypotheses, or the bounds, after a reclaim if the scan of a collection has finished; if it may have, one for each case."""
+    run = followed.collection
+    found: List[Followed] = []
     if run is None or run.over is False:
-        return [hypothesis]
+        return [followed]
     if run.over is None:
-        other = hypothesis.copy()
+        other = followed.copy()
         if other.goes_on():
             found.append(other)
-    reclaim(hypothesis)
-    return found + [hypothesis]
+    reclaim_all(followed)
+    return found + [followed]
 
 
 def silent_flips(hypothesis: "Hypothesis") -> List["Hypothesis"]:

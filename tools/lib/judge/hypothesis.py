@@ -82,7 +82,7 @@ class Hypothesis:
 
     def reclaimed_if_over(self) -> List["Hypothesis"]:
         """The hypotheses after a reclaim if the scan of a collection has finished; if it may have, one for each case."""
-        return collecting.reclaimed_if_over(self)
+        return collecting.reclaimed_if_over(self, collecting.reclaim)
 
     def flipped_if_full(self) -> List["Hypothesis"]:
         """The hypotheses after a flip of the full levels if no collection runs."""
