@@ -12,4 +12,5 @@ pub mod Groups
 pub mod Flips
 pub mod World
 pub mod Totals
+pub mod Laws
 pub use Rattle.store_word.specs as store_word

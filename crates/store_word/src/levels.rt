@@ -1,8 +1,6 @@
 //! A set of the levels 1 to 6, kept as the number with the bit of value 2^(l - 1) for each level l.
-ghost use Rattle.std.specs.Prelude.{ℕ, ◌↔◌, ◌⊎◌, ◌≡◌, ◌≤◌, ◌<◌, ◌-◌, ◌^◌, ⊤, [], ◌∷◌, codes, IfSome, IsNone};
-ghost use Rattle.std.specs.Int.RustNames.{bit_and, bit_or};
-ghost use Rattle.bitflags.specs.Sets.{without};
-ghost use Rattle.store_word.specs.Sets.{HasLevel, Meets};
+ghost use Rattle.std.specs.Prelude.{◌↔◌, ◌≡◌, ◌≤◌, ◌-◌, ◌^◌, ⊤, [], ◌∷◌, codes, IfSome, IsNone};
+ghost use Rattle.store_word.specs.Sets.{CallsAreOfSets};
 
 use bitflags::{Flag, Flags};
 
@@ -109,12 +107,5 @@ impl Flags for Levels {
 /// `bit_or`, and `remove` gives `without`. `a.contains(b)` tests that `bit_and a b` is b, and
 /// `intersects` that it isn't 0.
 pub fn calls_are_of_sets()
-    ensures empty { (l : ℕ) → ¬ HasLevel 0 l }
-    ensures one { (k l : ℕ) → 1 ≤ k → 1 ≤ l → HasLevel (2 ^ (k - 1)) l ↔ (l ≡ k) }
-    ensures up_to { (k l : ℕ) → 1 ≤ l → HasLevel (2 ^ k - 1) l ↔ (l ≤ k) }
-    ensures union { (a b l : ℕ) → HasLevel (bit_or a b) l ↔ (HasLevel a l ⊎ HasLevel b l) }
-    ensures remove { (a b l : ℕ) → b < 2 ^ 8 → l ≤ 8 → 0 < l → HasLevel (without 8 a b) l ↔ (HasLevel a l × ¬ HasLevel b l) }
-    ensures contains { (a b : ℕ) → (bit_and a b ≡ b) ↔ ((l : ℕ) → HasLevel b l → HasLevel a l) }
-    ensures intersects { (a b l : ℕ) → HasLevel a l → HasLevel b l → Meets a b }
-    ensures apart { (a b : ℕ) → (bit_and a b ≡ 0) ↔ ((l : ℕ) → HasLevel a l → ¬ HasLevel b l) }
+    ensures { CallsAreOfSets }
 {}
