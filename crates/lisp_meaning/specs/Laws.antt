@@ -57,6 +57,15 @@ HasRun =
     (s : State) (commands : List Command) → ((i : ℕ) → i < length commands → IfSome (slice_get commands i) IsAllowed) → IsSound s
     → (answers : List Answer) × (new : State) × Run s commands answers new
 
+-- From the opening state of a whole world on, each command has an answer, and each list of commands within a machine's limits has a run.
+pub record EveryCommandIsAnswered : Type 0 where
+  pub limits : LimitsSuffice
+  pub opening : OpeningIsSound
+  pub sound : StaysSound
+  pub step : StepStaysSound
+  pub answered : IsAnswered
+  pub run : HasRun
+
 -- The graph
 
 -- a run has the replies and the effect that it would have on a graph that is never moved or collected
@@ -71,6 +80,11 @@ AnswersAlike =
     (s t : State) (c : Command) (e : Effect) (a b : Answer) (s' t' : State)
     → graph_of s ≡ graph_of t → effect (graph_of s) c ≡ Some e → Does s c a s' → Does t c b t' → (IsRefusal a → ⊥) → (IsRefusal b → ⊥)
     → (a ≡ b) × (graph_of s' ≡ graph_of t')
+
+-- The replies to a program depend on registers and objects alone.
+pub record RunsFollowTheGraph : Type 0 where
+  pub follows : RunFollows
+  pub alike : AnswersAlike
 
 -- The closure of a set of names
 
@@ -91,6 +105,12 @@ ClosureIsLeast =
     → ((m n : ℕ) → m < length objects → IsTrue (set m) → IsTrue (body_refers n (object_at objects m).body) → IsTrue (set n))
     → ((n : ℕ) → IsTrue (start n) → IsTrue (set n))
     → (n : ℕ) → IsTrue (closure objects start n) → IsTrue (set n)
+
+-- The closure of a set of names is the least closed set that contains it.
+pub record IsLeastClosure : Type 0 where
+  pub starts : ClosureStarts
+  pub closed : ClosureIsClosed
+  pub least : ClosureIsLeast
 
 -- Collections
 

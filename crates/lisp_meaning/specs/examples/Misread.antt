@@ -192,3 +192,21 @@ pub record PhaseIsTold : Type 0 where
 pub record WorkIsOwed : Type 0 where
   pub five : Work (running (Some Full)) one_pair (λ n. 4096) (owing 5)
   pub four : Work (running (Some Full)) one_pair (λ n. 4096) (owing 4) → ⊥
+
+-- The law
+
+-- Each image that is wrong in one point represents no state, and the image beside it is right in that point.
+pub record RefusedImages : Type 0 where
+  pub words_apart : WordsApart
+  pub chain_is_full : ChainIsFull
+  pub null_above : NullAbove
+  pub husks_are_few : HusksAreFew
+  pub page_is_marked : PageIsMarked
+  pub none_is_free : NoneIsFree
+  pub old_is_left : OldIsLeft
+  pub account_is_true : AccountIsTrue
+  -- classes, the phase, and the work owed
+  pub spared_stays_live : SparedStaysLive
+  pub doomed_moves_bound : DoomedMovesBound
+  pub phase_is_told : PhaseIsTold
+  pub work_is_owed : WorkIsOwed

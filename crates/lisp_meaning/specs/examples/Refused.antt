@@ -279,3 +279,58 @@ left_in standing used = record (image (replicate 6 null_word) nothing (λ a. a =
 pub record LeftIsUsed : Type 0 where
   pub above : IsScanned (left_in Live 5) false → ⊥
   pub old : IsScanned (left_in Old 6) false → ⊥
+
+-- The laws
+
+-- No run gives these answers, and these words are stale or may not remain to be scanned.
+pub record RefusedExamples : Type 0 where
+  pub paid_and_not_over : Refuses paid_and_not_over
+  pub ended_by_a_set : Refuses ended_by_a_set
+  pub over_and_then_not : Refuses over_and_then_not
+  pub too_many_pages : Refuses too_many_pages
+  -- names that are freed or kept against the rules
+  pub unbound_that_stays : Refuses unbound_that_stays
+  pub bound_that_goes : Refuses bound_that_goes
+  pub static_that_goes : Refuses static_that_goes
+  pub other_level_that_goes : Refuses other_level_that_goes
+  pub last_level_that_stays : Refuses last_level_that_stays
+  -- survivors at another level
+  pub survivor_at_its_level : Refuses survivor_at_its_level
+  pub survivor_past_the_next : Refuses survivor_past_the_next
+  -- swap errors that change something, or occur in a command that can't meet one
+  pub fault_that_makes : Refuses fault_that_makes
+  pub set_that_faults : Refuses set_that_faults
+  -- swap errors that finish a collection, or owe something
+  pub fault_that_ends : Refuses fault_that_ends
+  pub fault_that_owes : Refuses fault_that_owes
+  -- commands that use no word meet a swap error
+  pub flip_that_faults : Refuses flip_that_faults
+  pub reclaim_that_faults : Refuses reclaim_that_faults
+  pub stats_that_faults : Refuses stats_that_faults
+  -- quotas that aren't exact
+  pub more_than_quota : Refuses more_than_quota
+  pub less_than_quota : Refuses less_than_quota
+  -- words that are stale, or that may not remain to be scanned
+  pub husk_is_short : HuskIsShort
+  pub left_is_used : LeftIsUsed
+
+-- No run omits a silent step, takes it before the wrong command, or condemns another level by it.
+pub record RefusedSilentSteps : Type 0 where
+  pub full_and_not_flipped : Refuses full_and_not_flipped
+  pub flipped_below_capacity : Refuses flipped_below_capacity
+  pub flipped_before_a_set : Refuses flipped_before_a_set
+  pub other_level_flipped : Refuses other_level_flipped
+  pub flipped_while_running : Refuses flipped_while_running
+  -- silent reclaims
+  pub over_and_not_reclaimed : Refuses over_and_not_reclaimed
+  pub reclaimed_before_a_set : Refuses reclaimed_before_a_set
+  pub reclaimed_without_capacity : Refuses reclaimed_without_capacity
+
+-- No collection that has paid all that it owes remains unfinished.
+pub record RefusedWork : Type 0 where
+  pub wide_page : Refuses wide_page
+  pub owed_twice : Refuses owed_twice
+  pub unpaid_cons : Refuses unpaid_cons
+  pub wide_rplacd : Refuses wide_rplacd
+  pub owed_for_a_refused_rplacd : Refuses owed_for_a_refused_rplacd
+  pub owed_for_a_refused_cons : Refuses owed_for_a_refused_cons

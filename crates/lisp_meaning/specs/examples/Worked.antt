@@ -258,3 +258,28 @@ pub record NextUnits : Type 0 where
   pub register : next_unit (image (replicate 600 null_word) (λ r. r == 2) (λ a. a == 5) (Some 400)) ≡ Some (InRegister 2)
   pub lowest : next_unit (image (replicate 600 null_word) nothing (λ a. a == 5 || a == 9) (Some 400)) ≡ Some (InWord 5)
   pub none : next_unit (image (replicate 600 null_word) nothing nothing (Some 400)) ≡ None
+
+-- The law
+
+-- Some run shows the answers of each of these inputs; forwards lead where they should, and the next unit is the right one.
+pub record WorkedExamples : Type 0 where
+  pub exact_quota : ExactQuota
+  pub full_area : FullArea
+  pub dropped_front : DroppedFront
+  -- collections
+  pub space_regained : SpaceRegained
+  pub between_flip_and_reclaim : BetweenFlipAndReclaim
+  pub phases : Phases
+  pub last_level : LastLevel
+  -- refusals, forwards, and a block that grows
+  pub refusals : Refusals
+  pub both_forwards : BothForwards
+  pub grown_block : GrownBlock
+  -- silent steps, levels, swap errors, and a list that leads to itself
+  pub silent_steps : SilentSteps
+  pub two_levels : TwoLevels
+  pub faulted : Faulted
+  pub circular_list : CircularList
+  -- words: the end of a chain of forwards, and the unit that is next
+  pub forwards_lead : ForwardsLead
+  pub next_units : NextUnits

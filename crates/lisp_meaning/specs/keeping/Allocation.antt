@@ -73,3 +73,9 @@ ListMade =
     → MemoryInvariant g k top areas s aim → level ≤ top → account top s aim area + 3 * length values ≤ (rule_of areas area).quota
     → length values ≤ 1024 → WritesCells g g1 k b area level values
     → After g g1 k top areas s (with_made s (list_from area (length s.objects) values) level) aim 0 AsCons b (length values) (λ i. length s.objects + i)
+
+-- A new cons, a new block and the conses of a new list keep the invariant.
+pub record AllocationKeeps : Type 0 where
+  pub cons : PairMade
+  pub block : BlockMade
+  pub list : ListMade

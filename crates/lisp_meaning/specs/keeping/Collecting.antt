@@ -30,3 +30,9 @@ Reclaimed =
     (g g' : Image) (k : RoleMap) (s : State) (c : Collection)
     → MachineInvariant g k s → s.phase ≡ Running c → c.over ≡ true → TableFreed g g' → g'.registers ≡ g.registers → g'.collection ≡ None
     → (map : RoleMap) × (new : State) × MachineInvariant g' map new × Settles s c.aim new
+
+-- A flip and a reclaim keep the invariant, and a state for which it holds is sound.
+pub record CollectionsKeep : Type 0 where
+  pub flip : Flipped
+  pub reclaim : Reclaimed
+  pub sound : InvariantIsSound

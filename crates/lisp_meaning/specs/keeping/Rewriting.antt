@@ -119,3 +119,14 @@ GrownStore =
     → value_at s.registers target ≡ V.Ref n → (object s.store n).body ≡ Block code fields → length fields < wanted
     → (allocated s (C.Grow target wanted) (object s.store n).area (grown (graph_of s) n code fields wanted).graph).store
     ≡ with_grown s.store n (grown_block (object s.store n).area code fields (grown_length (length fields) wanted)) (object s.store n).area (level_now s n) (suc (length fields))
+
+-- A store into a part of an object, another content with the same value, a cell that becomes a pair, and a block that grows keep the invariant.
+pub record StoresKeep : Type 0 where
+  pub car : CarStored
+  pub cdr : CdrStored
+  pub field : FieldStored
+  pub same_value : Resettled
+  pub cell_becomes_pair : CellRelaid
+  pub block_grows : BlockGrown
+  pub level : LiveLevel
+  pub grown_store : GrownStore

@@ -82,3 +82,11 @@ CutRunMoved =
     → word g1 (b + count) ≡ record { cdr = CdrNormal; content = (word g (a + count)).content }
     → word g1 (suc (b + count)) ≡ record { cdr = CdrNext; content = ListAt target }
     → After g (with_words g1 ws) k top areas s s aim (3 * count + 3) AsCons b (suc count) (λ i. name_at k (a + i))
+
+-- A transport keeps the invariant: of a block; of a pair, with the cells before it; of the cells up to the end of a list; and of cells the rest of whose list is elsewhere. At most 1,024 cells follow each other.
+pub record TransportKeeps : Type 0 where
+  pub block : BlockMoved
+  pub to_pair : RunToPairMoved
+  pub to_nil : RunToNilMoved
+  pub cut : CutRunMoved
+  pub short : RunIsShort

@@ -2,4 +2,4 @@ use Rattle.lisp_meaning.proofs.laws.settle_loses_no_reachable_name.Goals as goal
 use Rattle.lisp_meaning.proofs.closure.Collections.{settles_reachable}
 
 pub returns : goal.returns
-returns c = record { kept = settles_reachable }
+returns c = settles_reachable
