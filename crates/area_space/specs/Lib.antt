@@ -14,6 +14,7 @@ pub mod Room
 pub mod Sound
 pub mod Sums
 pub mod Table
+pub mod UsedWords
 pub mod View
 pub mod Views
 pub use Rattle.index_lists.specs as index_lists

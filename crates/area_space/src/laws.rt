@@ -1,20 +1,15 @@
 //! Laws of grounds that the contract of no single call can state.
-ghost use Rattle.std.specs.Prelude.{◌≡◌, ◌≢◌, if◌then◌else◌, ℕ, ◌+◌, ◌*◌, ◌/◌, ◌%◌, ◌<◌, ◌≤◌, List, Some};
+ghost use Rattle.std.specs.Prelude.{◌≡◌, ℕ, ◌+◌, ◌*◌, ◌/◌, ◌%◌, ◌<◌, ◌≤◌, List, Some};
 ghost use Rattle.lisp_graph.specs.declared.world.AreaRule.{AreaRule};
 ghost use Rattle.store_word.specs.Words.{Parts, address_of};
 ghost use Rattle.mem_port.specs.Store.{Store, IsFresh, Stores, StoresNothing, Remarks};
-ghost use Rattle.area_space.specs.Table.{Table, areas_of, levels_of, slots_of, slot_of, live, stale, used_of, quota_of, IsUnclassed, IsOld};
+ghost use Rattle.area_space.specs.Table.{Table, areas_of, levels_of, slot_of, used_of, quota_of, IsUnclassed};
 ghost use Rattle.area_space.specs.Sound.{IsTable};
-ghost use Rattle.area_space.specs.Room.{RoomRule, words_of_area, words_of_class};
+ghost use Rattle.area_space.specs.Room.{RoomRule, words_of_area};
 ghost use Rattle.area_space.specs.Fresh.{fresh, RoomRuleFor};
 ghost use Rattle.area_space.specs.History.{Call, LeadsThrough, HasPlace};
-ghost use Rattle.lisp_graph.specs.declared.command.Condemn.{Condemn};
-ghost use Rattle.area_space.specs.declared.classes.Origin.{Origin};
-ghost use Rattle.area_space.specs.Places.{IsEnd, opened};
-ghost use Rattle.area_space.specs.Charges.{committed};
-ghost use Rattle.area_space.specs.Flips.{condemns, Condemns};
-ghost use Rattle.area_space.specs.Frees.{Frees};
 ghost use Rattle.area_space.specs.Ground.{IsGround, NamesNoFree};
+ghost use Rattle.area_space.specs.UsedWords.{UsedWordsOfClasses};
 
 use store_word::{MAX_OBJECT_WORDS, REGION_WORDS};
 
@@ -24,7 +19,7 @@ use store_word::{MAX_OBJECT_WORDS, REGION_WORDS};
 /// in each area, at each level, as long as the used words of the area and these are together at most
 /// twice its quota.
 pub fn room_suffices()
-    ensures lasts { (first last : Table) (calls : List Call) → IsTable first → LeadsThrough calls first last → IsTable last }
+    ensures stays_sound { (first last : Table) (calls : List Call) → IsTable first → LeadsThrough calls first last → IsTable last }
     ensures place { (first last : Table) (calls : List Call) → IsTable first → RoomRule first → LeadsThrough calls first last
         → (area level words : ℕ) → area < areas_of last → level < levels_of last → 0 < words → words ≤ MAX_OBJECT_WORDS
         → words_of_area last area + words ≤ 2 * quota_of last area → HasPlace last (slot_of last area level) words }
@@ -68,19 +63,5 @@ pub fn remarks_keep_ground()
 /// adds its words to the class of the place alone, a flip moves the words of a condemned live class
 /// to the old one, and a reclaim keeps those of the live classes.
 pub fn used_words_of_classes()
-    ensures opened { (t : Table) (slot region class : ℕ) → IsTable t → slot < slots_of t → IsUnclassed t region
-        → words_of_class (opened t (live slot) region) class ≡ words_of_class t class }
-    ensures committed { (t u : Table) (slot at words charge : ℕ) (o : Origin) → IsTable t → IsEnd t slot at words
-        → u ≡ record (committed t slot at words charge o) { pages = u.pages }
-        → words_of_class u (live slot) ≡ words_of_class t (live slot) + words }
-    ensures others { (t u : Table) (slot at words charge class : ℕ) (o : Origin) → IsTable t → IsEnd t slot at words
-        → u ≡ record (committed t slot at words charge o) { pages = u.pages }
-        → class ≢ live slot → words_of_class u class ≡ words_of_class t class }
-    ensures flipped_live { (t u : Table) (what : Condemn) (slot : ℕ) → Condemns t u what → slot < slots_of t
-        → words_of_class u (live slot) ≡ (if condemns t what slot then 0 else words_of_class t (live slot)) }
-    ensures flipped_old { (t u : Table) (what : Condemn) (slot : ℕ) → ((region : ℕ) → IsOld t region → ⊥) → Condemns t u what → slot < slots_of t
-        → words_of_class u (stale slot) ≡ (if condemns t what slot then words_of_class t (live slot) else 0) }
-    ensures freed_live { (t u : Table) (slot : ℕ) → IsTable t → Frees t u → slot < slots_of t
-        → words_of_class u (live slot) ≡ words_of_class t (live slot) }
-    ensures freed_old { (t u : Table) (slot : ℕ) → Frees t u → slot < slots_of t → words_of_class u (stale slot) ≡ 0 }
+    ensures { UsedWordsOfClasses }
 {}
