@@ -261,7 +261,7 @@ pub record NextUnits : Type 0 where
 
 -- The law
 
--- Some run shows the answers of each of these inputs; forwards lead where they should, and the next unit is the right one.
+-- Some run shows the answers of each of these inputs; forwards lead to the right address, and the next unit is the right one.
 pub record WorkedExamples : Type 0 where
   pub exact_quota : ExactQuota
   pub full_area : FullArea
