@@ -60,3 +60,9 @@ ReclaimedOn =
 -- before it no word outside old regions has an address in one
 abbrev pub ScannedNamesNoOld : Type 0
 ScannedNamesNoOld = (m : Store) (t : Table) (rest : Rest) → IsTable t → IsGround m t → IsScanned (image_of m t rest) true → NamesNoOld m t
+
+-- A machine represents the flipped state after a flip, and a state in which the collection has ended after a reclaim; before the reclaim no word outside old regions has an address in one.
+pub record CollectionsKeepMachines : Type 0 where
+  pub flip : FlippedOn
+  pub reclaim : ReclaimedOn
+  pub scanned : ScannedNamesNoOld

@@ -101,6 +101,13 @@ pub record LevelsAgree : Type 0 where
 abbrev pub CondemnedAgree : Type 0
 CondemnedAgree = (t : Table) (top : ℕ) (areas : List AreaRule) (what : Condemn) (slot : ℕ) → Agrees t top areas → A.condemns t what slot ≡ condemned_classes areas what (slot / levels_of t) (slot % levels_of t)
 
+-- A table and a state agree on a collection: on the page of the latest transport, the level of a survivor, the levels of a set, and the classes that a flip condemns.
+pub record CollectionsAgree : Type 0 where
+  pub latest : LatestPageIs
+  pub survivors : SurvivorsAgree
+  pub levels : LevelsAgree
+  pub condemned : CondemnedAgree
+
 -- Places
 
 -- a place keeps the objects that the ground represents
@@ -124,6 +131,12 @@ abbrev pub RoomForSpare : Type 0
 RoomForSpare = (m : Store) (t : Table) (k : RoleMap) (top : ℕ) (areas : List AreaRule) (s : M.Store) (aim : Condemned) → GroundInvariant m t k top areas s aim
     → (area words level : ℕ) → area < length areas → level < suc top → words ≤ spares_in s k (classes (ground_image m t)) (in_class area level) → words_of_area t area + words ≤ 2 * quota_of t area
 
+-- There is room for the words of a new object, for those of objects that move, and for those of a cell that becomes a pair.
+pub record PlacesHaveRoom : Type 0 where
+  pub new : RoomForNew
+  pub moved : RoomForMoved
+  pub spare : RoomForSpare
+
 -- the account of an area that the table keeps is that of its objects
 abbrev pub AccountsAgree : Type 0
 AccountsAgree = (m : Store) (t : Table) (k : RoleMap) (top : ℕ) (areas : List AreaRule) (s : M.Store) (aim : Condemned) → GroundInvariant m t k top areas s aim → (area : ℕ) → account_of t area ≡ account top s aim area
@@ -145,6 +158,13 @@ MovedAllowed = (m : Store) (t : Table) (k : RoleMap) (top : ℕ) (areas : List A
     → (charge from : ℕ) → from < levels_of t → charge ≤ (ground_image m t).old_charge area from → (slot : ℕ) → IsEnd t slot at words
     → AllowsOrigin t slot charge (Moved (record { area = area; level = from; stale = true }))
 
+-- The table's accounts and totals are those of the objects, so what the quota allows may be committed.
+pub record CommitsAreAllowed : Type 0 where
+  pub accounts : AccountsAgree
+  pub levels : LevelTotalsOn
+  pub new : NewAllowed
+  pub moved : MovedAllowed
+
 -- Words
 
 -- if nothing is stored, the ground represents what it did
@@ -164,6 +184,12 @@ pub record StoreKeeps : Type 0 where
   pub kept : (m m' : Store) (t : Table) (k : RoleMap) (top : ℕ) (areas : List AreaRule) (s : M.Store) (aim : Condemned) → GroundInvariant m t k top areas s aim
       → (a : ℕ) (w : Parts) (v : Value) → Stores m m' a w → IsTrue (is_used (ground_image m t) a) → value_of k.role w.content ≡ Some v
       → (s' : M.Store) → AfterWord (ground_image m t) (with_words (ground_image m t) m'.words) k top areas s s' aim → AfterStore m t m' k top areas s s' aim
+
+-- Reads keep what the ground represents, and so does a store of a word with a value, if the image keeps it.
+pub record WordsKeepGrounds : Type 0 where
+  pub reads : ReadsKeep
+  pub stores : StoreKeeps
+  pub named : ValuesNameUsed
 
 -- Objects
 

@@ -80,3 +80,9 @@ ListMadeOn =
     → GroundInvariant m t k top areas s aim → area < length areas → level ≤ top → account top s aim area + 3 * length values ≤ (rule_of areas area).quota
     → length values ≤ 1024 → MakesCells m t m' t' k b area level values
     → AfterOn m t m' t' k top areas s (with_made s (list_from area (length s.objects) values) level) aim 0 AsCons b (length values) (λ i. length s.objects + i)
+
+-- Words that are placed, committed and written, in any order, are a new pair, a new block or the cells of a new list.
+pub record NewObjectsKeepGrounds : Type 0 where
+  pub pair : PairMadeOn
+  pub block : BlockMadeOn
+  pub list : ListMadeOn

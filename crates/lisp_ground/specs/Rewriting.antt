@@ -63,6 +63,13 @@ ResettledOn =
     → GroundInvariant m t k top areas s aim → value_of k.role (word_at m.words a).content ≡ Some value → StoresValue m m' k a value
     → AfterStore m t m' k top areas s s aim
 
+-- A store into a car, a cdr or a field changes that part of the object, and another content with the same value changes none.
+pub record StoresChangeObjects : Type 0 where
+  pub car : CarStoredOn
+  pub cdr : CdrStoredOn
+  pub field : FieldStoredOn
+  pub same_value : ResettledOn
+
 -- Objects that are relocated
 
 -- An object at a, in a live class, gets `count` words at the used end of this class; then a HEADER-FORWARD to them is stored at a, and `blank` NULL words after it. `mid` has the new words, `new` the others too
@@ -107,3 +114,8 @@ BlockGrownOn =
     → t' ≡ husked c (live (slot_of t area level)) (suc (length fields)) → suc (length fields) ≤ slice_index c.charges (live (slot_of t area level))
     → MakesGrown m mid a b code (length fields) (grown_length (length fields) wanted)
     → AfterOn m t m' t' k top areas s (with_grown s n (grown_block area code fields (grown_length (length fields) wanted)) area level (suc (length fields))) aim 0 AsBlock b 1 (λ i. n)
+
+-- A cell that is relocated is a pair with another cdr, and a block that is relocated is a wider one.
+pub record ObjectsAreRelocated : Type 0 where
+  pub cell : CellRelaidOn
+  pub block : BlockGrownOn

@@ -1,5 +1,5 @@
 //! The memory image of a ground.
-ghost use Rattle.lisp_ground.specs.Laws.{RegionsAreChains, UsedWordsAreChains, MarksAreKept, GroundIsMachine, FreshStands, LatestPageIs, SurvivorsAgree, LevelsAgree, CondemnedAgree};
+ghost use Rattle.lisp_ground.specs.Laws.{RegionsAreChains, UsedWordsAreChains, MarksAreKept, GroundIsMachine, FreshStands, CollectionsAgree};
 
 /// The regions of the image are those of the table's chains: live, old, or free if they are in
 /// none. The used words of a live class are those of its chain.
@@ -11,17 +11,14 @@ pub fn regions_are_chains()
 /// What always holds of a ground is the invariant of each machine with that ground, whatever its
 /// registers are and whatever remains to be scanned; the law of marks is the memory's.
 pub fn grounds_are_machines()
-    ensures kept { GroundIsMachine }
+    ensures ground { GroundIsMachine }
     ensures marks { MarksAreKept }
 {}
 
 /// The page of the latest transport and the level of a survivor are those of the table; a level is in
 /// a set for each layer alike, and the classes that a flip of the table condemns are those of the state.
 pub fn collections_agree()
-    ensures latest { LatestPageIs }
-    ensures survivors { SurvivorsAgree }
-    ensures levels { LevelsAgree }
-    ensures condemned { CondemnedAgree }
+    ensures { CollectionsAgree }
 {}
 
 /// A new memory and a new table of its regions represent a world without objects.

@@ -16,16 +16,16 @@ pub fn finals_are_places()
 /// A reference leads to the object that it names; a cons and a block have their parts in the words at
 /// their places.
 pub fn references_lead_to_objects()
-    ensures lead { ReferencesLead }
+    ensures { ReferencesLead }
 {}
 
 /// The words of an object show its charge, and are all in the memory.
 pub fn charges_are_words()
-    ensures charges { ChargesAreWords }
+    ensures { ChargesAreWords }
 {}
 
 /// A compact run of at most 1,024 cells begins at each cell, and its end shows how its cells may move.
 pub fn cells_have_runs()
-    ensures runs { CellsHaveRuns }
-    ensures ends { RunEndsAre }
+    ensures cells { CellsHaveRuns }
+    ensures end { RunEndsAre }
 {}

@@ -4,11 +4,11 @@ use Rattle.obj_layout.specs.declared.run.RunEnd.TheVariants.{Forwarded}
 use Rattle.lisp_ground.proofs.words.Runs.{has_run, run_to_nil, run_to_pair, run_to_forward, run_follower}
 use Rattle.lisp_ground.proofs.objects.cells_have_runs.Goals as goal
 
-pub returns-clause-runs : goal.returns-clause-runs
-returns-clause-runs c = has_run
+pub returns-clause-cells : goal.returns-clause-cells
+returns-clause-cells c = has_run
 
-pub returns-clause-ends : goal.returns-clause-ends
-returns-clause-ends c = record {
+pub returns-clause-end : goal.returns-clause-end
+returns-clause-end c = record {
   nil = run_to_nil;
   pair = run_to_pair;
   cut = λ m t k top areas s aim on b n i cells to role is.
