@@ -2,7 +2,7 @@
 ghost use Rattle.std.specs.Prelude.{◌≡◌, ℕ, List, ◌+◌, ◌-◌, ◌*◌, ◌/◌, ◌<◌, ◌≤◌, ◌^◌, IfOk, OnOk, OnErr, Some, length};
 ghost use Rattle.mem_port.specs.View.{AccountsForFaults, shown};
 ghost use Rattle.area_space.specs.View.{view};
-ghost use Rattle.transporter.specs.Views.{NoOldAddresses, CanSettle, FetchMoves, HasOldAt, IsSettleable, KeepsBarrier, RepresentedByLaterMap, LiveWordsUnchanged, LiveWordsUnchangedExcept, MarksFollow, MovesAtMost, MovesFor, SettlesAlways, SettlesOn, SettlesWordAt, WordsUnchanged, PreservesScanned};
+ghost use Rattle.transporter.specs.Views.{NoOldAddresses, CanSettle, FetchMoves, HasOldAt, IsSettleable, KeepsBarrier, RepresentedByLaterMap, LiveWordsUnchanged, LiveWordsUnchangedExcept, MarksFollow, MovesAtMost, MovesFor, SettlesAlways, SettlesWordAt, WordsUnchanged, PreservesScanned};
 ghost use Rattle.area_space.specs.lisp_graph.declared.object.Value.{Value};
 ghost use Rattle.area_space.specs.lisp_graph.declared.world.AreaRule.{AreaRule};
 ghost use Rattle.lisp_ground.specs.lisp_meaning.State.{Condemned, Store};
@@ -63,9 +63,7 @@ pub fn settle<M: Memory, L: Ledger>(
     requires { IsSettleable (view ground.old) word }
 
     // The word that is returned, and its value.
-    ensures settles { IfOk result (λ new. (k : RoleMap) (top : ℕ) (areas : List AreaRule) (registers : List Value) (s : Store) (aim : Condemned) (v : Value)
-        → CanSettle (view ground.old) k top areas registers s aim word v
-        → SettlesOn (view ground.old) (view ground.new) k top areas s aim word new) }
+    ensures settles { IfOk result (SettlesAlways (view ground.old) (view ground.new) word) }
     ensures word { IfOk result (Settles ground.old.table ground.new.table word) }
     ensures words { IfOk result (MovesFor (view ground.old) (view ground.new) word) }
     ensures moves { MovesAtMost (view ground.old) (view ground.new) 1 }
@@ -143,9 +141,7 @@ pub fn fetch<M: Memory, L: Ledger>(
     requires can { IsSettleable (view ground.old) (word_at (view ground.old).mem.store.words at) }
 
     // The word that is returned, and its value.
-    ensures settles { IfOk result (λ new. (k : RoleMap) (top : ℕ) (areas : List AreaRule) (registers : List Value) (s : Store) (aim : Condemned) (v : Value)
-        → CanSettle (view ground.old) k top areas registers s aim (word_at (view ground.old).mem.store.words at) v
-        → SettlesOn (view ground.old) (view ground.new) k top areas s aim (word_at (view ground.old).mem.store.words at) new) }
+    ensures settles { IfOk result (SettlesAlways (view ground.old) (view ground.new) (word_at (view ground.old).mem.store.words at)) }
     ensures word { IfOk result (SettlesWordAt (view ground.old) (view ground.new) at) }
     ensures written { IfOk result (λ new. word_at (view ground.new).mem.store.words at ≡ new) }
     ensures words { OnOk result (FetchMoves (view ground.old) (view ground.new) at) }
