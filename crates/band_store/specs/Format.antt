@@ -65,3 +65,11 @@ pub record IsDamaged (at : ℕ) (bytes : List ℕ) : Type 0 where
   pub behind : List ℕ
   pub is : bytes ≡ header ++ (records saves ++ 1 ∷ behind)
   pub none : HasNoRecord behind
+
+-- The bytes of a disk contain at most one list of saves, or have their first damage at one position, or are no store, and never two of these.
+pub record BytesSayOneThing : Type 0 where
+  pub saves : (bytes : List ℕ) (saves others : List Save) → Holds saves bytes → Holds others bytes → saves ≡ others
+  pub place : (bytes : List ℕ) (at other : ℕ) → IsDamaged at bytes → IsDamaged other bytes → at ≡ other
+  pub whole : (bytes : List ℕ) (saves : List Save) (at : ℕ) → Holds saves bytes → IsDamaged at bytes → ⊥
+  pub held : (bytes : List ℕ) (saves : List Save) → Holds saves bytes → IsNoStore bytes → ⊥
+  pub damaged : (bytes : List ℕ) (at : ℕ) → IsDamaged at bytes → IsNoStore bytes → ⊥

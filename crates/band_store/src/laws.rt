@@ -4,24 +4,20 @@ ghost use Rattle.std.specs.List.{All};
 ghost use Rattle.band_disk.specs.Logs.{fresh};
 ghost use Rattle.band_store.specs.Calls.{after_calls, all_calls};
 ghost use Rattle.band_store.specs.Directory.{directory, is_ordered, last_text, listing, named, sizes};
-ghost use Rattle.band_store.specs.Format.{Holds, IsDamaged, IsNoStore, Save, record_size};
+ghost use Rattle.band_store.specs.Format.{BytesSayOneThing, Save, record_size};
 ghost use Rattle.band_store.specs.Store.{IsOpenOn, Store};
 
 /// The bytes of a disk contain at most one list of saves, or have their first damage at one position, or are no store, and
 /// never two of these.
 pub fn bytes_say_one_thing()
-    ensures saves { (bytes : List ℕ) (saves others : List Save) → Holds saves bytes → Holds others bytes → saves ≡ others }
-    ensures place { (bytes : List ℕ) (at other : ℕ) → IsDamaged at bytes → IsDamaged other bytes → at ≡ other }
-    ensures whole { (bytes : List ℕ) (saves : List Save) (at : ℕ) → Holds saves bytes → IsDamaged at bytes → ⊥ }
-    ensures held { (bytes : List ℕ) (saves : List Save) → Holds saves bytes → IsNoStore bytes → ⊥ }
-    ensures damaged { (bytes : List ℕ) (at : ℕ) → IsDamaged at bytes → IsNoStore bytes → ⊥ }
+    ensures { BytesSayOneThing }
 {}
 
 /// The directory has the text of each name's last save, in the order of names. An open store lists these names with the
 /// lengths of their texts.
 pub fn directories_have_last_texts()
     ensures last { (saves : List Save) (name : List ℕ) → named name (directory saves) ≡ last_text name saves }
-    ensures ordered { (saves : List Save) → is_ordered (directory saves) ≡ true }
+    ensures order { (saves : List Save) → is_ordered (directory saves) ≡ true }
     ensures listed { (store : Store) (bytes : List ℕ) (saves : List Save) → IsOpenOn store bytes saves → sizes store.bands ≡ listing (directory saves) }
 {}
 
