@@ -62,6 +62,13 @@ ReachedAreHeld = (m : Store) (t : Table) (k : RoleMap) (top : ℕ) (areas : List
     → GroundInvariant m t k top areas s aim → MeanValues k registers values
     → (a : ℕ) → IsTrue (is_reached m t registers a) → ((n : ℕ) × in_use s n × (k.at n ≡ a))
 
+-- By any map by which a ground represents objects, its words show these objects by their places, and what the registers reach is held.
+pub record WordsShowObjects : Type 0 where
+  pub leads : LeadsThere
+  pub values : ValuesArePlaces
+  pub objects : ObjectsArePlaces
+  pub reached : ReachedAreHeld
+
 -- What a walk requires
 
 -- there is the same number of registers; each can be seen, and is shown as the graph has it
@@ -89,6 +96,14 @@ ReadsShowTheSame = (m m' : Store) (t : Table) (registers : List Parts) → Store
 abbrev pub WalksGoOn : Type 0
 WalksGoOn = (m m' : Store) (t : Table) (registers : List Parts) → m'.words ≡ m.words → m'.levels ≡ m.levels → m'.top ≡ m.top → CanWalk m t registers → CanWalk m' t registers
 
+-- What a walk over registers and what they reach requires, and what it may return.
+pub record WordsShowReached : Type 0 where
+  pub registers : RegistersAreTold
+  pub keys : KeysAreObjects
+  pub shows : ReachedShow
+  pub same : ReadsShowTheSame
+  pub on : WalksGoOn
+
 -- The graph of a state
 
 -- the least name whose object is held and is at the address
@@ -111,3 +126,9 @@ DumpIsOfState = (m : Store) (t : Table) (registers : List Parts) (k : RoleMap) (
 abbrev pub CensusIsOfState : Type 0
 CensusIsOfState = (m : Store) (t : Table) (registers : List Parts) (k : RoleMap) (s : State) → GroundInvariant m t k s.space.levels s.areas s.store (aim_of s.phase) → MeanValues k registers s.registers
     → (rows : List CensusRow) → IsReachedCensus (shown_by m t registers) rows → IsReachedCensus (keyed (graph_of s)) rows
+
+-- The graph that the words show is that of each state that they represent, and so are its dump and the census of what its registers reach.
+pub record WalksShowStates : Type 0 where
+  pub state : WalkShowsState
+  pub dump : DumpIsOfState
+  pub census : CensusIsOfState
