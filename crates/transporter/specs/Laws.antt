@@ -69,3 +69,13 @@ pub record TablesGrow : Type 0 where
   pub old : (t t' : Table) (word : Parts) → OnlyGrows t t' → RefersToOld t word → RefersToOld t' word
   pub no_other : (t t' : Table) (word : Parts) → OnlyGrows t t' → RefersToOld t' word → RefersToOld t word
   pub kept : (t t' : Table) (registers : List Value) (s : M.Store) (aim : Condemned) (v : Value) → OnlyGrows t t' → IsKeptValue t registers s aim v → IsKeptValue t' registers s aim v
+
+-- What two calls, one after the other, may do, one call may do: a later map, the values and live words by it, a table that only grows, scanned words, marks, and the transports of both together.
+pub record TransportsAddUp : Type 0 where
+  pub later : LaterTwice
+  pub values : ValuesStay
+  pub live : LiveTwice
+  pub tables : TablesGrow
+  pub preserves : PreservesTwice
+  pub marks : MarksFollowTwice
+  pub moves : MovesTwice

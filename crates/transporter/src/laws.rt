@@ -1,17 +1,11 @@
 //! Laws of calls that follow one another.
-ghost use Rattle.transporter.specs.Laws.{LaterTwice, LiveTwice, MarksFollowTwice, MovesTwice, RunsMoveTogether, TablesGrow, PreservesTwice, UnchangedUnmarked, ValuesStay};
+ghost use Rattle.transporter.specs.Laws.{RunsMoveTogether, TransportsAddUp, UnchangedUnmarked};
 
 /// What two calls, one after the other, may do, one call may do: there is a later map by which
 /// each word that had a value has it, the same live words in a table that only grows, scanned words
 /// that stay or are fresh, marks that follow the changes, and the transports of both together.
 pub fn transports_add_up()
-    ensures later { LaterTwice }
-    ensures values { ValuesStay }
-    ensures live { LiveTwice }
-    ensures tables { TablesGrow }
-    ensures preserves { PreservesTwice }
-    ensures marks { MarksFollowTwice }
-    ensures moves { MovesTwice }
+    ensures { TransportsAddUp }
 {}
 
 /// Lists stay compact: a transport moves a compact run of cells as a whole, and none of its cells

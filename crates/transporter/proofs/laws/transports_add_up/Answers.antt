@@ -6,35 +6,25 @@ use Rattle.transporter.proofs.TransportSequences.{moves-then}
 use Rattle.transporter.proofs.ScannedWords.{preserves-then}
 use Rattle.transporter.proofs.laws.transports_add_up.Goals as goal
 
-pub returns-clause-later : goal.returns-clause-later
-returns-clause-later c = λ m m1 m2 t t1 t2 k top areas s aim x y. (
-  record { map = y.map; kept = y.kept; refines = λ kind a n e. y.refines kind a n (x.refines kind a n e); work = (let a = x.work in let b = y.work in omega arith) },
-  refl,
-)
-
-pub returns-clause-values : goal.returns-clause-values
-returns-clause-values c = λ m m' t t' k top areas s aim x content v e. refined k.role x.map.role x.refines content v e
-
-pub returns-clause-live : goal.returns-clause-live
-returns-clause-live c = λ m m1 m2 t t1 t2 x y. live-then x y
-
-pub returns-clause-tables : goal.returns-clause-tables
-returns-clause-tables c = record {
-  live = λ t t' a g w. still-live g w;
-  old = λ t t' word g h. (h.0, h.1, old-stays g h.2);
-  no_other = λ t t' word g h. (h.0, h.1, old-before g h.2);
-  kept = λ t t' registers s aim v g h. record { running = g.aim ∙ h.running; reaches = h.reaches; name = h.name };
-}
-
-pub returns-clause-preserves : goal.returns-clause-preserves
-returns-clause-preserves c = λ m m1 m2 t t1 t2 x y. preserves-then x y
-
-pub returns-clause-moves : goal.returns-clause-moves
-returns-clause-moves c = λ m m1 m2 t t1 t2 n k x y. moves-then x y
-
-pub returns-clause-marks : goal.returns-clause-marks
-returns-clause-marks c = record {
-  both = λ m m1 m2 t t1 t2 x y. marks-then x y;
-  writes_last = λ m m1 m2 t t1 t2 at x y. marks-then_but x y;
-  writes_first = λ m m1 m2 t t1 t2 at x y. marks-but_then x y;
+pub returns : goal.returns
+returns c = record {
+  later = λ m m1 m2 t t1 t2 k top areas s aim x y. (
+    record { map = y.map; kept = y.kept; refines = λ kind a n e. y.refines kind a n (x.refines kind a n e); work = (let a = x.work in let b = y.work in omega arith) },
+    refl,
+  );
+  values = λ m m' t t' k top areas s aim x content v e. refined k.role x.map.role x.refines content v e;
+  live = λ m m1 m2 t t1 t2 x y. live-then x y;
+  tables = record {
+    live = λ t t' a g w. still-live g w;
+    old = λ t t' word g h. (h.0, h.1, old-stays g h.2);
+    no_other = λ t t' word g h. (h.0, h.1, old-before g h.2);
+    kept = λ t t' registers s aim v g h. record { running = g.aim ∙ h.running; reaches = h.reaches; name = h.name };
+  };
+  preserves = λ m m1 m2 t t1 t2 x y. preserves-then x y;
+  marks = record {
+    both = λ m m1 m2 t t1 t2 x y. marks-then x y;
+    writes_last = λ m m1 m2 t t1 t2 at x y. marks-then_but x y;
+    writes_first = λ m m1 m2 t t1 t2 at x y. marks-but_then x y;
+  };
+  moves = λ m m1 m2 t t1 t2 n k x y. moves-then x y;
 }
