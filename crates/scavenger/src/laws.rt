@@ -3,9 +3,9 @@ ghost use Rattle.scavenger.specs.Laws.{CleanStays, NextIsDefined, ScansOnce, Uni
 
 /// A scan goes on over a call that preserves the ground: it stays clean, and what the call places remains to be scanned.
 pub fn scans_go_on()
-    ensures clean { CleanStays }
+    ensures stays_sound { CleanStays }
     ensures units { UnitsStay }
-    ensures exact { UnitsCome }
+    ensures going { UnitsCome }
 {}
 
 /// The next unit is the one that the definition of collections scans next.

@@ -5,10 +5,10 @@ use Rattle.heap_state.proofs.ReachableObjects.{reach_stays, steps_bear}
 use Rattle.heap_state.proofs.laws.commands_are_steps.Goals as goal
 
 pub returns-clause-performs : goal.returns-clause-performs
-returns-clause-performs c = performs_is_step c.scans_go_on.ensures.clean c.scans_go_on.ensures.units
+returns-clause-performs c = performs_is_step c.scans_go_on.ensures.stays_sound c.scans_go_on.ensures.units
 
 pub returns-clause-made : goal.returns-clause-made
-returns-clause-made c = allocation_is_step c.scans_go_on.ensures.clean c.scans_go_on.ensures.units
+returns-clause-made c = allocation_is_step c.scans_go_on.ensures.stays_sound c.scans_go_on.ensures.units
 
 pub returns-clause-fault : goal.returns-clause-fault
 returns-clause-fault c = fault_is_step
