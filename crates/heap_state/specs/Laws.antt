@@ -100,3 +100,10 @@ abbrev pub RegisterSet : Type 0
 RegisterSet = (m : Store) (t : Table) (registers : List Parts) (k : RoleMap) (s : State) (to : ℕ) (word : Parts) (v : Value)
     → Represents m t registers k s → to < length registers → value_of k.role word.content ≡ Some v
     → Represents m t (slice_set registers to word) k (record s { registers = slice_set s.registers to v })
+
+-- How what is represented changes when registers and memory change.
+pub record RepresentedChanges : Type 0 where
+  pub kept : KeptRegister
+  pub twice : RepresentsTwice
+  pub read : ReadOn
+  pub register : RegisterSet

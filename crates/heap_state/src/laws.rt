@@ -1,5 +1,5 @@
 //! Laws of what is represented, the same for all commands.
-ghost use Rattle.heap_state.specs.Laws.{AllocationIsStep, AtLast, RepresentsIsStands, RepresentsTwice, FaultIsStep, IsMachineInvariant, KeptRegister, PerformsIsStep, ReachStays, ReadOn, RegisterSet, StepsRepresent};
+ghost use Rattle.heap_state.specs.Laws.{AllocationIsStep, AtLast, RepresentedChanges, RepresentsIsStands, FaultIsStep, IsMachineInvariant, PerformsIsStep, ReachStays, StepsRepresent};
 
 use scavenger::scans_go_on;
 
@@ -17,14 +17,11 @@ pub fn commands_are_steps()
 
 /// What is represented between two commands satisfies the invariant of a machine.
 pub fn what_is_represented_stands()
-    ensures strong { IsMachineInvariant }
+    ensures sound { IsMachineInvariant }
     ensures stands { RepresentsIsStands }
 {}
 
 /// How what is represented changes when registers and memory change.
 pub fn what_is_represented_changes()
-    ensures kept { KeptRegister }
-    ensures twice { RepresentsTwice }
-    ensures read { ReadOn }
-    ensures register { RegisterSet }
+    ensures { RepresentedChanges }
 {}
