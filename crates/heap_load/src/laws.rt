@@ -18,9 +18,9 @@ pub fn more_objects_are_made()
 /// An area is charged for those of its objects that are made, and for drafts of the first objects of a world no more than
 /// for the objects.
 pub fn drafts_are_charged()
-    ensures more { (world : World) (made : List Object) (area : ℕ)
+    ensures value { (world : World) (made : List Object) (area : ℕ)
         → account_now (opening (with_objects world (world.objects ++ made))) area ≡ account_now (opening world) area + charge_in area made }
-    ensures most { (world : World) (drafts : List Object) (area : ℕ) → length drafts ≤ length world.objects
+    ensures at_most { (world : World) (drafts : List Object) (area : ℕ) → length drafts ≤ length world.objects
         → ((i : ℕ) → i < length drafts → ((object_at drafts i).area ≡ (object_at world.objects i).area) × ((object_at drafts i).charge ≡ (object_at world.objects i).charge))
         → account_now (opening (with_objects world drafts)) area ≤ account_now (opening world) area }
 {}
