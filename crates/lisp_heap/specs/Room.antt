@@ -37,3 +37,10 @@ abbrev pub SpareHasPlace : Type 0
 SpareHasPlace = (heap : HeapView) (s : State) (st : Stands heap s)
     → (area words level : ℕ) → area < length heap.table.kinds → level < suc s.space.levels → words ≤ spares_in s.store st.map (classes (ground_image (store_of heap.memory) heap.table)) (in_class area level)
     → words_of_area heap.table area + words ≤ 2 * quota_of heap.table area
+
+-- In each state that a heap represents there is room for a new object, for objects that move, and for a cell that becomes a pair.
+pub record HeapsHaveRoom : Type 0 where
+  pub ground : HeapsArePlaceable
+  pub new : NewHasPlace
+  pub moved : MovedHasPlace
+  pub spare : SpareHasPlace

@@ -24,6 +24,11 @@ DumpIsOfState = (heap : HeapView) (s : State) → Stands heap s → (space : Spa
 abbrev pub CensusIsOfState : Type 0
 CensusIsOfState = (heap : HeapView) (s : State) → Stands heap s → (rows : List CensusRow) → IsReachedCensus (graph_in heap) rows → IsReachedCensus (keyed (graph_of s)) rows
 
+-- What a walk over a heap shows has the dump and the census of each state that the heap represents.
+pub record WalksShowStates : Type 0 where
+  pub dump : DumpIsOfState
+  pub census : CensusIsOfState
+
 -- A heap was only read: no word was written and no register settled, it represents each state that it represented before, and its world is the same. For each swap error at most one page fewer is resident.
 pub record StandsAsBefore (old new : HeapView) : Type 0 where
   pub words : new.memory.words ≡ old.memory.words

@@ -7,8 +7,8 @@ ghost use Rattle.heap_load.specs.Loading.{FitsQuotas};
 ghost use Rattle.lisp_heap.specs.HeapView.{HeapView};
 ghost use Rattle.lisp_heap.specs.Stands.{Stands, machine_of};
 ghost use Rattle.lisp_heap.specs.Freed.{SilentRetains};
-ghost use Rattle.lisp_heap.specs.Room.{HeapsArePlaceable, MovedHasPlace, NewHasPlace, SpareHasPlace};
-ghost use Rattle.lisp_heap.specs.Walking.{DumpIsOfState, CensusIsOfState};
+ghost use Rattle.lisp_heap.specs.Room.{HeapsHaveRoom};
+ghost use Rattle.lisp_heap.specs.Walking.{WalksShowStates};
 
 /// A heap that represents a state has its meaning: each register and each object is found in its
 /// words, under a naming.
@@ -18,8 +18,7 @@ pub fn standing_is_meaning()
 
 /// What a walk over a heap shows has the dump and the census of each state that the heap represents.
 pub fn walks_show_states()
-    ensures dump { DumpIsOfState }
-    ensures census { CensusIsOfState }
+    ensures { WalksShowStates }
 {}
 
 /// The objects of a world whose lines were accepted fit the quotas of its areas, so it can be loaded.
@@ -30,10 +29,7 @@ pub fn accepted_worlds_fit()
 /// In each state that a heap represents there is a place for a new object that the quota of its area
 /// allows, for objects that a collection moves, and for the pair that a cell becomes.
 pub fn heaps_have_room()
-    ensures ground { HeapsArePlaceable }
-    ensures new { NewHasPlace }
-    ensures moved { MovedHasPlace }
-    ensures spare { SpareHasPlace }
+    ensures { HeapsHaveRoom }
 {}
 
 /// A reclaim that no command requested reduces each area's account like one that a command requested: by
