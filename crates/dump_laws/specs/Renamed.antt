@@ -1,8 +1,11 @@
 -- Graphs that show the same objects by other keys.
 use Rattle.std.specs.Prelude.{◌≡◌, ℕ, ◌<◌, List, map, true}
+use Rattle.trace_text.specs.store_word.declared.space.Space.{Space}
+use Rattle.trace_text.specs.lisp_graph.declared.world.AreaRule.{AreaRule}
 use Rattle.trace_text.specs.lisp_graph.KeyedGraph.{KeyedGraph}
 use Rattle.trace_text.specs.lisp_graph.declared.walk.Seen.{Seen}
 use Rattle.trace_text.specs.lisp_graph.declared.walk.Seen.TheVariants.{Fix, Nil, Cons, Block}
+use Rattle.trace_text.specs.world_text.Dump.{IsDump}
 use Rattle.trace_text.specs.world_text.Numbering.{is_numbered}
 
 -- a value whose object is found by another key
@@ -26,3 +29,9 @@ pub record IsRenamed (name : ℕ → ℕ) (keys : List ℕ) (graph other : Keyed
 -- their charges are the same
 abbrev pub HasSameCharges : (ℕ → ℕ) → List ℕ → KeyedGraph → KeyedGraph → Type 0
 HasSameCharges name keys graph other = (key : ℕ) → is_numbered keys key ≡ true → (other.form (name key)).charge ≡ (graph.form key).charge
+
+-- A graph has one dump, and a graph that shows the same by other keys has the same one.
+pub record GraphsHaveOneDump : Type 0 where
+  pub one : (graph : KeyedGraph) (space : Space) (areas : List AreaRule) (this other : List ℕ) → IsDump graph space areas this → IsDump graph space areas other → this ≡ other
+  pub renamed : (name : ℕ → ℕ) (graph other : KeyedGraph) (space : Space) (areas : List AreaRule) (text : List ℕ) → (dump : IsDump graph space areas text)
+      → IsRenamed name dump.keys graph other → HasSameCharges name dump.keys graph other → IsDump other space areas text

@@ -6,15 +6,13 @@ ghost use Rattle.trace_text.specs.lisp_graph.declared.world.World.{World};
 ghost use Rattle.trace_text.specs.lisp_graph.KeyedGraph.{KeyedGraph, keyed};
 ghost use Rattle.trace_text.specs.lisp_graph.World.{opening};
 ghost use Rattle.trace_text.specs.world_text.Dump.{IsDump};
-ghost use Rattle.dump_laws.specs.Renamed.{HasSameCharges, IsRenamed};
+ghost use Rattle.dump_laws.specs.Renamed.{GraphsHaveOneDump};
 ghost use Rattle.dump_laws.specs.Back.{IsReadBack, KeepsLimits};
 ghost use Rattle.dump_laws.specs.Written.{dumped};
 
 /// A graph has one dump, and a graph that shows the same by other keys has the same one.
 pub fn graphs_have_one_dump()
-    ensures one { (graph : KeyedGraph) (space : Space) (areas : List AreaRule) (this other : List ℕ) → IsDump graph space areas this → IsDump graph space areas other → this ≡ other }
-    ensures renamed { (name : ℕ → ℕ) (graph other : KeyedGraph) (space : Space) (areas : List AreaRule) (text : List ℕ) → (dump : IsDump graph space areas text)
-        → IsRenamed name dump.keys graph other → HasSameCharges name dump.keys graph other → IsDump other space areas text }
+    ensures { GraphsHaveOneDump }
 {}
 
 /// What a dump of a world contains is a function of the world.
