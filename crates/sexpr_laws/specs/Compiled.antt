@@ -1,5 +1,5 @@
 -- What the print of a world is compiled to.
-use Rattle.std.specs.Prelude.{◌≡◌, ℕ, ◌<◌, ◌≤◌, ◌^◌, pos, negsuc, ⊤, List, Ok}
+use Rattle.std.specs.Prelude.{◌≡◌, ℕ, ◌<◌, ◌≤◌, ◌^◌, pos, negsuc, ⊤, Bool, List, Ok}
 use Rattle.std.specs.List.{All}
 use Rattle.file_modes.specs.lisp_graph.KeyedGraph.{code_of, keyed}
 use Rattle.file_modes.specs.lisp_graph.World.{opening}
@@ -8,6 +8,9 @@ use Rattle.file_modes.specs.lisp_graph.declared.object.Value.{Value}
 use Rattle.file_modes.specs.lisp_graph.declared.object.Value.TheVariants.{Fix, Nil, Ref}
 use Rattle.file_modes.specs.lisp_graph.declared.world.World.{World}
 use Rattle.file_modes.specs.world_text.Dump.{IsDump}
+use Rattle.file_modes.specs.world_text.Limits.{IsAccepted}
+use Rattle.file_modes.specs.dump_laws.Back.{SayWorld}
+use Rattle.file_modes.specs.line_input.WorldFile.{verdict}
 use Rattle.file_modes.specs.sexpr_text.Meaning.{meaning}
 use Rattle.file_modes.specs.sexpr_print.Places.{parts}
 use Rattle.file_modes.specs.sexpr_print.Spelling.{IsPrint}
@@ -39,3 +42,9 @@ pub record IsCompiledBack (text dump : List ℕ) : Type 0 where
 -- A print of this world is compiled to a world that has the same dump.
 abbrev pub PrintsAreCompiledBack : World → Type 0
 PrintsAreCompiledBack world = (text dump : List ℕ) → IsPrint world text → IsDump (keyed (opening world)) world.space world.areas dump → IsCompiledBack text dump
+
+-- So it is for each world that the lines of a world file, or those of an input before `trace`, mean; for each accepted world file; and for each accepted world whose integers fit their types.
+pub record EachPrintIsCompiledBack : Type 0 where
+  pub files : (file : Bool) (lines : List (List ℕ)) (world : World) → SayWorld file lines world → PrintsAreCompiledBack world
+  pub accepted : (file : List ℕ) (world : World) → verdict file ≡ Ok world → PrintsAreCompiledBack world
+  pub worlds : (world : World) → IsAccepted world → FitsTypes world → PrintsAreCompiledBack world

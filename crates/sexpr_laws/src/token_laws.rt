@@ -12,9 +12,9 @@ ghost use Rattle.sexpr_laws.specs.ReadBack.{AreTokensReadBack, IsHeaderReadBack,
 /// The pieces of lines of tokens spell these tokens, in order, and then the text ends. Each token takes at most 32 bytes with its
 /// gap, and each line one byte more for its line feed. Required: each area is found by its name, and each token can be spelled.
 pub fn tokens_are_read_back()
-    ensures same { (areas : List AreaRule) (line : ℕ) (lines : List (List Token)) → AreNamed areas → All (AreSpellable areas) lines
+    ensures value { (areas : List AreaRule) (line : ℕ) (lines : List (List Token)) → AreNamed areas → All (AreSpellable areas) lines
         → AreTokensReadBack areas line lines }
-    ensures short { (areas : List AreaRule) (lines : List (List Token)) → AreNamed areas → All (AreSpellable areas) lines
+    ensures at_most { (areas : List AreaRule) (lines : List (List Token)) → AreNamed areas → All (AreSpellable areas) lines
         → length (lines_text areas lines) ≤ 32 * length (in_order lines) + length lines }
 {}
 

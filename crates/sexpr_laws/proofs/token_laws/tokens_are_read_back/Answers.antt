@@ -2,8 +2,8 @@ use Rattle.sexpr_laws.proofs.TokenSizes.{lines_short}
 use Rattle.sexpr_laws.proofs.Tokens.{tokens_back}
 use Rattle.sexpr_laws.proofs.token_laws.tokens_are_read_back.Goals as goal
 
-pub returns-clause-same : goal.returns-clause-same
-returns-clause-same c = tokens_back
+pub returns-clause-value : goal.returns-clause-value
+returns-clause-value c = tokens_back
 
-pub returns-clause-short : goal.returns-clause-short
-returns-clause-short c = lines_short
+pub returns-clause-at_most : goal.returns-clause-at_most
+returns-clause-at_most c = lines_short
