@@ -14,6 +14,6 @@ mod settled;
 
 pub use fault::ListFault;
 pub use list::{CELL, make_list};
-pub use pair::{PAIR, make_pair, make_pair_of};
+pub use pair::{NewPair, PAIR, make_pair, make_pair_of};
 pub use parts::{set_car, set_cdr};
 pub use settled::{car, cdr};

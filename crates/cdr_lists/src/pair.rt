@@ -18,6 +18,19 @@ use store_word::{CdrCode, LAST_OFFSET, PAGE_WORDS, Steps, SwapFault, Word};
 /// The charge of a pair that `cons` makes, in words. They are its two words.
 pub const PAIR: u32 = 2;
 
+/// The area and the level of a new pair, and what it is charged.
+#[derive(Clone, Copy, Debug)]
+pub struct NewPair {
+    /// The place of the area in the world's list.
+    pub area: u8,
+
+    /// 0 to the greatest level.
+    pub level: u8,
+
+    /// 2 or 3 words.
+    pub charge: u32,
+}
+
 // Writes both words of a pair, or none: by one use of their page or, if they are on two, with both pages held first.
 #[inline(always)]
 fn write_pair<M: Memory, L: Ledger>(
@@ -104,27 +117,30 @@ pub fn make_pair<M: Memory, L: Ledger>(
     ensures fault { FailsWhole (view ground.old) (view ground.new) result steps.old steps.new }
     ensures cost { steps.new ≤ steps.old + 4 }
 {
-    make_pair_of(ground, area, level, PAIR, car, cdr, steps)
+    let pair = NewPair {
+        area,
+        level,
+        charge: PAIR,
+    };
+    make_pair_of(ground, pair, car, cdr, steps)
 }
 
 /// The same for a pair whose charge is 2 or 3 words.
 #[inline(always)]
 pub fn make_pair_of<M: Memory, L: Ledger>(
     ground: &mut Ground<M>,
-    area: u8,
-    level: u8,
-    charge: u32,
+    pair: NewPair,
     car: Word,
     cdr: Word,
     steps: &mut Steps<L>,
 ) -> Result<u32, SwapFault>
-    requires { CanPair (view ground.old) area level charge car cdr }
+    requires { CanPair (view ground.old) pair.area pair.level pair.charge car cdr }
 
     // What is made, and at which address.
-    ensures made { IfOk result (PairedOn (view ground.old) (view ground.new) area level charge car cdr) }
-    ensures words { IfOk result (HasPairAt (view ground.new) charge car cdr) }
-    ensures placed { IfOk result (PlacesWords (view ground.old) (view ground.new) (record { area = area; level = level; words = 2; charge = charge })) }
-    ensures needed { OpensIfNeeded ground.old.table ground.new.table area level 2 }
+    ensures made { IfOk result (PairedOn (view ground.old) (view ground.new) pair.area pair.level pair.charge car cdr) }
+    ensures words { IfOk result (HasPairAt (view ground.new) pair.charge car cdr) }
+    ensures placed { IfOk result (PlacesWords (view ground.old) (view ground.new) (record { area = pair.area; level = pair.level; words = 2; charge = pair.charge })) }
+    ensures needed { OpensIfNeeded ground.old.table ground.new.table pair.area pair.level 2 }
 
     // What is unchanged in the ground, swap errors and the cost.
     ensures stays_ground { AddsPair (view ground.old) (view ground.new) car cdr }
@@ -132,9 +148,9 @@ pub fn make_pair_of<M: Memory, L: Ledger>(
     ensures cost { steps.new ≤ steps.old + 4 }
 {
     let first = car.with_cdr(CdrCode::Normal);
-    let second = cdr.with_cdr(code_of(charge));
-    let placed = ground.place(area, level, PAIR);
+    let second = cdr.with_cdr(code_of(pair.charge));
+    let placed = ground.place(pair.area, pair.level, PAIR);
     write_pair(&mut ground.mem, placed.at, first, second, steps)?;
-    ground.commit(&placed, PAIR, charge, Origin::New);
+    ground.commit(&placed, PAIR, pair.charge, Origin::New);
     Ok(placed.at)
 }

@@ -10,7 +10,7 @@ mod laws;
 mod scanning;
 mod silent;
 
-pub use admitting::admit;
+pub use admitting::{Allocation, admit};
 pub use collecting::{flip, reclaim};
 pub use laws::{allocations_are_steps, looks_are_steps};
 pub use scanning::scavenge;

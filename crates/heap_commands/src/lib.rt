@@ -8,7 +8,9 @@
 
 mod blocks;
 mod conses;
+mod object;
 
 pub use blocks::{Growing, find_growing, get, grow, make, put, size};
 pub use cdr_lists::{CELL, PAIR};
 pub use conses::{car, cdr, cons, copy_register, eq, list, rplaca, rplacd};
+pub use object::NewObject;

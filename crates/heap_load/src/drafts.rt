@@ -11,7 +11,7 @@ use crate::groups::{Group, group_from};
 use crate::places::{Place, put_cells, word_so_far};
 use area_space::Ground;
 use block_store::make_block;
-use cdr_lists::{make_list, make_pair_of};
+use cdr_lists::{NewPair, make_list, make_pair_of};
 use lisp_graph::{BodyRef, Items, World};
 use mem_port::Memory;
 use std::sync::ledger::Ledger;
@@ -118,7 +118,12 @@ fn make_alone<M: Memory, L: Ledger>(
         BodyRef::Cons { car, cdr } => {
             let car = word_so_far(car, number, places);
             let cdr = word_so_far(cdr, number, places);
-            let at = make_pair_of(ground, object.area, 0, object.charge, car, cdr, steps)?;
+            let pair = NewPair {
+                area: object.area,
+                level: 0,
+                charge: object.charge,
+            };
+            let at = make_pair_of(ground, pair, car, cdr, steps)?;
             places[number] = Place::pair(at);
             Ok(())
         }

@@ -8,6 +8,7 @@ ghost use Rattle.test_collect.specs.Machines.{HasRoomAt};
 
 use crate::acting::reply_of;
 use area_space::{Ground, RegionTable};
+use heap_commands::NewObject;
 use lisp_graph::{Items, Reply};
 use mem_port::Memory;
 use std::sync::ledger::Ledger;
@@ -64,19 +65,18 @@ pub(crate) fn make<M: Memory, L: Ledger>(
     if to >= 8 {
         return None;
     }
+    let object = NewObject { to, area, level };
     match what {
         New::Pair { car, cdr } if car < 8 && cdr < 8 && has_room(&ground.table, area, level, 2) =>
-            Some(reply_of(heap_commands::cons(
-                ground, registers, to, area, level, car, cdr, steps,
-            ))),
+            Some(reply_of(heap_commands::cons(ground, registers, object, car, cdr, steps))),
         New::List { item, count }
             if count <= 1024 && has_room(&ground.table, area, level, 3 * count as u32) => {
             let items = items_from(item, count);
-            Some(reply_of(heap_commands::list(ground, registers, to, area, level, &items, steps)))
+            Some(reply_of(heap_commands::list(ground, registers, object, &items, steps)))
         }
         New::Block { code, fields }
             if fields <= 2047 && has_room(&ground.table, area, level, fields as u32 + 1) => Some(
-            reply_of(heap_commands::make(ground, registers, to, area, level, code, fields, steps)),
+            reply_of(heap_commands::make(ground, registers, object, code, fields, steps)),
         ),
         _ => None,
     }

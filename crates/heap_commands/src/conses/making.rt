@@ -11,8 +11,9 @@ ghost use Rattle.std.specs.List.{All};
 ghost use Rattle.area_space.specs.Accounts.{account_of};
 ghost use Rattle.area_space.specs.Table.{areas_of, levels_of, quota_of};
 
+use crate::object::NewObject;
 use area_space::Ground;
-use cdr_lists::{PAIR, make_list, make_pair_of};
+use cdr_lists::{NewPair, PAIR, make_list, make_pair_of};
 use heap_state::settle_items;
 use lisp_graph::{Command, Items, Reply};
 use mem_port::Memory;
@@ -25,24 +26,22 @@ use store_word::{Steps, SwapFault, Word};
 pub fn cons<M: Memory, L: Ledger>(
     ground: &mut Ground<M>,
     registers: &mut [Word],
-    to: u8,
-    area: u8,
-    level: u8,
+    object: NewObject,
     car: u8,
     cdr: u8,
     steps: &mut Steps<L>,
 ) -> Result<Reply, SwapFault>
     requires consistent { RepresentsState (view ground.old) registers.old }
-    requires to { to < length registers.old }
+    requires to { object.to < length registers.old }
     requires car { car < length registers.old }
     requires cdr { cdr < length registers.old }
-    requires area { area < areas_of ground.old.table }
-    requires level { level < levels_of ground.old.table }
-    requires fits { account_of ground.old.table area + 2 ≤ quota_of ground.old.table area }
+    requires area { object.area < areas_of ground.old.table }
+    requires level { object.level < levels_of ground.old.table }
+    requires fits { account_of ground.old.table object.area + 2 ≤ quota_of ground.old.table object.area }
 
     // what is performed
-    ensures performs { PerformsAt (view ground.old) registers.old (view ground.new) registers.new (Command.Cons to area car cdr) (reply_of result) area level }
-    ensures unmarked { OnOk result (MarksMade (view ground.old) (view ground.new) (get_or registers.new to null_word) 2) }
+    ensures performs { PerformsAt (view ground.old) registers.old (view ground.new) registers.new (Command.Cons object.to object.area car cdr) (reply_of result) object.area object.level }
+    ensures unmarked { OnOk result (MarksMade (view ground.old) (view ground.new) (get_or registers.new object.to null_word) 2) }
 
     // costs and swap errors
     ensures costs { CommandCosts (view ground.old) (view ground.new) steps.old steps.new result 4098 96 }
@@ -50,8 +49,13 @@ pub fn cons<M: Memory, L: Ledger>(
     settle_items(ground, registers, &[car, cdr], steps)?;
     let first = registers[car as usize];
     let second = registers[cdr as usize];
-    let at = make_pair_of(ground, area, level, PAIR, first, second, steps)?;
-    registers[to as usize] = Word::list_at(at);
+    let pair = NewPair {
+        area: object.area,
+        level: object.level,
+        charge: PAIR,
+    };
+    let at = make_pair_of(ground, pair, first, second, steps)?;
+    registers[object.to as usize] = Word::list_at(at);
     Ok(Reply::Fine)
 }
 
@@ -62,30 +66,28 @@ pub fn cons<M: Memory, L: Ledger>(
 pub fn list<M: Memory, L: Ledger>(
     ground: &mut Ground<M>,
     registers: &mut [Word],
-    to: u8,
-    area: u8,
-    level: u8,
+    object: NewObject,
     items: &Items,
     steps: &mut Steps<L>,
 ) -> Result<Reply, SwapFault>
     requires consistent { RepresentsState (view ground.old) registers.old }
-    requires to { to < length registers.old }
+    requires to { object.to < length registers.old }
     requires at_least { 1 ≤ length items.now }
     requires in_range { All (λ item. item < length registers.old) items.now }
-    requires area { area < areas_of ground.old.table }
-    requires level { level < levels_of ground.old.table }
-    requires fits { account_of ground.old.table area + 3 * length items.now ≤ quota_of ground.old.table area }
+    requires area { object.area < areas_of ground.old.table }
+    requires level { object.level < levels_of ground.old.table }
+    requires fits { account_of ground.old.table object.area + 3 * length items.now ≤ quota_of ground.old.table object.area }
 
     // what is performed, and that the list is one of cells
-    ensures performs { PerformsAt (view ground.old) registers.old (view ground.new) registers.new (Command.List to area items.now) (reply_of result) area level }
-    ensures cells { OnOk result (RefersToCells (view ground.new).mem.store.words (get_or registers.new to null_word) (length items.now)) }
-    ensures unmarked { OnOk result (MarksMade (view ground.old) (view ground.new) (get_or registers.new to null_word) (length items.now)) }
+    ensures performs { PerformsAt (view ground.old) registers.old (view ground.new) registers.new (Command.List object.to object.area items.now) (reply_of result) object.area object.level }
+    ensures cells { OnOk result (RefersToCells (view ground.new).mem.store.words (get_or registers.new object.to null_word) (length items.now)) }
+    ensures unmarked { OnOk result (MarksMade (view ground.old) (view ground.new) (get_or registers.new object.to null_word) (length items.now)) }
 
     // costs and swap errors
     ensures costs { CommandCosts (view ground.old) (view ground.new) steps.old steps.new result (2049 * length items.now) (47 * length items.now + 5) }
 {
     settle_items(ground, registers, items.as_slice(), steps)?;
-    let at = make_list(ground, area, level, registers, items, steps)?;
-    registers[to as usize] = Word::list_at(at);
+    let at = make_list(ground, object.area, object.level, registers, items, steps)?;
+    registers[object.to as usize] = Word::list_at(at);
     Ok(Reply::Fine)
 }

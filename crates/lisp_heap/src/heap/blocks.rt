@@ -9,6 +9,8 @@ ghost use Rattle.lisp_heap.specs.Stands.{Runs};
 
 use crate::heap::allocating::admit_allocation;
 use crate::heap::{Heap, finish_reply, finish_step};
+use heap_collect::Allocation;
+use heap_commands::NewObject;
 use lisp_graph::{Command, Reply};
 use mem_port::Memory;
 use std::sync::ledger::Ledger;
@@ -33,23 +35,21 @@ impl<M: Memory> Heap<M> {
         ensures order { result ≡ Reply.Fine → ScansFirst self.old self.new (count + 1) (count + 1) 0 }
         ensures unmarked { result ≡ Reply.Fine → MarksMade (Command.Make to area code count) self.old self.new (get_or self.new.registers to null_word) (count + 1) }
     {
+        let charge = count as u32 + 1;
         let registers = self.registers.as_mut_slice();
         match admit_allocation(
             &mut self.ground,
             &mut self.scan,
             registers,
             &self.space,
-            area,
-            count as u32 + 1,
+            Allocation { area, charge },
             steps,
         ) {
             Ok(level) => {
                 let answer = heap_commands::make(
                     &mut self.ground,
                     registers,
-                    to,
-                    area,
-                    level,
+                    NewObject { to, area, level },
                     code,
                     count,
                     steps,

@@ -11,7 +11,8 @@ ghost use Rattle.lisp_heap.specs.Stands.{Runs};
 
 use crate::heap::allocating::admit_allocation;
 use crate::heap::{Heap, finish_reply, finish_step};
-use heap_commands::{CELL, PAIR};
+use heap_collect::Allocation;
+use heap_commands::{CELL, NewObject, PAIR};
 use lisp_graph::{Command, Items, Reply};
 use mem_port::Memory;
 use std::sync::ledger::Ledger;
@@ -49,17 +50,14 @@ impl<M: Memory> Heap<M> {
             &mut self.scan,
             registers,
             &self.space,
-            area,
-            PAIR,
+            Allocation { area, charge: PAIR },
             steps,
         ) {
             Ok(level) => {
                 let answer = heap_commands::cons(
                     &mut self.ground,
                     registers,
-                    to,
-                    area,
-                    level,
+                    NewObject { to, area, level },
                     car,
                     cdr,
                     steps,
@@ -96,17 +94,14 @@ impl<M: Memory> Heap<M> {
             &mut self.scan,
             registers,
             &self.space,
-            area,
-            charge,
+            Allocation { area, charge },
             steps,
         ) {
             Ok(level) => {
                 let answer = heap_commands::list(
                     &mut self.ground,
                     registers,
-                    to,
-                    area,
-                    level,
+                    NewObject { to, area, level },
                     items,
                     steps,
                 );

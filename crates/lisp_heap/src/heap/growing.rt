@@ -23,7 +23,7 @@ ghost use Rattle.lisp_heap.specs.Stands.{Runs, Stands};
 
 use crate::heap::{Heap, reply_of};
 use area_space::Ground;
-use heap_collect::{admit, looks_are_steps, take_silent_steps};
+use heap_collect::{Allocation, admit, looks_are_steps, take_silent_steps};
 use heap_commands::{Growing, find_growing};
 use lisp_graph::{Command, Reply};
 use mem_port::{Memory, assert_invariant};
@@ -108,26 +108,28 @@ fn grow_register<M: Memory, L: Ledger>(
     look_laws(&ground.mem);
     match found {
         Growing::Answered(reply) => reply,
-        Growing::Wants { area, charge } => grow_charged(
-            ground, scan, registers, target, wanted, area, charge, rate, steps,
-        ),
+        Growing::Wants { area, charge } => {
+            let allocation = Allocation { area, charge };
+            grow_charged(
+                ground, scan, registers, target, wanted, allocation, rate, steps,
+            )
+        }
     }
 }
 
-// The same for the block in a settled register, which has fewer fields and this charge.
+// The same for the block in a settled register, which has fewer fields and needs this allocation.
 fn grow_charged<M: Memory, L: Ledger>(
     ground: &mut Ground<M>,
     scan: &mut ScanSet,
     registers: &mut [Word],
     target: u8,
     wanted: u16,
-    area: u8,
-    charge: u32,
+    allocation: Allocation,
     rate: u32,
     steps: &mut Steps<L>,
 ) -> Reply
     requires represented { RepresentsMachineState (view ground.old) scan.old registers.old }
-    requires can { WantsGrowth (view ground.old) registers.old target wanted area charge }
+    requires can { WantsGrowth (view ground.old) registers.old target wanted allocation.area allocation.charge }
     requires target { target < length registers.old }
     requires at_most { wanted ≤ 2047 }
     ensures step { (k : RoleMap) (s : State) → RepresentsAll (view ground.old) scan.old registers.old k s → s.space.rate ≡ rate
@@ -136,15 +138,15 @@ fn grow_charged<M: Memory, L: Ledger>(
     ensures registers { length registers.new ≡ length registers.old }
     ensures table { OnlyGrows ground.old.table ground.new.table }
     ensures marks { MarksFollow (view ground.old) (view ground.new) }
-    ensures costs { result ≡ Reply.Fine → Spends scan.old scan.new ground.old.table ground.new.table rate charge 40 0 steps.old steps.new }
-    ensures order { result ≡ Reply.Fine → ScansAndWidens (view ground.old) (view ground.new) scan.old scan.new registers.old registers.new charge (rate * charge) }
-    ensures unmarked { result ≡ Reply.Fine → MarksOnGround (view ground.old) (view ground.new) (get_or registers.new target null_word) charge }
+    ensures costs { result ≡ Reply.Fine → Spends scan.old scan.new ground.old.table ground.new.table rate allocation.charge 40 0 steps.old steps.new }
+    ensures order { result ≡ Reply.Fine → ScansAndWidens (view ground.old) (view ground.new) scan.old scan.new registers.old registers.new allocation.charge (rate * allocation.charge) }
+    ensures unmarked { result ≡ Reply.Fine → MarksOnGround (view ground.old) (view ground.new) (get_or registers.new target null_word) allocation.charge }
     ensures refused { IsRefused result → (scan.new ≡ scan.old) × (ground.new.table ≡ ground.old.table) × (steps.new ≡ steps.old) }
     ensures goes_on { ScanGoesOn scan.old scan.new ground.old.table ground.new.table result }
     ensures accounted { AccountsForFaultsIf (view ground.old).mem (view ground.new).mem steps.old steps.new (is_fault result) }
 {
     looks_are_steps();
-    match admit(ground, scan, registers, area, charge, rate, steps) {
+    match admit(ground, scan, registers, allocation, rate, steps) {
         Ok(()) => reply_of(heap_commands::grow(ground, registers, target, wanted, steps)),
         Err(reply) => reply,
     }

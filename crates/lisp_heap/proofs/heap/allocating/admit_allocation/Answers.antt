@@ -20,7 +20,7 @@ silent g c =
     prepared c.args.ground.now c.take_silent_steps.new.ground x.step x.memory x.end x.resident
 
 -- the room for the new object
-there : (g : Over) (c : In-Ok g) → Admits (view c.args.ground.now) (view c.admit.new.ground) c.args.scan.now c.admit.new.scan c.args.registers.now c.admit.new.registers c.args.space.now (g.M.Memory.resident c.args.ground.now.mem) c.args.area c.args.charge c.args.steps.now c.admit.new.steps c.new_level-level.result
+there : (g : Over) (c : In-Ok g) → Admits (view c.args.ground.now) (view c.admit.new.ground) c.args.scan.now c.admit.new.scan c.args.registers.now c.admit.new.registers c.args.space.now (g.M.Memory.resident c.args.ground.now.mem) c.args.allocation.area c.args.allocation.charge c.args.steps.now c.admit.new.steps c.new_level-level.result
 there g c =
     let x = c.in-Ok.ensures in
     record {
@@ -28,7 +28,7 @@ there g c =
       units = x.ok;
       on = x.goes_on;
       left = x.left;
-      level_is = λ s are. c.new_level-level.ensures ∙ ap new_level (kind_is c.kinds.result.now s.areas c.args.area (c.kinds.ensures.value ∙ are));
+      level_is = λ s are. c.new_level-level.ensures ∙ ap new_level (kind_is c.kinds.result.now s.areas c.args.allocation.area (c.kinds.ensures.value ∙ are));
       idle = λ none. (let y = x.idle none in (ap view y.0, y.1, y.2));
       tells = x.accounted;
     }
@@ -59,7 +59,7 @@ pub returns-in-Err-clause-err : goal.returns-in-Err-clause-err
 returns-in-Err-clause-err g c command all allowed may wants =
     let x = c.in-Err.ensures in
     let p = silent g (goal.at.returns-in-Err-clause-err g c).After-take_silent_steps in
-    let ran = refused_runs (prepared_parts c.args.ground.now p c.requires.sound c.requires.area) (g.M.Memory.seen c.admit.new.ground.mem) c.admit.new.ground.table c.admit.new.scan c.admit.new.registers c.args.steps.now c.admit.new.steps command c.in-Err.reply c.args.charge (g.M.Memory.faults c.admit.new.ground.mem) (g.M.Memory.resident c.admit.new.ground.mem) (counted g.M.Memory c.admit.new.ground.mem)
+    let ran = refused_runs (prepared_parts c.args.ground.now p c.requires.sound c.requires.area) (g.M.Memory.seen c.admit.new.ground.mem) c.admit.new.ground.table c.admit.new.scan c.admit.new.registers c.args.steps.now c.admit.new.steps command c.in-Err.reply c.args.allocation.charge (g.M.Memory.faults c.admit.new.ground.mem) (g.M.Memory.resident c.admit.new.ground.mem) (counted g.M.Memory c.admit.new.ground.mem)
     all allowed may wants x.refused prepared_goes c.assert_invariant.ensures.1.marked x.goes_on.registers x.goes_on.table.form.regions
     (told_behind (contents_at c.args.ground.now c.args.scan.now c.args.registers.now c.args.space.now) (contents_at c.admit.new.ground c.admit.new.scan c.admit.new.registers c.args.space.now) p.ground.mem c.args.steps.now c.admit.new.steps command c.in-Err.reply all p.silent.faults p.silent.taken p.resident x.accounted)
     x.goes_on.some x.goes_on.table.placed x.goes_on.table x.goes_on.marks (refused_undone c.in-Err.reply _ _ _ _ (λ e. (x.err e).0)) in

@@ -27,12 +27,12 @@ grow-requires-clause-settled g c =
 pub grow-requires-clause-can : goal.grow-requires-clause-can
 grow-requires-clause-can g c =
     can_grow_there (g.M.Memory.seen c.args.ground.now.mem) (g.M.Memory.seen c.admit.new.ground.mem) c.args.ground.now.table c.admit.new.ground.table c.args.scan.now c.admit.new.scan c.args.registers.now c.admit.new.registers
-    c.args.target c.args.wanted c.args.area c.args.charge c.args.rate c.requires.can c.in-Ok.ensures.ok.ahead c.requires.represented c.in-Ok.ensures.left
+    c.args.target c.args.wanted c.args.allocation.area c.args.allocation.charge c.args.rate c.requires.can c.in-Ok.ensures.ok.ahead c.requires.represented c.in-Ok.ensures.left
 
 pub returns-in-Ok-clause-step : goal.returns-in-Ok-clause-step
 returns-in-Ok-clause-step g c k s x same =
     rw (c.reply_of.ensures) (grown_steps (g.M.Memory.seen c.args.ground.now.mem) (g.M.Memory.seen c.admit.new.ground.mem) c.args.ground.now.table c.admit.new.ground.table c.args.scan.now c.admit.new.scan c.args.registers.now c.admit.new.registers
-    c.args.target c.args.wanted c.args.area c.args.charge c.args.rate c.requires.can c.in-Ok.ensures.ok.ahead
+    c.args.target c.args.wanted c.args.allocation.area c.args.allocation.charge c.args.rate c.requires.can c.in-Ok.ensures.ok.ahead
     (g.M.Memory.seen c.grow.new.ground.mem) c.grow.new.ground.table c.admit.new.registers (reply_of c.grow.result) c.looks_are_steps.ensures.admitted c.in-Ok.ensures.left c.grow.ensures.performs k s x same)
 
 pub returns-in-Ok-clause-settled : goal.returns-in-Ok-clause-settled
@@ -44,9 +44,9 @@ returns-in-Ok-clause-costs g c fine =
     let y = c.in-Ok.ensures in
     let ahead = y.ok.ahead x.map x.state x.represents in
     let growing = c.requires.can.grows x.map x.state x.represents.represents in
-    spends_charged c.args.scan.now c.admit.new.scan c.args.ground.now.table c.admit.new.ground.table c.grow.new.ground.table c.args.rate c.args.charge c.args.wanted c.args.steps.now c.admit.new.steps c.grow.new.steps
-    (fields_charged x.state c.args.target c.args.wanted c.args.area c.args.charge growing) y.ok.count y.goes_on.table.placed y.ok.at_most y.ok.cost
-    (cost_of c.grow.result c.grow.ensures.placed (made_sure c.grow.result (sym c.reply_of.ensures ∙ fine)) ahead.represented.map x.state c.args.area c.args.charge ahead.represented.represents growing) c.grow.ensures.cost
+    spends_charged c.args.scan.now c.admit.new.scan c.args.ground.now.table c.admit.new.ground.table c.grow.new.ground.table c.args.rate c.args.allocation.charge c.args.wanted c.args.steps.now c.admit.new.steps c.grow.new.steps
+    (fields_charged x.state c.args.target c.args.wanted c.args.allocation.area c.args.allocation.charge growing) y.ok.count y.goes_on.table.placed y.ok.at_most y.ok.cost
+    (cost_of c.grow.result c.grow.ensures.placed (made_sure c.grow.result (sym c.reply_of.ensures ∙ fine)) ahead.represented.map x.state c.args.allocation.area c.args.allocation.charge ahead.represented.represents growing) c.grow.ensures.cost
 
 pub returns-in-Ok-clause-refused : goal.returns-in-Ok-clause-refused
 returns-in-Ok-clause-refused g c refused = absurd (unrefused (reply_of c.grow.result) (made_fine c.grow.result c.grow.ensures.succeeds) (subst IsRefused c.reply_of.ensures refused))
@@ -55,7 +55,7 @@ pub returns-in-Err-clause-step : goal.returns-in-Err-clause-step
 returns-in-Err-clause-step g c k s x same =
     c.in-Err.ensures.refused (C.Grow c.args.target c.args.wanted) k s refl
     (grow_wants (g.M.Memory.seen c.args.ground.now.mem) (g.M.Memory.seen c.admit.new.ground.mem) c.args.ground.now.table c.admit.new.ground.table c.args.scan.now c.admit.new.scan c.args.registers.now c.admit.new.registers
-    c.args.target c.args.wanted c.args.area c.args.charge c.args.rate c.requires.can k s x.represents) x
+    c.args.target c.args.wanted c.args.allocation.area c.args.allocation.charge c.args.rate c.requires.can k s x.represents) x
 
 pub returns-in-Err-clause-settled : goal.returns-in-Err-clause-settled
 returns-in-Err-clause-settled g c done = absurd (refused_undone c.in-Err.reply _ _ _ _ (λ e. (c.in-Err.ensures.err e).0) done)
@@ -99,7 +99,7 @@ returns-in-Ok-clause-order g c fine =
       ground = view c.admit.new.ground;
       scans = y.ok.order;
       idle = λ none. (let z = y.idle none in (ap view z.0, z.1, z.2));
-      placed = cost_of c.grow.result c.grow.ensures.placed (made_sure c.grow.result (sym c.reply_of.ensures ∙ fine)) ahead.represented.map x.state c.args.area c.args.charge ahead.represented.represents (c.requires.can.grows x.map x.state x.represents.represents);
+      placed = cost_of c.grow.result c.grow.ensures.placed (made_sure c.grow.result (sym c.reply_of.ensures ∙ fine)) ahead.represented.map x.state c.args.allocation.area c.args.allocation.charge ahead.represented.represents (c.requires.can.grows x.map x.state x.represents.represents);
     }
 
 pub returns-in-Err-clause-order : goal.returns-in-Err-clause-order
@@ -111,8 +111,8 @@ returns-in-Ok-clause-unmarked g c fine =
     let y = c.in-Ok.ensures in
     let ahead = y.ok.ahead x.map x.state x.represents in
     made_after (g.M.Memory.seen c.args.ground.now.mem) (g.M.Memory.seen c.admit.new.ground.mem) (g.M.Memory.seen c.grow.new.ground.mem) c.args.ground.now.table c.admit.new.ground.table c.grow.new.ground.table
-    x.represents.represents.kept.ground ahead.represented.represents.kept.ground y.goes_on.marks (turns_of (C.Grow c.args.target c.args.wanted) (reply_of c.grow.result) c.grow.ensures.performs.marks) (get_or c.admit.new.registers c.args.target null_word) c.args.charge
-    (cost_of c.grow.result c.grow.ensures.unmarked (made_sure c.grow.result (sym c.reply_of.ensures ∙ fine)) ahead.represented.map x.state c.args.area c.args.charge ahead.represented.represents (c.requires.can.grows x.map x.state x.represents.represents))
+    x.represents.represents.kept.ground ahead.represented.represents.kept.ground y.goes_on.marks (turns_of (C.Grow c.args.target c.args.wanted) (reply_of c.grow.result) c.grow.ensures.performs.marks) (get_or c.admit.new.registers c.args.target null_word) c.args.allocation.charge
+    (cost_of c.grow.result c.grow.ensures.unmarked (made_sure c.grow.result (sym c.reply_of.ensures ∙ fine)) ahead.represented.map x.state c.args.allocation.area c.args.allocation.charge ahead.represented.represents (c.requires.can.grows x.map x.state x.represents.represents))
 
 pub returns-in-Err-clause-unmarked : goal.returns-in-Err-clause-unmarked
 returns-in-Err-clause-unmarked g c fine = absurd (refused_unmade c.in-Err.reply _ _ _ _ (λ e. (c.in-Err.ensures.err e).0) fine)
