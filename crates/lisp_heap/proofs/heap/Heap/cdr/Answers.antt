@@ -11,11 +11,9 @@ cdr-answer-requires-clause-consistent g c = lent_consistent c.self.inside.ground
 pub invariant_of-self : goal.invariant_of-self
 invariant_of-self g c = (lent_runs c.self.inside.ground c.cdr-answer.new.ground c.self.inside.registers (C.Cdr c.args.to c.args.from) c.deref_mut.ensures.value c.deref_mut.ensures.len c.finish_step.ensures.step c.finish_step.ensures.marks c.self.invariant tt refl c.cdr-answer.ensures.performs c.cdr-answer.ensures.costs.tells).0
 
-pub returns-clause-runs : goal.returns-clause-runs
-returns-clause-runs g c = rw (c.finish_step.ensures.value, ← c.self.view_is) (lent_runs c.self.inside.ground c.cdr-answer.new.ground c.self.inside.registers (C.Cdr c.args.to c.args.from) c.deref_mut.ensures.value c.deref_mut.ensures.len c.finish_step.ensures.step c.finish_step.ensures.marks c.self.invariant tt refl c.cdr-answer.ensures.performs c.cdr-answer.ensures.costs.tells).1
-
-pub returns-clause-costs : goal.returns-clause-costs
-returns-clause-costs g c = rw (← c.self.view_is) (takes_by c.cdr-answer.result _ c.finish_step.ensures.value c.cdr-answer.ensures.costs.few c.cdr-answer.ensures.costs.cost)
-
-pub returns-clause-moves : goal.returns-clause-moves
-returns-clause-moves g c = rw (← c.self.view_is) (most_listed c.cdr-answer.ensures.moves)
+pub returns : goal.returns
+returns g c = rw (c.finish_step.ensures.value, ← c.self.view_is) (record {
+  runs = (lent_runs c.self.inside.ground c.cdr-answer.new.ground c.self.inside.registers (C.Cdr c.args.to c.args.from) c.deref_mut.ensures.value c.deref_mut.ensures.len c.finish_step.ensures.step c.finish_step.ensures.marks c.self.invariant tt refl c.cdr-answer.ensures.performs c.cdr-answer.ensures.costs.tells).1;
+  costs = takes_by c.cdr-answer.result _ refl c.cdr-answer.ensures.costs.few c.cdr-answer.ensures.costs.cost;
+  moves = most_listed c.cdr-answer.ensures.moves;
+})

@@ -35,14 +35,8 @@ made g c =
 pub invariant_of-self : goal.invariant_of-self
 invariant_of-self g c = (made g (goal.at.invariant_of-self g c).After-finish_reply).sound
 
-pub returns-in-Ok-clause-runs : goal.returns-in-Ok-clause-runs
-returns-in-Ok-clause-runs g c = rw (c.finish_reply.ensures.value, ← c.self.view_is) (made g (goal.at.returns-in-Ok-clause-runs g c).After-finish_reply).runs
-
-pub returns-in-Ok-clause-costs : goal.returns-in-Ok-clause-costs
-returns-in-Ok-clause-costs g c = rw (c.finish_reply.ensures.value, ← c.self.view_is) (made g (goal.at.returns-in-Ok-clause-costs g c).After-finish_reply).makes
-
-pub returns-in-Ok-clause-order : goal.returns-in-Ok-clause-order
-returns-in-Ok-clause-order g c = rw (c.finish_reply.ensures.value, ← c.self.view_is) (made g (goal.at.returns-in-Ok-clause-order g c).After-finish_reply).order
+pub returns-in-Ok : goal.returns-in-Ok
+returns-in-Ok g c = let x = made g (goal.at.returns-in-Ok g c).After-finish_reply in rw (c.finish_reply.ensures.value, ← c.self.view_is) (record { runs = x.runs; costs = x.makes; order = x.order; unmarked = x.unmarked })
 
 -- it was refused
 refused : (g : Over) (c : In-Err g) → Allocated (contents_at c.self.inside.ground c.self.inside.scan c.self.inside.registers.items c.self.inside.space)
@@ -55,17 +49,5 @@ refused g c =
 pub invariant_of-self-in-Err : goal.invariant_of-self-in-Err
 invariant_of-self-in-Err g c = (refused g (goal.at.invariant_of-self-in-Err g c).In-Err).sound
 
-pub returns-in-Err-clause-runs : goal.returns-in-Err-clause-runs
-returns-in-Err-clause-runs g c = rw (← c.self.view_is) (refused g (goal.at.returns-in-Err-clause-runs g c).In-Err).runs
-
-pub returns-in-Err-clause-costs : goal.returns-in-Err-clause-costs
-returns-in-Err-clause-costs g c = rw (← c.self.view_is) (refused g (goal.at.returns-in-Err-clause-costs g c).In-Err).makes
-
-pub returns-in-Err-clause-order : goal.returns-in-Err-clause-order
-returns-in-Err-clause-order g c = rw (← c.self.view_is) (refused g (goal.at.returns-in-Err-clause-order g c).In-Err).order
-
-pub returns-in-Ok-clause-unmarked : goal.returns-in-Ok-clause-unmarked
-returns-in-Ok-clause-unmarked g c = rw (c.finish_reply.ensures.value, ← c.self.view_is) (made g (goal.at.returns-in-Ok-clause-unmarked g c).After-finish_reply).unmarked
-
-pub returns-in-Err-clause-unmarked : goal.returns-in-Err-clause-unmarked
-returns-in-Err-clause-unmarked g c = rw (← c.self.view_is) (refused g (goal.at.returns-in-Err-clause-unmarked g c).In-Err).unmarked
+pub returns-in-Err : goal.returns-in-Err
+returns-in-Err g c = let x = refused g (goal.at.returns-in-Err g c).In-Err in rw (← c.self.view_is) (record { runs = x.runs; costs = x.makes; order = x.order; unmarked = x.unmarked })

@@ -11,11 +11,9 @@ rplaca-answer-requires-clause-consistent g c = lent_consistent c.self.inside.gro
 pub invariant_of-self : goal.invariant_of-self
 invariant_of-self g c = (lent_runs c.self.inside.ground c.rplaca-answer.new.ground c.self.inside.registers (C.Rplaca c.args.target c.args.from) c.deref_mut.ensures.value c.deref_mut.ensures.len c.finish_step.ensures.step c.finish_step.ensures.marks c.self.invariant tt refl c.rplaca-answer.ensures.performs c.rplaca-answer.ensures.costs.tells).0
 
-pub returns-clause-runs : goal.returns-clause-runs
-returns-clause-runs g c = rw (c.finish_step.ensures.value, ← c.self.view_is) (lent_runs c.self.inside.ground c.rplaca-answer.new.ground c.self.inside.registers (C.Rplaca c.args.target c.args.from) c.deref_mut.ensures.value c.deref_mut.ensures.len c.finish_step.ensures.step c.finish_step.ensures.marks c.self.invariant tt refl c.rplaca-answer.ensures.performs c.rplaca-answer.ensures.costs.tells).1
-
-pub returns-clause-costs : goal.returns-clause-costs
-returns-clause-costs g c = rw (← c.self.view_is) (takes_by c.rplaca-answer.result _ c.finish_step.ensures.value c.rplaca-answer.ensures.costs.few c.rplaca-answer.ensures.costs.cost)
-
-pub returns-clause-moves : goal.returns-clause-moves
-returns-clause-moves g c = rw (← c.self.view_is) (most_listed c.rplaca-answer.ensures.moves)
+pub returns : goal.returns
+returns g c = rw (c.finish_step.ensures.value, ← c.self.view_is) (record {
+  runs = (lent_runs c.self.inside.ground c.rplaca-answer.new.ground c.self.inside.registers (C.Rplaca c.args.target c.args.from) c.deref_mut.ensures.value c.deref_mut.ensures.len c.finish_step.ensures.step c.finish_step.ensures.marks c.self.invariant tt refl c.rplaca-answer.ensures.performs c.rplaca-answer.ensures.costs.tells).1;
+  costs = takes_by c.rplaca-answer.result _ refl c.rplaca-answer.ensures.costs.few c.rplaca-answer.ensures.costs.cost;
+  moves = most_listed c.rplaca-answer.ensures.moves;
+})

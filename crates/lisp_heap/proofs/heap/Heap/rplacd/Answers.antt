@@ -12,12 +12,9 @@ rplacd-answer-requires-clause-consistent g c = lent_consistent c.self.inside.gro
 pub invariant_of-self : goal.invariant_of-self
 invariant_of-self g c = (lent_runs c.self.inside.ground c.rplacd-answer.new.ground c.self.inside.registers (C.Rplacd c.args.target c.args.from) c.deref_mut.ensures.value c.deref_mut.ensures.len c.finish_step.ensures.step c.finish_step.ensures.marks c.self.invariant tt refl c.rplacd-answer.ensures.performs c.rplacd-answer.ensures.costs.tells).0
 
-pub returns-clause-runs : goal.returns-clause-runs
-returns-clause-runs g c = rw (c.finish_step.ensures.value, ← c.self.view_is) (lent_runs c.self.inside.ground c.rplacd-answer.new.ground c.self.inside.registers (C.Rplacd c.args.target c.args.from) c.deref_mut.ensures.value c.deref_mut.ensures.len c.finish_step.ensures.step c.finish_step.ensures.marks c.self.invariant tt refl c.rplacd-answer.ensures.performs c.rplacd-answer.ensures.costs.tells).1
-
-pub returns-clause-costs : goal.returns-clause-costs
-returns-clause-costs g c = rw (← c.self.view_is) (takes_by c.rplacd-answer.result _ c.finish_step.ensures.value c.rplacd-answer.ensures.costs.few c.rplacd-answer.ensures.costs.cost)
-
-pub returns-clause-moves : goal.returns-clause-moves
-returns-clause-moves g c =
-    rw (with_items_is c.self.inside.registers c.rplacd-answer.new.registers (c.rplacd-answer.ensures.performs.others.count ∙ c.deref_mut.ensures.len), ← c.self.view_is) (laid_listed c.rplacd-answer.ensures.moves)
+pub returns : goal.returns
+returns g c = rw (c.finish_step.ensures.value, ← c.self.view_is) (record {
+  runs = (lent_runs c.self.inside.ground c.rplacd-answer.new.ground c.self.inside.registers (C.Rplacd c.args.target c.args.from) c.deref_mut.ensures.value c.deref_mut.ensures.len c.finish_step.ensures.step c.finish_step.ensures.marks c.self.invariant tt refl c.rplacd-answer.ensures.performs c.rplacd-answer.ensures.costs.tells).1;
+  costs = takes_by c.rplacd-answer.result _ refl c.rplacd-answer.ensures.costs.few c.rplacd-answer.ensures.costs.cost;
+  moves = rw (with_items_is c.self.inside.registers c.rplacd-answer.new.registers (c.rplacd-answer.ensures.performs.others.count ∙ c.deref_mut.ensures.len)) (laid_listed c.rplacd-answer.ensures.moves);
+})
