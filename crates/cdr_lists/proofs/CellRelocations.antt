@@ -1,6 +1,6 @@
 -- A cell is relocated as a pair.
-use Rattle.std.proofs.Common.{◌≡◌, ℕ, suc, ◌+◌, ◌-◌, ◌*◌, ◌/◌, ◌%◌, ◌<◌, ◌≤◌, ◌&&◌, true, false, Bool, nat_eq, refl, sym, ◌∙◌, ap, subst, arith, List, length, slice_get, Option, Some}
-use Rattle.std.specs.Prelude.{Contains}
+use Rattle.std.proofs.Common.{◌≡◌, ℕ, suc, ◌+◌, ◌-◌, ◌*◌, ◌/◌, ◌%◌, ◌<◌, ◌≤◌, ◌&&◌, true, false, Bool, nat_eq, refl, sym, ◌∙◌, ap, subst, arith, List, length, slice_get, Option, None, Some}
+use Rattle.std.specs.Prelude.{Contains, IfNone, IfSome, IsSome}
 use Rattle.std.proofs.lemmas.Grind.{common_steps}
 use Rattle.store_word.specs.Words.{Parts}
 use Rattle.store_word.specs.declared.word.Content.TheVariants.{HeaderForward}
@@ -62,7 +62,20 @@ both_true a b e f = ap (λ (x : Bool). x && b) e ∙ f
 same_number : (a b : ℕ) → a ≡ b → nat_eq a b ≡ true
 same_number a b e = grind (arith, common_steps)
 
--- the class that the table names is a live one
+-- a class that the table names for a region
+pub record IsClassOf (t : Table) (region : ℕ) (class : ClassOf) : Type 0 where
+  pub area : class.area < areas_of t
+  pub level : class.level < levels_of t
+  pub some : Contains (chain t (class_number t class)) region
+
+pub class_found : (t : Table) {region : ℕ} {class : ClassOf} (found : Option ClassOf) → found ≡ Some class → IfSome found (λ class. class.area < areas_of t) → IfSome found (λ class. class.level < levels_of t) → IfSome found (λ class. Contains (chain t (class_number t class)) region) → IsClassOf t region class
+class_found t {region} found is area level some = record {
+  area = subst (λ (o : Option ClassOf). IfSome o (λ class. class.area < areas_of t)) is area;
+  level = subst (λ (o : Option ClassOf). IfSome o (λ class. class.level < levels_of t)) is level;
+  some = subst (λ (o : Option ClassOf). IfSome o (λ class. Contains (chain t (class_number t class)) region)) is some;
+}
+
+-- it is a live one
 class_is_live : (t : Table) (class : ClassOf) (region : ℕ) → (IsOld t region → ⊥) → Contains (chain t (class_number t class)) region → Contains (chain t (live (slot_of t class.area class.level))) region
 class_is_live t class region none there = go class.stale refl
   where
@@ -83,12 +96,17 @@ module _ (m : Memory.Store) (t : Table) (cell : ℕ) (car cdr : Parts) (can : Ca
   role_is k top areas s aim n on named = cell_there (word_at m.words) (classes (ground_image m t)) k s on.kept.roled cell n named (stands k n named).here here
 
   -- the region of the cell isn't free
-  pub cell_classed : IsUnclassed t (cell / 4096) → ⊥
-  cell_classed free =
+  cell_used : IsUnclassed t (cell / 4096) → ⊥
+  cell_used free =
       let role = role_is can.map can.top can.areas can.objects can.aim can.name can.can.kept can.can.named in
       let used = (used_where (ground_image m t) can.map can.objects can.can.kept.kept.roled can.can.kept.kept.covered cell can.name (ap owner role.1)).1 in
       let is_it : is_free (class_at (classes (ground_image m t)) cell).standing ≡ true = ap (λ (r : Region). is_free r.standing) (region_is m t no_rest (cell / 4096) can.can.kept.table ∙ region_free t (cell / 4096) free) in
       cc
+
+  -- so it has a class
+  pub cell_classed : (class : Option ClassOf) → IfNone class (IsUnclassed t (cell / 4096)) → IsSome class
+  cell_classed (Some class) free = refl
+  cell_classed None free = absurd (cell_used free)
 
   module _ (class : ClassOf) (area_in : class.area < areas_of t) (level_in : class.level < levels_of t) (there : Contains (chain t (class_number t class)) (cell / 4096)) where
     in_live : Contains (chain t (live (slot_of t class.area class.level))) (cell / 4096)

@@ -155,10 +155,7 @@ fn lay_settled<M: Memory, L: Ledger>(
     ensures accounted { AccountsForFaults (view ground.old).mem (view ground.new).mem steps.old steps.new result }
     ensures cost { steps.new ≤ steps.old + 6 }
 {
-    let class = match ground.table.class_of(cell) {
-        Some(class) => class,
-        None => unreachable!(),
-    };
+    let class = ground.table.class_of(cell).unwrap();
     let first = car.with_cdr(CdrCode::Normal);
     let second = cdr.with_cdr(CdrCode::Next);
     let placed = place_for(ground, class.area, class.level, PAIR);

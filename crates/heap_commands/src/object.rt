@@ -1,4 +1,4 @@
-//! Where `cons`, `list` and `make` put the object that they make.
+//! What `cons`, `list` and `make` need to know of the object that they make.
 
 /// The register that gets a new object, and the object's area and level.
 #[derive(Clone, Copy, Debug)]

@@ -1,6 +1,8 @@
 use Rattle.std.proofs.Common.{◌≡◌, ◌∙◌, ℕ, true, arith, ap, refl, rules, sym, subst}
 use Rattle.store_word.specs.Words.{Parts}
+use Rattle.area_space.specs.View.{view}
 use Rattle.transporter.specs.Moving.{FetchMoves}
+use Rattle.transporter.specs.Reads.{KeepsGround}
 use Rattle.transporter.specs.Settling.{RefersToOld, reference_of}
 use Rattle.transporter.proofs.TransportSequences.{fetch_moves-read, same-stores}
 use Rattle.transporter.proofs.SettledWords.{reference-inside}
@@ -13,7 +15,19 @@ use Rattle.cdr_lists.proofs.ConsRefusals.{fault-refuses_none, refuses_none}
 use Rattle.cdr_lists.proofs.PartReads.{car_live, car_settleable, car_fetched, car_faulted, first_answered, first_read, first_settleable, first_settled, first_unmoved, settled_at}
 use Rattle.mem_port.proofs.CallReports.{answered, answered-if, answers, quiet-then_fault, quiet-twice}
 use Rattle.cdr_lists.specs.Faults.{is_fault}
+use Rattle.cdr_lists.proofs.settled.car.Given.{Over}
+use Rattle.cdr_lists.proofs.settled.car.Goals.{After-fetch}
 use Rattle.cdr_lists.proofs.settled.car.Goals as goal
+
+-- what a fetch leaves, with any result
+kept : (g : Over) (c : After-fetch g) → KeepsGround (view c.args.ground.now) (view c.fetch.new.ground)
+kept g c =
+    let found = c.in_ok-found.ensures in
+    let p = found.place in
+    let word = c.fetch.ensures in
+    let live = car_live _ _ _ p.reference (readable_at _ _ c.args.of p.reference p.is c.requires) found.unchanged c.in_ok-found.found.at p.final p.last in
+    fetched-keeps _ _ _ _ found.unchanged word.table word.moves word.preserves word.marks
+    (λ all. let read = read-stays_fresh _ found.unchanged all in word.stays_fresh (live_fresh (g.M.Memory.seen c.find_first.new.mem) _ c.in_ok-found.found.at read live) read)
 
 pub find_first-requires : goal.find_first-requires
 find_first-requires g c = can_find _ _ c.args.of c.requires
@@ -50,13 +64,7 @@ returns-in_err-word-in_default-clause-unchanged g c =
     keeps_cons _ _ c.args.of.content p.reference p.is _ _ (car_faulted _ _ _ _ _ p.reference c.in_ok-found.found.at found.unchanged p.final c.in_err-word-in_default.ensures.fault)
 
 pub returns-in_err-word-in_default-clause-stays_ground : goal.returns-in_err-word-in_default-clause-stays_ground
-returns-in_err-word-in_default-clause-stays_ground g c =
-    let found = c.in_ok-found.ensures in
-    let p = found.place in
-    let word = c.in_err-word-in_default.ensures in
-    let live = car_live _ _ _ p.reference (readable_at _ _ c.args.of p.reference p.is c.requires) found.unchanged c.in_ok-found.found.at p.final p.last in
-    fetched-keeps _ _ _ _ found.unchanged word.table word.moves word.preserves word.marks
-    (λ all. let read = read-stays_fresh _ found.unchanged all in word.stays_fresh (live_fresh (g.M.Memory.seen c.find_first.new.mem) _ c.in_ok-found.found.at read live) read)
+returns-in_err-word-in_default-clause-stays_ground g c = kept g (goal.at.returns-in_err-word-in_default-clause-stays_ground g c).After-fetch
 
 pub returns-in_ok-word-in_default-clause-value : goal.returns-in_ok-word-in_default-clause-value
 returns-in_ok-word-in_default-clause-value g c =
@@ -74,13 +82,7 @@ returns-in_ok-word-in_default-clause-value g c =
     }
 
 pub returns-in_ok-word-in_default-clause-stays_ground : goal.returns-in_ok-word-in_default-clause-stays_ground
-returns-in_ok-word-in_default-clause-stays_ground g c =
-    let found = c.in_ok-found.ensures in
-    let p = found.place in
-    let word = c.in_ok-word-in_default.ensures in
-    let live = car_live _ _ _ p.reference (readable_at _ _ c.args.of p.reference p.is c.requires) found.unchanged c.in_ok-found.found.at p.final p.last in
-    fetched-keeps _ _ _ _ found.unchanged word.table word.moves word.preserves word.marks
-    (λ all. let read = read-stays_fresh _ found.unchanged all in word.stays_fresh (live_fresh (g.M.Memory.seen c.find_first.new.mem) _ c.in_ok-found.found.at read live) read)
+returns-in_ok-word-in_default-clause-stays_ground g c = kept g (goal.at.returns-in_ok-word-in_default-clause-stays_ground g c).After-fetch
 
 pub returns-in_ok-word-in_default-clause-unchanged : goal.returns-in_ok-word-in_default-clause-unchanged
 returns-in_ok-word-in_default-clause-unchanged g c =
