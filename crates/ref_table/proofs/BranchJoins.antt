@@ -4,7 +4,7 @@ use Rattle.ref_table.specs.declared.branch.Branch.{Branch}
 use Rattle.std.proofs.Common.{◌≡◌, ◌≢◌, ℕ, ◌+◌, ◌<◌, ◌≤◌, min, max, Option, Some, refl, ap, ◌∙◌, arith, List, length, length-set, slice_get, slice_set}
 use Rattle.std.specs.Int.RustNames.{bit_or}
 use Rattle.store_word.specs.declared.levels.Levels.{Levels}
-use Rattle.ref_table.specs.Branches.{no_branch, branch_at, joined, branch_of, Stands, IsPart, AreSides, Builds}
+use Rattle.ref_table.specs.Branches.{no_branch, branch_at, joined, branch_of, Joins, Stands, IsPart, AreSides, Builds}
 use Rattle.ref_table.specs.Sets.{set_at}
 use Rattle.ref_table.specs.Tree.{Tree, link, height, below, IsOrdered, Leaf, Fork}
 use Rattle.ref_table.proofs.ListLaws.{slice_get-set_same, slice_get-set_other}
@@ -51,15 +51,15 @@ joined_is sets branches left page right l r a b s t low_l low_r =
     mk n h x y = record { below = (let s : Levels = record { 0 = n } in s); left = x; right = y; height = h }
 
 pub join_builds : (sets : List Levels) (old new : List Branch) (left : Option ℕ) (page : ℕ) (right at : Option ℕ) (lo hi : ℕ) (l r : Tree) (most : ℕ) → most < 199
-    → AreSides sets old left page right lo hi l r most → new ≡ slice_set old page (joined sets old left page right) → at ≡ Some page → Builds sets old new at lo hi (Fork l page r)
-join_builds sets old new left page right at lo hi l r most few s is top =
+    → AreSides sets old left page right lo hi l r most → Joins sets old new left page right at → Builds sets old new at lo hi (Fork l page r)
+join_builds sets old new left page right at lo hi l r most few s is =
     let value = joined_is sets old left page right l r s.left_is s.right_is s.left_stands s.right_stands (omega (arith, s.left_low)) (omega (arith, s.right_low)) in
-    let is' : new ≡ slice_set old page (branch_of sets l page r) = is ∙ ap (slice_set old page) value in
+    let is' : new ≡ slice_set old page (branch_of sets l page r) = is.after ∙ ap (slice_set old page) value in
     let other : (k : ℕ) → k ≢ page → slice_get new k ≡ slice_get old k = λ k ne. ap (λ (bs : List Branch). slice_get bs k) is' ∙ slice_get-set_other old page k _ ne in
     let here : slice_get new page ≡ Some (branch_of sets l page r) = ap (λ (bs : List Branch). slice_get bs page) is' ∙ slice_get-set_same old page _ (omega (arith, s.to, s.inside)) in
     record {
-      size = ap length is ∙ length-set old page _;
-      top = top;
+      size = ap length is.after ∙ length-set old page _;
+      top = is.value;
       stands = (
         here,
         (

@@ -1,5 +1,5 @@
 -- The array of branches that represents a tree.
-use Rattle.std.specs.Prelude.{ℕ, ◌≡◌, ◌+◌, ◌<◌, ◌≤◌, eqb, min, max, if◌then◌else◌, Option, Some, None, List, length, slice_get, slice_index_or}
+use Rattle.std.specs.Prelude.{ℕ, ◌≡◌, ◌+◌, ◌<◌, ◌≤◌, eqb, min, max, if◌then◌else◌, Option, Some, None, List, length, slice_get, slice_set, slice_index_or}
 use Rattle.std.specs.Int.RustNames.{bit_or}
 use Rattle.store_word.specs.declared.levels.Levels.{Levels}
 use Rattle.ref_table.specs.declared.branch.Branch.{Branch}
@@ -24,6 +24,11 @@ joined sets branches left page right = record {
   right = right;
   height = min (max (branch_at branches left).height (branch_at branches right).height + 1) 255;
 }
+
+-- a page became the root of two trees
+pub record Joins (sets : List Levels) (old new : List Branch) (left : Option ℕ) (page : ℕ) (right at : Option ℕ) : Type 0 where
+  pub after : new ≡ slice_set old page (joined sets old left page right)
+  pub value : at ≡ Some page
 
 -- the branch of a page over two trees
 abbrev pub branch_of : List Levels → Tree → ℕ → Tree → Branch

@@ -1,17 +1,20 @@
 //! The array of branches, one for each page, in which the trees are stored.
-ghost use Rattle.std.specs.Prelude.{◌≡◌, Some, slice_set};
+ghost use Rattle.std.specs.Prelude.{◌≡◌};
 ghost use Rattle.std.specs.Int.RustNames.{bit_or};
 ghost use Rattle.ref_table.specs.Sets.{set_at};
-ghost use Rattle.ref_table.specs.Branches.{branch_at, joined, no_branch};
+ghost use Rattle.ref_table.specs.Branches.{Joins, branch_at, no_branch};
 
 use store_word::{Flags, Levels};
+
+/// The page at a tree's root, or None if the tree is empty.
+pub type Link = Option<u32>;
 
 /// A page's place in the tree: its subtrees by the pages of their roots, and the height and the levels of the whole.
 #[derive(Clone, Copy)]
 pub struct Branch {
     pub below: Levels,
-    pub left: Option<u32>,
-    pub right: Option<u32>,
+    pub left: Link,
+    pub right: Link,
     pub height: u8,
 }
 
@@ -30,7 +33,7 @@ impl Branch {
 }
 
 /// The branch of a tree's root.
-pub(crate) fn branch_at(branches: &[Branch], at: Option<u32>) -> Branch
+pub(crate) fn branch_at(branches: &[Branch], at: Link) -> Branch
     ensures { result ≡ branch_at branches.now at }
 {
     match at {
@@ -62,12 +65,11 @@ fn union(one: Levels, two: Levels, three: Levels) -> Levels
 pub(crate) fn join(
     sets: &[Levels],
     branches: &mut [Branch],
-    left: Option<u32>,
+    left: Link,
     page: u32,
-    right: Option<u32>,
-) -> Option<u32>
-    ensures after { branches.new ≡ slice_set branches.old page (joined sets.now branches.old left page right) }
-    ensures value { result ≡ Some page }
+    right: Link,
+) -> Link
+    ensures { Joins sets.now branches.old branches.new left page right result }
 {
     let lower = branch_at(branches, left);
     let upper = branch_at(branches, right);

@@ -4,17 +4,17 @@ ghost use Rattle.ref_table.specs.Tree.{Tree};
 ghost use Rattle.ref_table.specs.Rotation.{balanced, rotated_right, rotated_left};
 ghost use Rattle.ref_table.specs.Branches.{AreSides, Builds};
 
-use crate::branch::{Branch, branch_at, join};
+use crate::branch::{Branch, Link, branch_at, join};
 use store_word::Levels;
 
 /// The left tree is two higher than the right one: its root becomes the root or, if the inner subtree is the higher one, the root of that.
 fn rotate_right(
     sets: &[Levels],
     branches: &mut [Branch],
-    left: Option<u32>,
+    left: Link,
     page: u32,
-    right: Option<u32>,
-) -> Option<u32>
+    right: Link,
+) -> Link
     ensures { (lo hi : ℕ) (l r : Tree) → AreSides sets.now branches.old left page right lo hi l r 101
         → Builds sets.now branches.old branches.new result lo hi (rotated_right l page r) }
 {
@@ -37,13 +37,7 @@ fn rotate_right(
 }
 
 /// The right tree is two higher than the left one.
-fn rotate_left(
-    sets: &[Levels],
-    branches: &mut [Branch],
-    left: Option<u32>,
-    page: u32,
-    right: Option<u32>,
-) -> Option<u32>
+fn rotate_left(sets: &[Levels], branches: &mut [Branch], left: Link, page: u32, right: Link) -> Link
     ensures { (lo hi : ℕ) (l r : Tree) → AreSides sets.now branches.old left page right lo hi l r 101
         → Builds sets.now branches.old branches.new result lo hi (rotated_left l page r) }
 {
@@ -69,10 +63,10 @@ fn rotate_left(
 pub(crate) fn balance(
     sets: &[Levels],
     branches: &mut [Branch],
-    left: Option<u32>,
+    left: Link,
     page: u32,
-    right: Option<u32>,
-) -> Option<u32>
+    right: Link,
+) -> Link
     ensures { (lo hi : ℕ) (l r : Tree) → AreSides sets.now branches.old left page right lo hi l r 101
         → Builds sets.now branches.old branches.new result lo hi (balanced l page r) }
 {

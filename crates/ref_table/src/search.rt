@@ -4,7 +4,7 @@ ghost use Rattle.ref_table.specs.Tree.{Tree, link, height};
 ghost use Rattle.ref_table.specs.Search.{found_from};
 ghost use Rattle.ref_table.specs.Branches.{Stands};
 
-use crate::branch::{Branch, branch_at, levels_at};
+use crate::branch::{Branch, Link, branch_at, levels_at};
 use store_word::{Flags, Levels};
 
 /// The lowest page of a tree, from one on, whose levels meet the given ones. The walk goes only into trees with such levels.
@@ -12,7 +12,7 @@ pub(crate) fn find_from(
     depth: u8,
     sets: &[Levels],
     branches: &[Branch],
-    at: Option<u32>,
+    at: Link,
     from: u32,
     levels: Levels,
 ) -> Option<u32>

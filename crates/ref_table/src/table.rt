@@ -4,7 +4,7 @@ ghost use Rattle.ref_table.specs.Sets.{no_levels, set_at, has_row, rows_of, IsMa
 ghost use Rattle.ref_table.specs.Tree.{Tree};
 ghost use Rattle.ref_table.specs.Branches.{HasTree, HasRows, without_row};
 
-use crate::branch::Branch;
+use crate::branch::{Branch, Link};
 use crate::node::RefNode;
 use crate::search::find_from;
 use crate::tree::{insert, remove};
@@ -24,12 +24,7 @@ fn has_row(sets: &[Levels], page: u32) -> bool
 }
 
 /// Removes the row of a page from the tree, if it has one.
-fn remove_row(
-    sets: &mut [Levels],
-    branches: &mut [Branch],
-    root: Option<u32>,
-    page: u32,
-) -> Option<u32>
+fn remove_row(sets: &mut [Levels], branches: &mut [Branch], root: Link, page: u32) -> Link
     requires { page < length sets.old }
     ensures sound { (t : Tree) → HasTree sets.old branches.old root t → HasTree sets.new branches.new result (without_row sets.old page t) }
     ensures sets { sets.new ≡ slice_set sets.old page no_levels }
@@ -47,10 +42,10 @@ fn remove_row(
 fn insert_row(
     sets: &mut [Levels],
     branches: &mut [Branch],
-    root: Option<u32>,
+    root: Link,
     page: u32,
     levels: Levels,
-) -> Option<u32>
+) -> Link
     requires page { page < length sets.old }
     requires absent { set_at sets.old page ≡ 0 }
     ensures sound { (t : Tree) → HasTree sets.old branches.old root t → HasRows sets.new branches.new result }
@@ -68,7 +63,7 @@ fn insert_row(
 pub struct RefTable {
     sets: Vec<Levels>,
     branches: Vec<Branch>,
-    root: Option<u32>,
+    root: Link,
     count: u32,
 }
 

@@ -6,7 +6,7 @@ ghost use Rattle.ref_table.specs.Tree.{Tree, link, height};
 ghost use Rattle.ref_table.specs.Rotation.{first, rest, insert, removed, merged};
 ghost use Rattle.ref_table.specs.Branches.{Stands, IsPart, Builds};
 
-use crate::branch::{Branch, branch_at, join};
+use crate::branch::{Branch, Link, branch_at, join};
 use crate::rotate::balance;
 use store_word::Levels;
 
@@ -15,9 +15,9 @@ pub(crate) fn insert(
     depth: u8,
     sets: &[Levels],
     branches: &mut [Branch],
-    at: Option<u32>,
+    at: Link,
     page: u32,
-) -> Option<u32>
+) -> Link
     ensures { (lo hi : ℕ) (t : Tree) → at ≡ link t → IsPart sets.now branches.old lo hi t → height t ≤ depth → lo ≤ page → page < hi
         → Builds sets.now branches.old branches.new result lo hi (insert page t) }
 {
@@ -40,7 +40,7 @@ pub(crate) fn insert(
 }
 
 /// The lowest page of a tree.
-fn first(depth: u8, branches: &[Branch], at: Option<u32>) -> Option<u32>
+fn first(depth: u8, branches: &[Branch], at: Link) -> Link
     ensures { (sets : List Levels) (t : Tree) → at ≡ link t → Stands sets branches.now t → height t ≤ depth → result ≡ first t }
 {
     if depth == 0 {
@@ -54,7 +54,7 @@ fn first(depth: u8, branches: &[Branch], at: Option<u32>) -> Option<u32>
 }
 
 /// Removes the lowest page from a tree.
-fn rest(depth: u8, sets: &[Levels], branches: &mut [Branch], at: Option<u32>) -> Option<u32>
+fn rest(depth: u8, sets: &[Levels], branches: &mut [Branch], at: Link) -> Link
     ensures { (lo hi : ℕ) (t : Tree) → at ≡ link t → IsPart sets.now branches.old lo hi t → height t ≤ depth
         → Builds sets.now branches.old branches.new result lo hi (rest t) }
 {
@@ -75,13 +75,7 @@ fn rest(depth: u8, sets: &[Levels], branches: &mut [Branch], at: Option<u32>) ->
 }
 
 /// One tree of two: the lowest page of the right one becomes its root.
-fn merge(
-    depth: u8,
-    sets: &[Levels],
-    branches: &mut [Branch],
-    left: Option<u32>,
-    right: Option<u32>,
-) -> Option<u32>
+fn merge(depth: u8, sets: &[Levels], branches: &mut [Branch], left: Link, right: Link) -> Link
     ensures { (lo mid hi : ℕ) (l r : Tree) → left ≡ link l → right ≡ link r → lo ≤ mid → IsPart sets.now branches.old lo mid l → IsPart sets.now branches.old mid hi r
         → height r ≤ depth → Builds sets.now branches.old branches.new result lo hi (merged l r) }
 {
@@ -99,9 +93,9 @@ pub(crate) fn remove(
     depth: u8,
     sets: &[Levels],
     branches: &mut [Branch],
-    at: Option<u32>,
+    at: Link,
     page: u32,
-) -> Option<u32>
+) -> Link
     ensures { (lo hi : ℕ) (t : Tree) → at ≡ link t → IsPart sets.now branches.old lo hi t → height t ≤ depth
         → Builds sets.now branches.old branches.new result lo hi (removed page t) }
 {

@@ -23,4 +23,4 @@ returns c = λ lo hi l r s.
     let near : height l ≤ height r + 1 = omega (arith, h.0, h.1) in
     let near' : height r ≤ height l + 1 = omega (arith, h.0, h.1) in
     subst (Builds c.args.sets.now c.args.branches.now c.join.new.branches c.join.result lo hi) (balanced_even l c.args.page r near near')
-    (join_builds _ _ _ _ _ _ _ lo hi l r 101 (omega arith) s c.join.ensures.after c.join.ensures.value)
+    (join_builds _ _ _ _ _ _ _ lo hi l r 101 (omega arith) s c.join.ensures)
