@@ -307,47 +307,35 @@ root_part second Closed takes = absurd (cc (takes))
 all_refer : (place : WorldReader) → IsReached place → MayClose place → AllRefer place.world.objects
 all_refer place old may = elim may.refer [ inl roots ↦ old.refer (ap has_roots roots) | inr refer ↦ refer ]
 
-root_keeps : (place : WorldReader) (register : ℕ) (value : Value) → IsReached place → IsAllowed place (RootLine register value) → IsReached (outcome place (RootLine register value)).1
-root_keeps place register value old may =
-    let part = root_part place.second place.part may.0.part in
+last_keeps : (place : WorldReader) (part : Section) (roots : List Value) (rooted : List Bool) → has_areas part ≡ true → has_objects part ≡ true → length roots ≡ length place.world.roots → All (RefersBelow (length place.world.objects)) roots
+    → IsReached place → MayClose place → IsReached (record place { part = part; world = record place.world { roots = roots }; rooted = rooted })
+last_keeps place part roots rooted areas objects size refer old may =
+    let known = root_part place.second place.part may.part in
     record {
-      limits = record { areas = old.limits.areas; registers = old.limits.registers; levels = old.limits.levels; roots = length-set place.world.roots register value ∙ old.limits.roots };
-      space = λ has. old.space part.0;
+      limits = record { areas = old.limits.areas; registers = old.limits.registers; levels = old.limits.levels; roots = size ∙ old.limits.roots };
+      space = λ has. old.space known.0;
       capacities = old.capacities;
-      some = λ has. old.some part.1;
-      none = λ has. absurd (cc (has));
+      some = λ has. old.some known.1;
+      none = λ has. absurd (cc (areas, has));
       room = old.room;
       quotas = old.quotas;
       named = old.named;
       slots = old.slots;
-      bare = λ has. absurd (cc (has));
+      bare = λ has. absurd (cc (objects, has));
       accounts = old.accounts;
       leaves = old.leaves;
       objects = old.objects;
-      roots = All-set (RefersBelow (length place.world.objects)) place.world.roots register value may.1.refers old.roots;
-      refer = λ has. all_refer place old may.0;
+      roots = refer;
+      refer = λ has. all_refer place old may;
     }
 
+root_keeps : (place : WorldReader) (register : ℕ) (value : Value) → IsReached place → IsAllowed place (RootLine register value) → IsReached (outcome place (RootLine register value)).1
+root_keeps place register value old may =
+    let refer = All-set (RefersBelow (length place.world.objects)) place.world.roots register value may.1.refers old.roots in
+    last_keeps place Roots (slice_set place.world.roots register value) (slice_set place.rooted register true) refl refl (length-set place.world.roots register value) refer old may.0
+
 closing_keeps : (place : WorldReader) (file : Bool) → IsReached place → IsAllowed place (ClosingLine file) → IsReached (outcome place (ClosingLine file)).1
-closing_keeps place file old may =
-    let part = root_part place.second place.part may.0.part in
-    record {
-      limits = record { areas = old.limits.areas; registers = old.limits.registers; levels = old.limits.levels; roots = old.limits.roots };
-      space = λ has. old.space part.0;
-      capacities = old.capacities;
-      some = λ has. old.some part.1;
-      none = λ has. absurd (cc (has));
-      room = old.room;
-      quotas = old.quotas;
-      named = old.named;
-      slots = old.slots;
-      bare = λ has. absurd (cc (has));
-      accounts = old.accounts;
-      leaves = old.leaves;
-      objects = old.objects;
-      roots = old.roots;
-      refer = λ has. all_refer place old may.0;
-    }
+closing_keeps place file old may = last_keeps place Closed place.world.roots place.rooted refl refl refl old.roots old may.0
 
 -- All lines
 
