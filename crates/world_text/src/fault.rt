@@ -34,6 +34,9 @@ pub enum WorldFault {
     NoMemory,
 }
 
+/// What an accepted line causes, or why the line is refused.
+pub type LineResult = Result<WorldStep, WorldFault>;
+
 impl From<Reason> for WorldFault {
     ghost from_gives = { λ reason fault. fault ≡ Bad reason };
 

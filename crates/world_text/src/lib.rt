@@ -9,7 +9,7 @@ mod fault;
 mod reading;
 mod writing;
 
-pub use fault::{DumpFault, WorldFault, WorldStep};
+pub use fault::{DumpFault, LineResult, WorldFault, WorldStep};
 pub use reading::{
     Reason, Section, WorldBuilder, WorldReader, area_of, behind, behind_space, leading_area,
     leading_number, leading_value, leading_word, next_area, next_number, next_register, next_word,

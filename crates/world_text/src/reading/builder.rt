@@ -10,7 +10,7 @@ ghost use Rattle.world_text.specs.reading.Accepts.{AcceptsSpellings};
 
 use crate::reading::fast::cons_before_feed;
 use crate::reading::line::line_at;
-use crate::{Section, WorldFault, WorldReader, WorldStep};
+use crate::{LineResult, Section, WorldReader};
 use lisp_graph::{Areas, Fields, Objects, World};
 use std::alloc::Global;
 use std::marker::Model;
@@ -80,7 +80,7 @@ impl WorldBuilder {
     }
 
     /// Takes the next line. A refused line leaves the builder unchanged.
-    pub fn line(&mut self, line: &[u8]) -> Result<WorldStep, WorldFault>
+    pub fn line(&mut self, line: &[u8]) -> LineResult
         ensures judged { Judged self.old self.new result (line_at self.old line.now) }
         ensures step { IfOk result (λ step. step ≡ step_to self.new) }
         ensures area { IfErr result (NamesArea self.new.world.areas) }

@@ -6,7 +6,7 @@ ghost use Rattle.world_text.specs.reading.Closing.{closing_line, closing_word, h
 
 use crate::reading::missing::{missing_value, no_object};
 use crate::reading::next::{next_register, next_value};
-use crate::{Reason, Section, WorldFault, WorldReader, WorldStep};
+use crate::{LineResult, Reason, Section, WorldFault, WorldReader, WorldStep};
 
 fn has_root(place: &WorldReader, register: usize) -> bool
     ensures { result ≡ has_root place.now register }
@@ -18,11 +18,7 @@ fn has_root(place: &WorldReader, register: usize) -> bool
 }
 
 #[tactic(auto, unfolding(crate::specs::reading::Closing::root_line))]
-pub fn root_line(
-    place: &mut WorldReader,
-    count: usize,
-    text: &[u8],
-) -> Result<WorldStep, WorldFault>
+pub fn root_line(place: &mut WorldReader, count: usize, text: &[u8]) -> LineResult
     requires { IsReader place.old }
     ensures judged { Judged place.old place.new result (root_line place.old count (words_of text.now)) }
     ensures stays_sound { IsReader place.new }
@@ -53,7 +49,7 @@ pub fn closing_word(file: bool) -> &'static [u8]
 }
 
 #[tactic(auto, unfolding(crate::specs::reading::Closing::closing_line))]
-pub fn closing_line(place: &mut WorldReader, count: usize) -> Result<WorldStep, WorldFault>
+pub fn closing_line(place: &mut WorldReader, count: usize) -> LineResult
     requires { IsReader place.old }
     ensures judged { Judged place.old place.new result (closing_line place.old count) }
     ensures stays_sound { IsReader place.new }

@@ -10,7 +10,7 @@ ghost use Rattle.world_text.specs.writing.Spelling.{IsWritten, value_text};
 
 use crate::reading::leading::{behind, behind_space, leading_area, leading_number, leading_value};
 use crate::reading::objects::{add_cons, add_object, add_run};
-use crate::{Section, WorldFault, WorldReader, WorldStep};
+use crate::{LineResult, Section, WorldFault, WorldReader};
 use lisp_graph::{Areas, Body, Fields, Object, Value};
 use std::alloc::Global;
 use store_word::NoMemory;
@@ -59,7 +59,7 @@ fn leading_cons<'a>(areas: &Areas, text: &'a [u8]) -> Option<(usize, Value, Valu
 }
 
 /// `cons AREA V V`
-fn cons_at(place: &mut WorldReader, line: &[u8]) -> Option<Result<WorldStep, WorldFault>>
+fn cons_at(place: &mut WorldReader, line: &[u8]) -> Option<LineResult>
     requires sound { IsReader place.old }
     requires place { place.old.part ≡ AtObjects }
     ensures judged { IfSome result (λ said. Judged place.old place.new said (line_at place.old line.now)) }
@@ -123,11 +123,7 @@ fn block_front<'a>(areas: &Areas, line: &'a [u8]) -> Option<(usize, u16, &'a [u8
 }
 
 /// `block AREA CODE V ..`
-fn block_at(
-    alloc: Global,
-    place: &mut WorldReader,
-    line: &[u8],
-) -> Option<Result<WorldStep, WorldFault>>
+fn block_at(alloc: Global, place: &mut WorldReader, line: &[u8]) -> Option<LineResult>
     requires sound { IsReader place.old }
     requires place { place.old.part ≡ AtObjects }
     ensures judged { IfSome result (λ said. Judged place.old place.new said (line_at place.old line.now)) }
@@ -165,11 +161,7 @@ fn run_front<'a>(areas: &Areas, line: &'a [u8]) -> Option<(usize, &'a [u8])>
 }
 
 /// `run AREA V ..`
-fn run_at(
-    alloc: Global,
-    place: &mut WorldReader,
-    line: &[u8],
-) -> Option<Result<WorldStep, WorldFault>>
+fn run_at(alloc: Global, place: &mut WorldReader, line: &[u8]) -> Option<LineResult>
     requires sound { IsReader place.old }
     requires place { place.old.part ≡ AtObjects }
     requires second { place.old.second ≡ true }
@@ -186,11 +178,7 @@ fn run_at(
 }
 
 /// Reads an object line; None if it isn't certain that it is one.
-pub fn object_at(
-    alloc: Global,
-    place: &mut WorldReader,
-    line: &[u8],
-) -> Option<Result<WorldStep, WorldFault>>
+pub fn object_at(alloc: Global, place: &mut WorldReader, line: &[u8]) -> Option<LineResult>
     requires sound { IsReader place.old }
     requires place { place.old.part ≡ AtObjects }
     ensures judged { IfSome result (λ said. Judged place.old place.new said (line_at place.old line.now)) }

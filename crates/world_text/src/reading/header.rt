@@ -6,13 +6,13 @@ ghost use Rattle.world_text.specs.reading.Reader.{IsReader, Judged};
 ghost use Rattle.world_text.specs.reading.Header.{area_line, capacity_line, opening_line, space_line};
 
 use crate::reading::header_words::{capacity_in, room, rule_in, rule_room, space_in};
-use crate::{Reason, Section, WorldFault, WorldReader, WorldStep};
+use crate::{LineResult, Reason, Section, WorldFault, WorldReader, WorldStep};
 use lisp_graph::{Fields, Value};
 use std::alloc::Global;
 use store_word::NoMemory;
 
 /// The first line, which names the format.
-pub fn opening_line(place: &mut WorldReader, text: &[u8]) -> Result<WorldStep, WorldFault>
+pub fn opening_line(place: &mut WorldReader, text: &[u8]) -> LineResult
     requires { IsReader place.old }
     ensures judged { Judged place.old place.new result (opening_line place.old text.now) }
     ensures stays_sound { IsReader place.new }
@@ -39,12 +39,7 @@ fn nils(alloc: Global, registers: u32) -> Result<Fields, NoMemory>
 
 /// The `space` line.
 #[tactic(auto, unfolding(crate::specs::reading::Header::space_line))]
-pub fn space_line(
-    alloc: Global,
-    place: &mut WorldReader,
-    count: usize,
-    text: &[u8],
-) -> Result<WorldStep, WorldFault>
+pub fn space_line(alloc: Global, place: &mut WorldReader, count: usize, text: &[u8]) -> LineResult
     requires { IsReader place.old }
     ensures judged { Judged place.old place.new result (space_line place.old count (words_of text.now)) }
     ensures stays_sound { IsReader place.new }
@@ -62,11 +57,7 @@ pub fn space_line(
 
 /// An `area` line.
 #[tactic(auto, unfolding(crate::specs::reading::Header::area_line))]
-pub fn area_line(
-    place: &mut WorldReader,
-    count: usize,
-    text: &[u8],
-) -> Result<WorldStep, WorldFault>
+pub fn area_line(place: &mut WorldReader, count: usize, text: &[u8]) -> LineResult
     requires { IsReader place.old }
     ensures judged { Judged place.old place.new result (area_line place.old count (words_of text.now)) }
     ensures stays_sound { IsReader place.new }
@@ -91,11 +82,7 @@ pub fn area_line(
 
 /// The `capacity` line of format 2.
 #[tactic(auto, unfolding(crate::specs::reading::Header::capacity_line))]
-pub fn capacity_line(
-    place: &mut WorldReader,
-    count: usize,
-    text: &[u8],
-) -> Result<WorldStep, WorldFault>
+pub fn capacity_line(place: &mut WorldReader, count: usize, text: &[u8]) -> LineResult
     requires sound { IsReader place.old }
     requires count { count ≡ length (words_of text.now) + 1 }
     ensures judged { Judged place.old place.new result (capacity_line place.old count (words_of text.now)) }

@@ -10,16 +10,11 @@ use crate::reading::header::{area_line, capacity_line, opening_line, space_line}
 use crate::reading::missing::{missing_at, no_object};
 use crate::reading::objects::{block_line, cons_line, run_line};
 use crate::reading::words::split_line;
-use crate::{Reason, Section, WorldFault, WorldReader, WorldStep};
+use crate::{LineResult, Reason, Section, WorldFault, WorldReader};
 use std::alloc::Global;
 
 #[tactic(auto, unfolding(crate::specs::reading::Line::last_lines))]
-fn last_lines(
-    place: &mut WorldReader,
-    head: &[u8],
-    count: usize,
-    text: &[u8],
-) -> Result<WorldStep, WorldFault>
+fn last_lines(place: &mut WorldReader, head: &[u8], count: usize, text: &[u8]) -> LineResult
     requires { IsReader place.old }
     ensures judged { Judged place.old place.new result (last_lines place.old head.now count (words_of text.now)) }
     ensures stays_sound { IsReader place.new }
@@ -46,7 +41,7 @@ fn object_lines(
     head: &[u8],
     count: usize,
     text: &[u8],
-) -> Result<WorldStep, WorldFault>
+) -> LineResult
     requires sound { IsReader place.old }
     requires count { count ≡ length (words_of text.now) + 1 }
     ensures judged { Judged place.old place.new result (object_lines place.old head.now count (words_of text.now)) }
@@ -71,7 +66,7 @@ fn area_lines(
     head: &[u8],
     count: usize,
     text: &[u8],
-) -> Result<WorldStep, WorldFault>
+) -> LineResult
     requires sound { IsReader place.old }
     requires count { count ≡ length (words_of text.now) + 1 }
     ensures judged { Judged place.old place.new result (area_lines place.old head.now count (words_of text.now)) }
@@ -96,7 +91,7 @@ fn line_in(
     head: &[u8],
     count: usize,
     text: &[u8],
-) -> Result<WorldStep, WorldFault>
+) -> LineResult
     requires sound { IsReader place.old }
     requires count { count ≡ length (words_of text.now) + 1 }
     ensures judged { Judged place.old place.new result (line_in place.old.part place.old head.now count (words_of text.now)) }
@@ -126,7 +121,7 @@ fn line_in(
 }
 
 /// Takes the next line in its place. A refused line changes nothing.
-pub fn line_at(alloc: Global, place: &mut WorldReader, text: &[u8]) -> Result<WorldStep, WorldFault>
+pub fn line_at(alloc: Global, place: &mut WorldReader, text: &[u8]) -> LineResult
     requires { IsReader place.old }
     ensures judged { Judged place.old place.new result (line_at place.old text.now) }
     ensures stays_sound { IsReader place.new }

@@ -1,5 +1,5 @@
 //! The object lines.
-ghost use Rattle.std.specs.Prelude.{◌≡◌, ◌<◌, ◌≤◌, ◌+◌, ◌*◌, ◌^◌, List, [], ◌∷◌, ◌++◌, length, OnOk, OnErr};
+ghost use Rattle.std.specs.Prelude.{◌≡◌, ◌<◌, ◌≤◌, ◌+◌, ◌*◌, ◌^◌, List, [], ◌∷◌, ◌++◌, length, if◌then◌else◌, nat_lt, Ok, Err, OnOk, OnErr};
 ghost use Rattle.lisp_graph.specs.declared.object.Object.{Object as OneObject};
 ghost use Rattle.world_text.specs.reading.Words.{words_of};
 ghost use Rattle.world_text.specs.reading.Next.{Gives};
@@ -8,7 +8,7 @@ ghost use Rattle.lisp_graph.specs.Effect.{link, list_from, pair_of};
 ghost use Rattle.world_text.specs.reading.Objects.{added, block_line, charge_with, cons_line, quota_of, run_line};
 
 use crate::reading::next::{each_value, next_area, next_number, next_value};
-use crate::{Reason, Section, WorldFault, WorldReader, WorldStep};
+use crate::{LineResult, Reason, Section, WorldFault, WorldReader, WorldStep};
 use lisp_graph::{Body, Object, Objects, Value};
 use std::alloc::Global;
 use store_word::NoMemory;
@@ -43,11 +43,7 @@ fn charge_with(place: &WorldReader, area: usize, wanted: u32) -> Result<u32, Wor
 
 /// Adds an object, whose charge the area's quota must allow.
 #[tactic(auto, unfolding(crate::specs::reading::Objects::added))]
-pub fn add_object(
-    place: &mut WorldReader,
-    area: usize,
-    object: Object,
-) -> Result<WorldStep, WorldFault>
+pub fn add_object(place: &mut WorldReader, area: usize, object: Object) -> LineResult
     requires area { area < 16 }
     requires sound { IsReader place.old }
     ensures judged { Judged place.old place.new result (added place.old area object.charge (object ∷ [])) }
@@ -63,12 +59,7 @@ pub fn add_object(
 /// Adds a cons of charge 2, which the area's quota must allow.
 #[inline(always)]
 #[tactic(auto, unfolding(crate::specs::reading::Objects::added))]
-pub fn add_cons(
-    place: &mut WorldReader,
-    area: usize,
-    car: Value,
-    cdr: Value,
-) -> Result<WorldStep, WorldFault>
+pub fn add_cons(place: &mut WorldReader, area: usize, car: Value, cdr: Value) -> LineResult
     requires area { area < 16 }
     requires sound { IsReader place.old }
     ensures judged { Judged place.old place.new result (added place.old area 2 (pair_of area car cdr ∷ [])) }
@@ -112,11 +103,7 @@ fn push_run(objects: &mut Objects, area: u8, cars: &[Value]) -> Result<(), NoMem
 
 /// Adds the conses of a compact list, whose charges the area's quota must allow together.
 #[tactic(auto, unfolding(crate::specs::reading::Objects::added))]
-pub fn add_run(
-    place: &mut WorldReader,
-    area: usize,
-    cars: &[Value],
-) -> Result<WorldStep, WorldFault>
+pub fn add_run(place: &mut WorldReader, area: usize, cars: &[Value]) -> LineResult
     requires area { area < 16 }
     requires at_most { length cars.now ≤ 1024 }
     requires sound { IsReader place.old }
@@ -147,11 +134,7 @@ fn add_conses(objects: &mut Objects, area: u8, cars: &[Value]) -> Result<(), NoM
 }
 
 #[tactic(auto, unfolding(crate::specs::reading::Objects::cons_line))]
-pub fn cons_line(
-    place: &mut WorldReader,
-    count: usize,
-    text: &[u8],
-) -> Result<WorldStep, WorldFault>
+pub fn cons_line(place: &mut WorldReader, count: usize, text: &[u8]) -> LineResult
     requires { IsReader place.old }
     ensures judged { Judged place.old place.new result (cons_line place.old count (words_of text.now)) }
     ensures stays_sound { IsReader place.new }
@@ -165,24 +148,27 @@ pub fn cons_line(
     add_cons(place, area, car, cdr)
 }
 
+/// Whether a line of this many words has at least three, and at most `most`; `excess` is the reason for a refusal of a longer one.
+fn within(count: usize, most: usize, excess: Reason) -> Result<(), Reason>
+    ensures { result ≡ (if nat_lt most count then Err excess else if nat_lt count 3 then Err Reason.WrongCount else Ok tt) }
+{
+    if count > most {
+        return Err(excess);
+    }
+    if count < 3 {
+        return Err(Reason::WrongCount);
+    }
+    Ok(())
+}
+
 #[tactic(auto, unfolding(crate::specs::reading::Objects::block_line))]
-pub fn block_line(
-    alloc: Global,
-    place: &mut WorldReader,
-    count: usize,
-    text: &[u8],
-) -> Result<WorldStep, WorldFault>
+pub fn block_line(alloc: Global, place: &mut WorldReader, count: usize, text: &[u8]) -> LineResult
     requires sound { IsReader place.old }
     requires count { count ≡ length (words_of text.now) + 1 }
     ensures judged { Judged place.old place.new result (block_line place.old count (words_of text.now)) }
     ensures stays_sound { IsReader place.new }
 {
-    if count > 2_050 {
-        return Err(WorldFault::Bad(Reason::TooManyFields));
-    }
-    if count < 3 {
-        return Err(WorldFault::Bad(Reason::WrongCount));
-    }
+    within(count, 2_050, Reason::TooManyFields)?;
     let (area, rest) = next_area(&place.world.areas, text)?;
     let (code, rest) = next_number(0, 65_535, rest)?;
     let fields = each_value(alloc, rest)?;
@@ -199,23 +185,13 @@ pub fn block_line(
 }
 
 #[tactic(auto, unfolding(crate::specs::reading::Objects::run_line))]
-pub fn run_line(
-    alloc: Global,
-    place: &mut WorldReader,
-    count: usize,
-    text: &[u8],
-) -> Result<WorldStep, WorldFault>
+pub fn run_line(alloc: Global, place: &mut WorldReader, count: usize, text: &[u8]) -> LineResult
     requires sound { IsReader place.old }
     requires count { count ≡ length (words_of text.now) + 1 }
     ensures judged { Judged place.old place.new result (run_line place.old count (words_of text.now)) }
     ensures stays_sound { IsReader place.new }
 {
-    if count > 1_026 {
-        return Err(WorldFault::Bad(Reason::TooManyItems));
-    }
-    if count < 3 {
-        return Err(WorldFault::Bad(Reason::WrongCount));
-    }
+    within(count, 1_026, Reason::TooManyItems)?;
     let (area, rest) = next_area(&place.world.areas, text)?;
     let cars = each_value(alloc, rest)?;
     add_run(place, area, cars.as_slice())
