@@ -1,6 +1,6 @@
 -- The set of free regions, as chains change.
-use Rattle.std.proofs.Common.{◌≡◌, ◌≢◌, ℕ, zero, suc, ◌-◌, ◌<◌, ◌≤◌, Some, None, List, [], ◌∷◌, ◌++◌, length, slice_index_or, replicate, refl, sym, ◌∙◌, ap, subst, arith, inl, inr, length-set}
-use Rattle.std.specs.Prelude.{Contains}
+use Rattle.std.proofs.Common.{◌≡◌, ◌≢◌, ℕ, zero, suc, ◌-◌, ◌<◌, ◌≤◌, Option, Some, None, List, [], ◌∷◌, ◌++◌, length, slice_index_or, replicate, refl, sym, ◌∙◌, ap, subst, arith, inl, inr, length-set}
+use Rattle.std.specs.Prelude.{Contains, IsSome}
 use Rattle.std.proofs.lemmas.Bool.{cases_eq}
 use Rattle.std.proofs.lemmas.List.Elements.{Contains-append_cases, Contains-append_left, Contains-append_right}
 use Rattle.index_lists.specs.Chains.{Chains, IsFree, IsSound, list_at, with_list, without, first_of}
@@ -14,6 +14,11 @@ use Rattle.area_space.specs.FreeSet.{HoldsFree}
 ascending_first : (x : ℕ) (xs : List ℕ) → IsAscending (x ∷ xs) → (q : ℕ) → Has q (x ∷ xs) → x ≤ q
 ascending_first x [] a q h = elim (cases_eq x q) [ inl e ↦ omega arith | inr ne ↦ absurd (h ne) ]
 ascending_first x (y ∷ ys) a q h = elim (cases_eq x q) [ inl e ↦ omega arith | inr ne ↦ (let i = ascending_first y ys a.1 q (h ne) in let b = a.0 in omega arith) ]
+
+-- an option that is not None has a value
+pub some_unless : (o : Option ℕ) → (o ≡ None → ⊥) → IsSome o
+some_unless None absent = absurd (absent refl)
+some_unless (Some r) absent = refl
 
 -- the first of the set is the lowest free region
 pub first_is_lowest : (set : PageList) (c : Chains) (r : ℕ) → HoldsFree set c → first_of set.pages ≡ Some r

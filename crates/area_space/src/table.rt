@@ -214,10 +214,8 @@ impl RegionTable {
         ensures at_most { result < 112 }
         ensures sound { IsTable self.now }
     {
-        match self.chains.owner(region) {
-            Some(class) => class / 2,
-            None => unreachable!(),
-        }
+        let class = self.chains.owner(region).unwrap();
+        class / 2
     }
 
     // Whether an area is static.

@@ -8,10 +8,7 @@ pub fn put<T: Drop>(list: &mut Vec<T>, item: T)
     ensures items { list.new.items ≡ list.old.items ++ item ∷ [] }
     ensures capacity { vec_capacity list.old ≤ vec_capacity list.new }
 {
-    match list.push(item) {
-        Ok(()) => {}
-        Err(_) => unreachable!(),
-    }
+    list.push(item).unwrap();
 }
 
 /// Appends bytes to a list that has room for them.
@@ -20,10 +17,7 @@ pub fn append(list: &mut Vec<u8>, bytes: &[u8])
     ensures items { list.new.items ≡ list.old.items ++ bytes.now }
     ensures capacity { vec_capacity list.old ≤ vec_capacity list.new }
 {
-    match list.extend_from_slice(bytes) {
-        Ok(()) => {}
-        Err(_) => unreachable!(),
-    }
+    list.extend_from_slice(bytes).unwrap();
 }
 
 /// Overwrites bytes with a piece that lies within them.
@@ -66,10 +60,7 @@ pub fn spoil(bytes: &mut Vec<u8>, at: usize, len: usize, byte: u8)
     let end = bytes.len().max(at + len);
     let within = len.min(bytes.len() - at);
     fill(bytes, at, within, byte);
-    match bytes.resize(end, byte) {
-        Ok(()) => {}
-        Err(_) => unreachable!(),
-    }
+    bytes.resize(end, byte).unwrap();
 }
 
 /// Replaces the bytes with those of a slice.

@@ -46,10 +46,8 @@ pub(crate) fn find<M: Memory, L: Ledger>(
             let found = resolve_first(mem, reference, steps)?;
             let at = found.at;
             let header = first_word(mem, found, steps)?;
-            match header.header_parts() {
-                Some((code, length)) => Ok(Head { at, code, length }),
-                None => unreachable!(),
-            }
+            let (code, length) = header.header_parts().unwrap();
+            Ok(Head { at, code, length })
         }
         _ => Err(BlockFault::NotABlock),
     }
@@ -94,10 +92,7 @@ pub(crate) fn class_of_live(table: &RegionTable, at: u32) -> Class
     ensures { IsLiveIn table.now at result }
 {
     table.assert_invariant();
-    match table.class_of(at) {
-        Some(class) => class,
-        None => unreachable!(),
-    }
+    table.class_of(at).unwrap()
 }
 
 /// How many fields a block has, and the place of its area in the world's list.

@@ -34,10 +34,11 @@ impl Items {
         ensures { result ≡ self.now }
     {
         let mut items = Items::new();
-        match items.registers.try_extend_from_slice(self.as_slice()) {
-            Ok(()) => items,
-            Err(_) => unreachable!(),
-        }
+        items
+            .registers
+            .try_extend_from_slice(self.as_slice())
+            .unwrap();
+        items
     }
 
     /// Removes all registers.

@@ -44,9 +44,7 @@ impl Pager {
         ensures cause { TellsFaults (D.faults swap.old) (D.faults swap.new) result }
         ensures calls { D.calls swap.new ≡ with_write (D.calls swap.old) }
     {
-        let Some(page) = self.pool.page_of(frame) else {
-            unreachable!()
-        };
+        let page = self.pool.page_of(frame).unwrap();
         let words = self.pool.words(frame);
         swap.write_page(page, words)?;
         let set = levels_of(self.pool.tagged(frame), words, self.levels.all());
@@ -110,9 +108,7 @@ impl Pager {
         if let Some(frame) = self.pool.free_frame() {
             return Ok(frame);
         }
-        let Some(frame) = self.pool.oldest() else {
-            unreachable!()
-        };
+        let frame = self.pool.oldest().unwrap();
         self.evict(swap, frame)?;
         Ok(frame)
     }

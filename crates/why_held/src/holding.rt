@@ -76,10 +76,7 @@ fn found_for(nearest: &OptionalNumbers, object: u64) -> u64
     requires at_least { IsSome (nearest_at nearest.now object) }
     ensures { nearest_at nearest.now object ≡ Some result }
 {
-    match nearest_at(nearest, object) {
-        Some(from) => u64::from(from),
-        None => unreachable!(),
-    }
+    u64::from(nearest_at(nearest, object).unwrap())
 }
 
 /// A shortest chain to an object of this depth, chosen backwards.

@@ -80,10 +80,7 @@ fn class_of_object(table: &RegionTable, at: u32) -> Class
     ensures level { result.level < levels_of table.now }
     ensures found { Contains (chain table.now (class_number table.now result)) (at / REGION_WORDS) }
 {
-    match table.class_of(at) {
-        Some(class) => class,
-        None => unreachable!(),
-    }
+    table.class_of(at).unwrap()
 }
 
 // What a pair is charged, by its second word.

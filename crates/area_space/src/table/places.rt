@@ -56,10 +56,7 @@ impl RegionTable {
         ensures free { IsUnclassed self.now result }
         ensures lowest { (region : ℕ) → region < result → IsUnclassed self.now region → ⊥ }
     {
-        match self.free.lowest() {
-            Some(region) => region,
-            None => unreachable!(),
-        }
+        self.free.lowest().unwrap()
     }
 
     // Puts a free region at the end of a live chain.

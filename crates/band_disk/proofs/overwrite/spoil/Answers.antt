@@ -12,7 +12,7 @@ returns-clause-items c =
     let all : take bytes.len (c.fill.new.bytes ++ drop (length c.fill.new.bytes) bytes.items) ≡ c.fill.new.bytes = take_at c.fill.new.bytes (drop (length c.fill.new.bytes) bytes.items) bytes.len long in
     let same : c.fill.new.bytes ≡ overwritten c.args.at (replicate c.min-within.result c.args.byte) bytes.items = c.fill.ensures ∙ ap (overwritten c.args.at (replicate c.min-within.result c.args.byte)) c.deref_mut.ensures.value in
     let had : length bytes.items ≡ bytes.len = omega (arith, ap length c.deref_mut.ensures.value, c.deref_mut.ensures.len) in
-    c.in-Ok.ensures.items
+    rw c.unwrap.ensures at c.resize.ensures.items
     ∙ ap (λ l. take c.max-end.result l ++ replicate (c.max-end.result - bytes.len) c.args.byte) all
     ∙ ap (λ n. take c.max-end.result c.fill.new.bytes ++ replicate (c.max-end.result - n) c.args.byte) (sym long)
     ∙ spoiled_parts c.args.at c.args.len c.min-within.result c.max-end.result c.args.byte bytes.items c.fill.new.bytes (omega arith) (omega arith) (omega arith) same (omega arith)
