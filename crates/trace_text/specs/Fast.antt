@@ -1,5 +1,5 @@
 -- What the fast reader finds at the front of a text.
-use Rattle.std.specs.Prelude.{◌≡◌, ℕ, ◌<◌, ◌≤◌, List, ◌∷◌, ◌++◌, length, map, Ok, codes, decimal}
+use Rattle.std.specs.Prelude.{◌≡◌, ℕ, ◌<◌, ◌≤◌, ◌^◌, List, ◌∷◌, ◌++◌, length, map, Ok, codes, decimal}
 use Rattle.std.specs.List.{All}
 use Rattle.store_word.specs.declared.space.Space.{Space}
 use Rattle.lisp_graph.specs.Commands.{IsPlain}
@@ -46,6 +46,16 @@ pub record LeadsMake (space : Space) (areas : List AreaRule) (text : List ℕ) (
   pub numbers : code ≤ 65535
   pub limit : size ≤ 2047
   pub is : last ≡ 32 ∷ decimal code ++ 32 ∷ decimal size ++ rest
+
+-- the text is `get` with these registers and this number, and then this rest
+abbrev pub LeadsGet : ℕ → List ℕ → ℕ → ℕ → ℕ → List ℕ → Type 0
+LeadsGet registers text to from index rest =
+    (to < registers) × (from < registers) × (index < 2 ^ 32) × (text ≡ codes "get " ++ decimal to ++ 32 ∷ decimal from ++ 32 ∷ decimal index ++ rest)
+
+-- the text is `put` with this register, this number and this register, and then this rest
+abbrev pub LeadsPut : ℕ → List ℕ → ℕ → ℕ → ℕ → List ℕ → Type 0
+LeadsPut registers text target index from rest =
+    (target < registers) × (from < registers) × (index < 2 ^ 32) × (text ≡ codes "put " ++ decimal target ++ 32 ∷ decimal index ++ 32 ∷ decimal from ++ rest)
 
 -- the text is `list` with this register and the name of this area, and then these items
 pub record LeadsList (space : Space) (areas : List AreaRule) (text : List ℕ) (to area : ℕ) (items : List ℕ) : Type 0 where

@@ -5,20 +5,18 @@ ghost use Rattle.world_text.specs.Next.{Gives};
 ghost use Rattle.trace_text.specs.Commands.{InLimits, command_in, cons_in, get_in, grow_in, list_in, make_in, put_in, set_in, size_in};
 
 use crate::store::store_command;
-use crate::words::{area, items, number, plain_value, register, small};
+use crate::words::{Accepted, area, has_words, items, number, plain_value, register, small};
 use lisp_graph::{Areas, CommandHead, Request};
 use store_word::Space;
 use world_text::Reason;
 
 /// `set R V`
 #[tactic(auto, unfolding(crate::specs::Commands::set_in))]
-fn set(registers: u32, count: usize, text: &[u8], command: &mut Request) -> Result<(), Reason>
+fn set(registers: u32, count: usize, text: &[u8], command: &mut Request) -> Accepted
     requires { registers ≤ 256 }
     ensures { Gives (λ _. command.new) result (set_in registers count (words_of text.now)) }
 {
-    if count != 3 {
-        return Err(Reason::WrongCount);
-    }
+    has_words(count, 3)?;
     let (to, rest) = register(registers, text)?;
     let (value, _) = plain_value(rest)?;
     command.set(CommandHead::Set { to, value });
@@ -27,20 +25,12 @@ fn set(registers: u32, count: usize, text: &[u8], command: &mut Request) -> Resu
 
 /// `cons R AREA S T`
 #[tactic(auto, unfolding(crate::specs::Commands::cons_in))]
-fn cons(
-    registers: u32,
-    areas: &Areas,
-    count: usize,
-    text: &[u8],
-    command: &mut Request,
-) -> Result<(), Reason>
+fn cons(registers: u32, areas: &Areas, count: usize, text: &[u8], command: &mut Request) -> Accepted
     requires registers { registers ≤ 256 }
     requires areas { length areas.now ≤ 16 }
     ensures { Gives (λ _. command.new) result (cons_in registers areas.now count (words_of text.now)) }
 {
-    if count != 5 {
-        return Err(Reason::WrongCount);
-    }
+    has_words(count, 5)?;
     let (to, rest) = register(registers, text)?;
     let (area, rest) = area(areas, rest)?;
     let (car, rest) = register(registers, rest)?;
@@ -51,13 +41,7 @@ fn cons(
 
 /// `list R AREA S ..`
 #[tactic(auto, unfolding(crate::specs::Commands::list_in))]
-fn list(
-    registers: u32,
-    areas: &Areas,
-    count: usize,
-    text: &[u8],
-    command: &mut Request,
-) -> Result<(), Reason>
+fn list(registers: u32, areas: &Areas, count: usize, text: &[u8], command: &mut Request) -> Accepted
     requires registers { registers ≤ 256 }
     requires areas { length areas.now ≤ 16 }
     requires count { count ≡ length (words_of text.now) + 1 }
@@ -76,20 +60,12 @@ fn list(
 
 /// `make R AREA CODE N`
 #[tactic(auto, unfolding(crate::specs::Commands::make_in))]
-fn make(
-    registers: u32,
-    areas: &Areas,
-    count: usize,
-    text: &[u8],
-    command: &mut Request,
-) -> Result<(), Reason>
+fn make(registers: u32, areas: &Areas, count: usize, text: &[u8], command: &mut Request) -> Accepted
     requires registers { registers ≤ 256 }
     requires areas { length areas.now ≤ 16 }
     ensures { Gives (λ _. command.new) result (make_in registers areas.now count (words_of text.now)) }
 {
-    if count != 5 {
-        return Err(Reason::WrongCount);
-    }
+    has_words(count, 5)?;
     let (to, rest) = register(registers, text)?;
     let (area, rest) = area(areas, rest)?;
     let (code, rest) = small(65_535, rest)?;
@@ -105,28 +81,36 @@ fn make(
 
 /// `grow R N`
 #[tactic(auto, unfolding(crate::specs::Commands::grow_in))]
-fn grow(registers: u32, count: usize, text: &[u8], command: &mut Request) -> Result<(), Reason>
+fn grow(registers: u32, count: usize, text: &[u8], command: &mut Request) -> Accepted
     requires { registers ≤ 256 }
     ensures { Gives (λ _. command.new) result (grow_in registers count (words_of text.now)) }
 {
-    if count != 3 {
-        return Err(Reason::WrongCount);
-    }
+    has_words(count, 3)?;
     let (target, rest) = register(registers, text)?;
     let (length, _) = small(2_047, rest)?;
     command.set(CommandHead::Grow { target, length });
     Ok(())
 }
 
+/// `size R`
+#[tactic(auto, unfolding(crate::specs::Commands::size_in))]
+fn size(registers: u32, count: usize, text: &[u8], command: &mut Request) -> Accepted
+    requires { registers ≤ 256 }
+    ensures { Gives (λ _. command.new) result (size_in registers count (words_of text.now)) }
+{
+    has_words(count, 2)?;
+    let (of, _) = register(registers, text)?;
+    command.set(CommandHead::Size { of });
+    Ok(())
+}
+
 /// `get R S I`
 #[tactic(auto, unfolding(crate::specs::Commands::get_in))]
-fn get(registers: u32, count: usize, text: &[u8], command: &mut Request) -> Result<(), Reason>
+fn get(registers: u32, count: usize, text: &[u8], command: &mut Request) -> Accepted
     requires { registers ≤ 256 }
     ensures { Gives (λ _. command.new) result (get_in registers count (words_of text.now)) }
 {
-    if count != 4 {
-        return Err(Reason::WrongCount);
-    }
+    has_words(count, 4)?;
     let (to, rest) = register(registers, text)?;
     let (from, rest) = register(registers, rest)?;
     let (index, _) = number(rest)?;
@@ -136,13 +120,11 @@ fn get(registers: u32, count: usize, text: &[u8], command: &mut Request) -> Resu
 
 /// `put R I S`
 #[tactic(auto, unfolding(crate::specs::Commands::put_in))]
-fn put(registers: u32, count: usize, text: &[u8], command: &mut Request) -> Result<(), Reason>
+fn put(registers: u32, count: usize, text: &[u8], command: &mut Request) -> Accepted
     requires { registers ≤ 256 }
     ensures { Gives (λ _. command.new) result (put_in registers count (words_of text.now)) }
 {
-    if count != 4 {
-        return Err(Reason::WrongCount);
-    }
+    has_words(count, 4)?;
     let (target, rest) = register(registers, text)?;
     let (index, rest) = number(rest)?;
     let (from, _) = register(registers, rest)?;
@@ -151,20 +133,6 @@ fn put(registers: u32, count: usize, text: &[u8], command: &mut Request) -> Resu
         index,
         from,
     });
-    Ok(())
-}
-
-/// `size R`
-#[tactic(auto, unfolding(crate::specs::Commands::size_in))]
-fn size(registers: u32, count: usize, text: &[u8], command: &mut Request) -> Result<(), Reason>
-    requires { registers ≤ 256 }
-    ensures { Gives (λ _. command.new) result (size_in registers count (words_of text.now)) }
-{
-    if count != 2 {
-        return Err(Reason::WrongCount);
-    }
-    let (of, _) = register(registers, text)?;
-    command.set(CommandHead::Size { of });
     Ok(())
 }
 
@@ -177,7 +145,7 @@ pub fn read_words(
     count: usize,
     text: &[u8],
     command: &mut Request,
-) -> Result<(), Reason>
+) -> Accepted
     requires in_range { InLimits space.now areas.now }
     requires count { count ≡ length (words_of text.now) + 1 }
     ensures { Gives (λ _. command.new) result (command_in space.now areas.now head.now count (words_of text.now)) }

@@ -19,6 +19,9 @@ use lisp_graph::{Areas, CommandHead, Request, Value};
 use store_word::Space;
 use world_text::{behind_space, leading_area};
 
+/// The text after a command, if the text begins with one.
+pub type Rest<'a> = Option<&'a [u8]>;
+
 /// The register and the value of `set R V`, and the text after them
 #[inline(always)]
 fn set_words<'a>(space: &Space, words: &'a [u8]) -> Option<(u8, Value, &'a [u8])>
@@ -35,7 +38,7 @@ fn set_words<'a>(space: &Space, words: &'a [u8]) -> Option<(u8, Value, &'a [u8])
 
 /// `set R V`
 #[inline(always)]
-fn set<'a>(space: &Space, words: &'a [u8], command: &mut Request) -> Option<&'a [u8]>
+fn set<'a>(space: &Space, words: &'a [u8], command: &mut Request) -> Rest<'a>
     requires { space.now.registers ≤ 256 }
     ensures { IfSome result (λ rest. (areas : List AreaRule) → LeadsCommand space.now areas (codes "set " ++ words.now) command.new rest.now) }
 {
@@ -44,13 +47,11 @@ fn set<'a>(space: &Space, words: &'a [u8], command: &mut Request) -> Option<&'a 
     Some(rest)
 }
 
-/// The registers of `cons R AREA S T`, the area, and the text after them
+/// The first register of `cons R AREA S T`, the area, the other two registers, and the text after them
+type ConsWords<'a> = Option<(u8, u8, u8, u8, &'a [u8])>;
+
 #[inline(always)]
-fn cons_words<'a>(
-    space: &Space,
-    areas: &Areas,
-    after_four: &'a [u8],
-) -> Option<(u8, u8, u8, u8, &'a [u8])>
+fn cons_words<'a>(space: &Space, areas: &Areas, after_four: &'a [u8]) -> ConsWords<'a>
     requires { InLimits space.now areas.now }
     ensures { IfSome result (λ x. LeadsCons space.now areas.now (codes "cons" ++ after_four.now) x.0 x.1 x.2 x.3 x.4.now) }
 {
@@ -64,12 +65,7 @@ fn cons_words<'a>(
 
 /// `cons R AREA S T`
 #[inline(always)]
-fn cons<'a>(
-    space: &Space,
-    areas: &Areas,
-    after_four: &'a [u8],
-    command: &mut Request,
-) -> Option<&'a [u8]>
+fn cons<'a>(space: &Space, areas: &Areas, after_four: &'a [u8], command: &mut Request) -> Rest<'a>
     requires { InLimits space.now areas.now }
     ensures { IfSome result (λ rest. LeadsCommand space.now areas.now (codes "cons" ++ after_four.now) command.new rest.now) }
 {
@@ -97,7 +93,7 @@ fn spaced_items<'a>(
     area: u8,
     text: &'a [u8],
     command: &mut Request,
-) -> Option<&'a [u8]>
+) -> Rest<'a>
     requires { registers ≤ 256 }
     ensures { IfSome result (λ rest. LeadsItems registers text.now to area command.new rest.now) }
 {
@@ -117,12 +113,7 @@ fn spaced_items<'a>(
 
 /// `list R AREA S ..`
 #[inline(always)]
-fn list<'a>(
-    space: &Space,
-    areas: &Areas,
-    after_four: &'a [u8],
-    command: &mut Request,
-) -> Option<&'a [u8]>
+fn list<'a>(space: &Space, areas: &Areas, after_four: &'a [u8], command: &mut Request) -> Rest<'a>
     requires { InLimits space.now areas.now }
     ensures { IfSome result (λ rest. LeadsCommand space.now areas.now (codes "list" ++ after_four.now) command.new rest.now) }
 {
@@ -172,7 +163,7 @@ fn pair<'a>(
     after_four: &'a [u8],
     text: &'a [u8],
     command: &mut Request,
-) -> Option<&'a [u8]>
+) -> Rest<'a>
     requires at_most { space.now.registers ≤ 256 }
     requires agrees { text.now ≡ to_le_bytes w32 front ++ after_four.now }
     ensures { IfSome result (λ rest. (areas : List AreaRule) → LeadsCommand space.now areas text.now command.new rest.now) }
@@ -186,12 +177,7 @@ fn pair<'a>(
 /// The same as `read_fast` for every command except `set`. It isn't inlined, so that `read_fast` is short enough to be inlined into the loop over
 /// the lines of a trace.
 #[inline(never)]
-fn read_other<'a>(
-    space: &Space,
-    areas: &Areas,
-    text: &'a [u8],
-    command: &mut Request,
-) -> Option<&'a [u8]>
+fn read_other<'a>(space: &Space, areas: &Areas, text: &'a [u8], command: &mut Request) -> Rest<'a>
     requires { InLimits space.now areas.now }
     ensures { IfSome result (λ rest. LeadsCommand space.now areas.now text.now command.new rest.now) }
 {
@@ -227,7 +213,7 @@ pub fn read_fast<'a>(
     areas: &Areas,
     text: &'a [u8],
     command: &mut Request,
-) -> Option<&'a [u8]>
+) -> Rest<'a>
     requires { InLimits space.now areas.now }
     ensures { IfSome result (λ rest. LeadsCommand space.now areas.now text.now command.new rest.now) }
 {

@@ -1,9 +1,10 @@
 //! Reads the commands of blocks at the front of a text, as `fast` does the others.
-ghost use Rattle.std.specs.Prelude.{◌≡◌, ◌≤◌, ◌<◌, ◌^◌, ◌++◌, ◌∷◌, List, decimal, codes, IfSome};
+ghost use Rattle.std.specs.Prelude.{◌≡◌, ◌≤◌, ◌<◌, ◌++◌, ◌∷◌, List, decimal, codes, IfSome};
 ghost use Rattle.lisp_graph.specs.declared.world.AreaRule.{AreaRule};
 ghost use Rattle.trace_text.specs.Commands.{InLimits};
-ghost use Rattle.trace_text.specs.Fast.{LeadsCommand, LeadsMake};
+ghost use Rattle.trace_text.specs.Fast.{LeadsCommand, LeadsGet, LeadsMake, LeadsPut};
 
+use crate::fast::Rest;
 use crate::front::{leading_any, leading_register, number_and_space, register_and_space};
 use lisp_graph::{Areas, CommandHead, Request};
 use store_word::Space;
@@ -13,8 +14,7 @@ use world_text::{behind_space, leading_area};
 #[inline(always)]
 fn get_words<'a>(space: &Space, words: &'a [u8]) -> Option<(u8, u8, u32, &'a [u8])>
     requires { space.now.registers ≤ 256 }
-    ensures { IfSome result (λ x. (x.0 < space.now.registers) × (x.1 < space.now.registers) × (x.2 < 2 ^ 32)
-        × (codes "get " ++ words.now ≡ codes "get " ++ decimal x.0 ++ 32 ∷ decimal x.1 ++ 32 ∷ decimal x.2 ++ x.3.now)) }
+    ensures { IfSome result (λ x. LeadsGet space.now.registers (codes "get " ++ words.now) x.0 x.1 x.2 x.3.now) }
 {
     let (to, more) = number_and_space(words)?;
     let (from, last) = number_and_space(more)?;
@@ -27,7 +27,7 @@ fn get_words<'a>(space: &Space, words: &'a [u8]) -> Option<(u8, u8, u32, &'a [u8
 
 /// `get R S I`
 #[inline(always)]
-pub fn get<'a>(space: &Space, words: &'a [u8], command: &mut Request) -> Option<&'a [u8]>
+pub fn get<'a>(space: &Space, words: &'a [u8], command: &mut Request) -> Rest<'a>
     requires { space.now.registers ≤ 256 }
     ensures { IfSome result (λ rest. (areas : List AreaRule) → LeadsCommand space.now areas (codes "get " ++ words.now) command.new rest.now) }
 {
@@ -40,8 +40,7 @@ pub fn get<'a>(space: &Space, words: &'a [u8], command: &mut Request) -> Option<
 #[inline(always)]
 fn put_words<'a>(space: &Space, words: &'a [u8]) -> Option<(u8, u32, u8, &'a [u8])>
     requires { space.now.registers ≤ 256 }
-    ensures { IfSome result (λ x. (x.0 < space.now.registers) × (x.2 < space.now.registers) × (x.1 < 2 ^ 32)
-        × (codes "put " ++ words.now ≡ codes "put " ++ decimal x.0 ++ 32 ∷ decimal x.1 ++ 32 ∷ decimal x.2 ++ x.3.now)) }
+    ensures { IfSome result (λ x. LeadsPut space.now.registers (codes "put " ++ words.now) x.0 x.1 x.2 x.3.now) }
 {
     let (target, more) = number_and_space(words)?;
     let (index, last) = number_and_space(more)?;
@@ -54,7 +53,7 @@ fn put_words<'a>(space: &Space, words: &'a [u8]) -> Option<(u8, u32, u8, &'a [u8
 
 /// `put R I S`
 #[inline(always)]
-pub fn put<'a>(space: &Space, words: &'a [u8], command: &mut Request) -> Option<&'a [u8]>
+pub fn put<'a>(space: &Space, words: &'a [u8], command: &mut Request) -> Rest<'a>
     requires { space.now.registers ≤ 256 }
     ensures { IfSome result (λ rest. (areas : List AreaRule) → LeadsCommand space.now areas (codes "put " ++ words.now) command.new rest.now) }
 {
@@ -81,12 +80,10 @@ fn leading_small(high: u16, text: &[u8]) -> Option<(u16, &[u8])>
 }
 
 /// The register, the area, the code and the length of `make R AREA CODE N`, and the text after them
+type MakeWords<'a> = Option<(u8, u8, u16, u16, &'a [u8])>;
+
 #[inline(always)]
-fn make_words<'a>(
-    space: &Space,
-    areas: &Areas,
-    after_four: &'a [u8],
-) -> Option<(u8, u8, u16, u16, &'a [u8])>
+fn make_words<'a>(space: &Space, areas: &Areas, after_four: &'a [u8]) -> MakeWords<'a>
     requires { InLimits space.now areas.now }
     ensures { IfSome result (λ x. LeadsMake space.now areas.now (codes "make" ++ after_four.now) x.0 x.1 x.2 x.3 x.4.now) }
 {
@@ -107,7 +104,7 @@ pub fn make<'a>(
     areas: &Areas,
     after_four: &'a [u8],
     command: &mut Request,
-) -> Option<&'a [u8]>
+) -> Rest<'a>
     requires { InLimits space.now areas.now }
     ensures { IfSome result (λ rest. LeadsCommand space.now areas.now (codes "make" ++ after_four.now) command.new rest.now) }
 {
@@ -135,7 +132,7 @@ fn grow_words<'a>(space: &Space, after_four: &'a [u8]) -> Option<(u8, u16, &'a [
 
 /// `grow R N`
 #[inline(always)]
-pub fn grow<'a>(space: &Space, after_four: &'a [u8], command: &mut Request) -> Option<&'a [u8]>
+pub fn grow<'a>(space: &Space, after_four: &'a [u8], command: &mut Request) -> Rest<'a>
     requires { space.now.registers ≤ 256 }
     ensures { IfSome result (λ rest. (areas : List AreaRule) → LeadsCommand space.now areas (codes "grow" ++ after_four.now) command.new rest.now) }
 {
@@ -156,7 +153,7 @@ fn size_words<'a>(space: &Space, after_four: &'a [u8]) -> Option<(u8, &'a [u8])>
 
 /// `size R`
 #[inline(always)]
-pub fn size<'a>(space: &Space, after_four: &'a [u8], command: &mut Request) -> Option<&'a [u8]>
+pub fn size<'a>(space: &Space, after_four: &'a [u8], command: &mut Request) -> Rest<'a>
     requires { space.now.registers ≤ 256 }
     ensures { IfSome result (λ rest. (areas : List AreaRule) → LeadsCommand space.now areas (codes "size" ++ after_four.now) command.new rest.now) }
 {

@@ -7,7 +7,7 @@ ghost use Rattle.world_text.specs.declared.reading.reason.Reason.TheVariants.{Un
 ghost use Rattle.trace_text.specs.Commands.{pair_command, pair_in};
 ghost use Rattle.trace_text.specs.Pairs.{pair_read, pair_with};
 
-use crate::words::register;
+use crate::words::{Accepted, register};
 use lisp_graph::{CommandHead, Request};
 use world_text::Reason;
 
@@ -107,7 +107,7 @@ pub fn pair_command(
     count: usize,
     text: &[u8],
     command: &mut Request,
-) -> Result<(), Reason>
+) -> Accepted
     requires { registers ≤ 256 }
     ensures { Gives (λ _. command.new) result (pair_command registers head.now count (words_of text.now)) }
 {

@@ -21,6 +21,9 @@ pub enum LineKind {
     End,
 }
 
+/// What a line is, or why it is refused.
+pub type LineMeaning = Result<LineKind, Reason>;
+
 /// A line with this first word.
 #[inline(never)]
 #[tactic(auto, unfolding(crate::specs::Commands::line_in))]
@@ -31,7 +34,7 @@ fn line_in(
     count: usize,
     text: &[u8],
     command: &mut Request,
-) -> Result<LineKind, Reason>
+) -> LineMeaning
     requires in_range { InLimits space.now areas.now }
     requires count { count ≡ length (words_of text.now) + 1 }
     ensures { Gives (λ kind. said_by kind command.new) result (line_in space.now areas.now head.now count (words_of text.now)) }
@@ -62,12 +65,7 @@ fn is_frequent(line: &[u8], space: &Space, areas: &Areas, request: &mut Request)
 /// What the line means in a world with this space and these areas, or why it is refused. A command is written to `request`; the
 /// call allocates no memory.
 #[inline(always)]
-pub fn read_request(
-    line: &[u8],
-    space: &Space,
-    areas: &Areas,
-    request: &mut Request,
-) -> Result<LineKind, Reason>
+pub fn read_request(line: &[u8], space: &Space, areas: &Areas, request: &mut Request) -> LineMeaning
     requires { InLimits space.now areas.now }
     ensures value { Gives (λ kind. said_by kind request.new) result (trace_line space.now areas.now line.now) }
     ensures ok { AreNamed areas.now → IfOk result (λ kind. SaysLine space.now areas.now line.now (said_by kind request.new)) }
@@ -83,12 +81,7 @@ pub fn read_request(
 }
 
 /// The same, with the command as a value of its own, which is as large as one with the longest list.
-pub fn read_command(
-    line: &[u8],
-    space: &Space,
-    areas: &Areas,
-    command: &mut Command,
-) -> Result<LineKind, Reason>
+pub fn read_command(line: &[u8], space: &Space, areas: &Areas, command: &mut Command) -> LineMeaning
     requires { InLimits space.now areas.now }
     ensures value { Gives (λ kind. said_by kind command.new) result (trace_line space.now areas.now line.now) }
     ensures ok { AreNamed areas.now → IfOk result (λ kind. SaysLine space.now areas.now line.now (said_by kind command.new)) }

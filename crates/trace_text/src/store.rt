@@ -1,37 +1,22 @@
 //! The commands of the store, such as `flip` and `stats`.
 ghost use Rattle.std.specs.Prelude.{◌≤◌};
-ghost use Rattle.lisp_graph.specs.declared.command.Command.{Command as OneCommand};
 ghost use Rattle.world_text.specs.Words.{words_of};
 ghost use Rattle.world_text.specs.Next.{Gives};
-ghost use Rattle.trace_text.specs.Commands.{alone, flip_in, page_out_in, scavenge_in, store_command};
+ghost use Rattle.trace_text.specs.Commands.{flip_in, page_out_in, scavenge_in, store_command};
 
 use crate::flip::condemn;
 use crate::pair::pair_command;
-use crate::words::number;
+use crate::words::{Accepted, has_words, number};
 use lisp_graph::{CommandHead, Request};
 use store_word::Space;
-use world_text::Reason;
-
-/// A command that is one word.
-fn alone(count: usize) -> Result<(), Reason>
-    ensures { (command : OneCommand) → Gives (λ _. command) result (alone count command) }
-{
-    if count == 1 {
-        Ok(())
-    } else {
-        Err(Reason::WrongCount)
-    }
-}
 
 /// `flip full`, or `flip` with levels
 #[tactic(auto, unfolding(crate::specs::Commands::flip_in))]
-fn flip(levels: u8, count: usize, text: &[u8], command: &mut Request) -> Result<(), Reason>
+fn flip(levels: u8, count: usize, text: &[u8], command: &mut Request) -> Accepted
     requires { levels ≤ 6 }
     ensures { Gives (λ _. command.new) result (flip_in levels count (words_of text.now)) }
 {
-    if count != 2 {
-        return Err(Reason::WrongCount);
-    }
+    has_words(count, 2)?;
     let (what, _) = condemn(levels, text)?;
     command.set(CommandHead::Flip { what });
     Ok(())
@@ -39,12 +24,10 @@ fn flip(levels: u8, count: usize, text: &[u8], command: &mut Request) -> Result<
 
 /// `scavenge N`
 #[tactic(auto, unfolding(crate::specs::Commands::scavenge_in))]
-fn scavenge(count: usize, text: &[u8], command: &mut Request) -> Result<(), Reason>
+fn scavenge(count: usize, text: &[u8], command: &mut Request) -> Accepted
     ensures { Gives (λ _. command.new) result (scavenge_in count (words_of text.now)) }
 {
-    if count != 2 {
-        return Err(Reason::WrongCount);
-    }
+    has_words(count, 2)?;
     let (units, _) = number(text)?;
     command.set(CommandHead::Scavenge { count: units });
     Ok(())
@@ -52,12 +35,10 @@ fn scavenge(count: usize, text: &[u8], command: &mut Request) -> Result<(), Reas
 
 /// `page-out N`
 #[tactic(auto, unfolding(crate::specs::Commands::page_out_in))]
-fn page_out(count: usize, text: &[u8], command: &mut Request) -> Result<(), Reason>
+fn page_out(count: usize, text: &[u8], command: &mut Request) -> Accepted
     ensures { Gives (λ _. command.new) result (page_out_in count (words_of text.now)) }
 {
-    if count != 2 {
-        return Err(Reason::WrongCount);
-    }
+    has_words(count, 2)?;
     let (pages, _) = number(text)?;
     command.set(CommandHead::PageOut { count: pages });
     Ok(())
@@ -71,7 +52,7 @@ pub fn store_command(
     count: usize,
     text: &[u8],
     command: &mut Request,
-) -> Result<(), Reason>
+) -> Accepted
     requires registers { space.now.registers ≤ 256 }
     requires levels { space.now.levels ≤ 6 }
     ensures { Gives (λ _. command.new) result (store_command space.now head.now count (words_of text.now)) }
@@ -83,7 +64,7 @@ pub fn store_command(
         return scavenge(count, text, command);
     }
     if head == b"reclaim".as_slice() {
-        alone(count)?;
+        has_words(count, 1)?;
         command.set(CommandHead::Reclaim);
         return Ok(());
     }
@@ -91,12 +72,12 @@ pub fn store_command(
         return page_out(count, text, command);
     }
     if head == b"stats".as_slice() {
-        alone(count)?;
+        has_words(count, 1)?;
         command.set(CommandHead::Stats);
         return Ok(());
     }
     if head == b"dump".as_slice() {
-        alone(count)?;
+        has_words(count, 1)?;
         command.set(CommandHead::Dump);
         return Ok(());
     }

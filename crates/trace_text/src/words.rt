@@ -1,5 +1,5 @@
 //! The words of commands. Each call takes the first word of a text and returns what it means, with the text after it.
-ghost use Rattle.std.specs.Prelude.{◌≡◌, ◌≤◌, ◌<◌, ◌-◌, ◌^◌, length, IfOk};
+ghost use Rattle.std.specs.Prelude.{◌≡◌, ◌≤◌, ◌<◌, ◌-◌, ◌^◌, ◌==◌, if◌then◌else◌, length, Ok, Err, IfOk};
 ghost use Rattle.world_text.specs.Words.{words_of};
 ghost use Rattle.world_text.specs.Next.{Gives, a_number, a_register, an_area, each, next};
 ghost use Rattle.trace_text.specs.Commands.{a_plain_value};
@@ -7,6 +7,21 @@ ghost use Rattle.trace_text.specs.Items.{items_of};
 
 use lisp_graph::{Areas, Command, Request, Value};
 use world_text::{Reason, next_area, next_number, next_register, next_word, value_of};
+
+/// Whether a line is accepted, or why not.
+pub type Accepted = Result<(), Reason>;
+
+/// Accepts a line that has this many words.
+#[inline(always)]
+pub fn has_words(count: usize, wanted: usize) -> Accepted
+    ensures { result ≡ (if count == wanted then Ok tt else Err Reason.WrongCount) }
+{
+    if count == wanted {
+        Ok(())
+    } else {
+        Err(Reason::WrongCount)
+    }
+}
 
 /// A register, below the number of registers.
 pub fn register(registers: u32, text: &[u8]) -> Result<(u8, &[u8]), Reason>
@@ -57,13 +72,7 @@ pub fn plain_value(text: &[u8]) -> Result<(Value, &[u8]), Reason>
 }
 
 /// A list of all the words as registers.
-pub fn items(
-    registers: u32,
-    to: u8,
-    area: u8,
-    text: &[u8],
-    command: &mut Request,
-) -> Result<(), Reason>
+pub fn items(registers: u32, to: u8, area: u8, text: &[u8], command: &mut Request) -> Accepted
     requires registers { registers ≤ 256 }
     requires at_most { length (words_of text.now) ≤ 1024 }
     ensures items { Gives (λ _. items_of command.new) result (each (a_register registers) (words_of text.now)) }
