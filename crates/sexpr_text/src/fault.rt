@@ -36,6 +36,9 @@ pub enum SexprFault {
     NoMemory,
 }
 
+/// Whether a part of the text is accepted, or why not.
+pub type Parsed = Result<(), SexprFault>;
+
 impl From<NoMemory> for SexprFault {
     ghost from_gives = { λ _ fault. fault ≡ no_room };
 

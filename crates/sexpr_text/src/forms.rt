@@ -5,7 +5,7 @@ use crate::labels::Labels;
 use crate::made::{block_with, push_cons, push_hole, set_cons};
 use crate::piece_reader::PieceReader;
 use crate::task::ParseTask;
-use crate::{Bracket, SexprFault};
+use crate::{Bracket, Parsed, SexprFault};
 use lisp_graph::{Areas, Fields, NoMemory, Objects, Value};
 use std::alloc::Global;
 
@@ -74,7 +74,7 @@ impl<'a> Forms<'a> {
     }
 
     /// Reads the next cons of a list form, whose car is the next expression.
-    fn cons(&mut self, area: u8, bracket: Bracket) -> Result<(), SexprFault>
+    fn cons(&mut self, area: u8, bracket: Bracket) -> Parsed
         ensures ok { OnOk result (Steps (a_conses area bracket) self.old.tasks.items (state_of self.old) self.new.tasks.items (state_of self.new)) }
         ensures err { IfErr result (λ fault. Fails (a_conses area bracket) (state_of self.old) fault) }
     {
@@ -95,13 +95,7 @@ impl<'a> Forms<'a> {
     }
 
     /// Reads the cdr after the dot.
-    fn dotted(
-        &mut self,
-        name: u64,
-        area: u8,
-        bracket: Bracket,
-        car: Value,
-    ) -> Result<(), SexprFault>
+    fn dotted(&mut self, name: u64, area: u8, bracket: Bracket, car: Value) -> Parsed
         requires made { name < length self.old.objects }
         requires agrees { is_dot (token_at self.old.pieces) ≡ true }
         ensures ok { OnOk result (Steps (a_behind name area bracket car) self.old.tasks.items (state_of self.old) self.new.tasks.items (state_of self.new)) }
@@ -116,13 +110,7 @@ impl<'a> Forms<'a> {
     }
 
     /// Reads what follows the car of a cons.
-    fn behind(
-        &mut self,
-        name: u64,
-        area: u8,
-        bracket: Bracket,
-        car: Value,
-    ) -> Result<(), SexprFault>
+    fn behind(&mut self, name: u64, area: u8, bracket: Bracket, car: Value) -> Parsed
         requires made { name < length self.old.objects }
         ensures ok { OnOk result (Steps (a_behind name area bracket car) self.old.tasks.items (state_of self.old) self.new.tasks.items (state_of self.new)) }
         ensures err { IfErr result (λ fault. Fails (a_behind name area bracket car) (state_of self.old) fault) }
@@ -142,7 +130,7 @@ impl<'a> Forms<'a> {
     }
 
     /// Reads the closing bracket after a dotted cdr.
-    fn close(&mut self, bracket: Bracket) -> Result<(), SexprFault>
+    fn close(&mut self, bracket: Bracket) -> Parsed
         ensures ok { OnOk result (Steps (a_close bracket) self.old.tasks.items (state_of self.old) self.new.tasks.items (state_of self.new)) }
         ensures err { IfErr result (λ fault. Fails (a_close bracket) (state_of self.old) fault) }
     {
@@ -155,7 +143,7 @@ impl<'a> Forms<'a> {
     }
 
     /// Reads the next field of a block, or its closing bracket.
-    fn field(&mut self, name: u64, area: u8, code: u16, fields: Fields) -> Result<(), SexprFault>
+    fn field(&mut self, name: u64, area: u8, code: u16, fields: Fields) -> Parsed
         requires made { name < length self.old.objects }
         requires at_most { length fields ≤ 2047 }
         ensures ok { OnOk result (Steps (some_fields name area code fields) self.old.tasks.items (state_of self.old) self.new.tasks.items (state_of self.new)) }
@@ -185,7 +173,7 @@ impl<'a> Forms<'a> {
     }
 
     /// Does the next part of a task.
-    fn step(&mut self, task: ParseTask) -> Result<(), SexprFault>
+    fn step(&mut self, task: ParseTask) -> Parsed
         requires made { IsMade (length self.old.objects) task }
         ensures ok { OnOk result (Steps task self.old.tasks.items (state_of self.old) self.new.tasks.items (state_of self.new)) }
         ensures err { IfErr result (λ fault. Fails task (state_of self.old) fault) }
@@ -209,7 +197,7 @@ impl<'a> Forms<'a> {
     }
 
     /// Does all tasks.
-    fn run(&mut self) -> Result<(), SexprFault>
+    fn run(&mut self) -> Parsed
         requires made { All (IsMade (length self.old.objects)) self.old.tasks.items }
         ensures ok { OnOk result ((after : Result TaskState SexprFault) → AllLead self.old.tasks.items (Ok (state_of self.old)) after → Ok (state_of self.new) ≡ after) }
         ensures done { OnOk result (self.new.tasks.items ≡ []) }

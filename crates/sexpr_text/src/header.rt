@@ -7,7 +7,7 @@ ghost use Rattle.sexpr_text.specs.Heads.{IsHead, head_of};
 ghost use Rattle.sexpr_text.specs.Meaning.{behind_line, first_line, header, header_fault, header_line, second_place};
 
 use crate::pieces::is_feed;
-use crate::{SexprFault, SexprReason};
+use crate::{Parsed, SexprFault, SexprReason};
 use lisp_graph::World;
 use std::alloc::Global;
 use world_text::{Reason, Section, WorldBuilder, WorldFault};
@@ -46,7 +46,7 @@ fn header_fault(line: u64, fault: WorldFault) -> SexprFault
 }
 
 /// Takes a line of the header, which has at most 32,768 bytes.
-fn header_line(builder: &mut WorldBuilder, line: u64, text: &[u8]) -> Result<(), SexprFault>
+fn header_line(builder: &mut WorldBuilder, line: u64, text: &[u8]) -> Parsed
     ensures { MayGive (λ _. builder.new) result (header_line builder.old line text.now) }
 {
     if text.len() > 32_768 {

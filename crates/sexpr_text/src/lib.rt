@@ -18,5 +18,5 @@ mod token;
 
 pub use bracket::Bracket;
 pub use compile::compile_sexpr;
-pub use fault::{SexprFault, SexprReason};
+pub use fault::{Parsed, SexprFault, SexprReason};
 pub use token::{Piece, Token};

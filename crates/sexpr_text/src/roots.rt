@@ -9,7 +9,7 @@ ghost use Rattle.sexpr_text.specs.Rooting.{rooted};
 use crate::forms::Forms;
 use crate::grammar::{integer_at, misplaced, natural_below, refusal};
 use crate::piece_reader::PieceReader;
-use crate::{SexprFault, SexprReason, Token};
+use crate::{Parsed, SexprFault, SexprReason, Token};
 use lisp_graph::{Fields, NoMemory, Value};
 use std::alloc::Global;
 
@@ -56,7 +56,7 @@ fn register_at(registers: &Registers, pieces: &PieceReader) -> Result<usize, Sex
 
 /// Reads the register and the expression after `root`.
 #[tactic(auto, unfolding(crate::specs::Roots::root_at))]
-fn root(forms: &mut Forms, registers: &mut Registers) -> Result<(), SexprFault>
+fn root(forms: &mut Forms, registers: &mut Registers) -> Parsed
     requires at_most { length registers.old.roots ≤ 256 }
     requires idle { forms.old.tasks.items ≡ [] }
     ensures value { MayGive (λ _. (rooted registers.new forms.new, forms.new.pieces)) result (root_at (rooted registers.old forms.old) forms.old.pieces) }
@@ -73,7 +73,7 @@ fn root(forms: &mut Forms, registers: &mut Registers) -> Result<(), SexprFault>
 }
 
 /// Tests that the text ends here.
-fn ended(forms: &Forms) -> Result<(), SexprFault>
+fn ended(forms: &Forms) -> Parsed
     ensures { (r : Rooted) → MayGive (λ _. r) result (ended r forms.now.pieces) }
 {
     match forms.pieces.token() {
@@ -83,7 +83,7 @@ fn ended(forms: &Forms) -> Result<(), SexprFault>
 }
 
 /// Reads the roots up to the end of the text.
-pub fn roots(forms: &mut Forms, registers: &mut Registers) -> Result<(), SexprFault>
+pub fn roots(forms: &mut Forms, registers: &mut Registers) -> Parsed
     requires at_most { length registers.old.roots ≤ 256 }
     requires idle { forms.old.tasks.items ≡ [] }
     ensures { MayGive (λ _. rooted registers.new forms.new) result (roots_from (length forms.old.pieces) (rooted registers.old forms.old) forms.old.pieces) }
