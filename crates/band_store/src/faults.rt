@@ -62,14 +62,6 @@ impl From<NoMemory> for OpenFault {
     }
 }
 
-impl From<AllocError> for SaveFault {
-    ghost from_gives = { λ _ fault. fault ≡ save_memory };
-
-    fn from(_fault: AllocError) -> SaveFault {
-        SaveFault::NoMemory
-    }
-}
-
 impl From<NoMemory> for SaveFault {
     ghost from_gives = { λ _ fault. fault ≡ save_memory };
 

@@ -4,8 +4,8 @@ ghost use Rattle.band_store.specs.Format.{record_of};
 ghost use Rattle.band_store.specs.Gates.{HasNoHead, IsGate, IsHead};
 
 use byteorder::{BigEndian, ByteOrder};
-use lisp_graph::Name;
-use std::alloc::{AllocError, Global};
+use lisp_graph::{Name, NoMemory};
+use std::alloc::Global;
 
 /// The first bytes of a store.
 pub const HEADER: &[u8; 8] = b"LISPBND1";
@@ -66,7 +66,7 @@ pub fn read_gate(bytes: &[u8], left: u64) -> HeaderState
 }
 
 /// The bytes of a record after its gate, followed by a closed gate.
-pub fn record_bytes(alloc: Global, name: &[u8], text: &[u8]) -> Result<Vec<u8>, AllocError>
+pub fn record_bytes(alloc: Global, name: &[u8], text: &[u8]) -> Result<Vec<u8>, NoMemory>
     requires name { length name.now ≤ 16 }
     requires text { length text.now ≤ 1048576 }
     ensures { IfOk result (λ bytes. bytes.items ≡ record_of (record { name = name.now; text = text.now }) ++ 0 ∷ []) }
