@@ -4,4 +4,5 @@ pub mod LastLine
 pub mod BrokenLimits
 pub mod JudgedLines
 pub mod ReaderInvariant
+pub mod StatusCodes
 pub mod WorldLines

@@ -6,7 +6,7 @@ use Rattle.outer_ports.specs.Ports.{Gained, IsCut}
 use Rattle.outer_ports.proofs.Gains.{gained_more, gained_none, gained_nothing, gave_nothing}
 use Rattle.paged_machine.specs.lisp_meaning.State.{State}
 use Rattle.line_input.specs.declared.statuses.status.Status.{Status}
-use Rattle.line_input.specs.declared.statuses.status.Status.TheVariants.{Done, WriteFailed, Refused, ReadFailed, NoSpace, NoMemory, SwapFailed, Usage, NoObject}
+use Rattle.line_input.specs.declared.statuses.status.Status.TheVariants.{Done, WriteFailed, ReadFailed, SwapFailed}
 use Rattle.line_input.specs.declared.statuses.status.RunStop.{RunStop}
 use Rattle.line_input.specs.declared.statuses.status.RunStop.TheVariants.{Write, Tell}
 use Rattle.line_input.specs.declared.statuses.status.RunError.{RunError}
@@ -18,6 +18,7 @@ use Rattle.replay_run.specs.Outcome.{EndsWith, IsCaused, Wrote}
 use Rattle.replay_run.specs.Steps.{StopsAt}
 use Rattle.replay_run.proofs.Observations.{HasRun, HasStopped, demands_as, observes, wrote_ended}
 use Rattle.line_input.proofs.ReaderInvariant.{rest_of, told_input}
+use Rattle.line_input.proofs.StatusCodes.{same_status}
 
 -- Prefixes of two texts, one after another
 
@@ -172,34 +173,10 @@ read_failed held held' pending (Ok done) result finished is = elim finished [ in
 read_failed held held' pending (Err (Tell t)) result finished is = elim finished [ inl x ↦ ap (λ (t : RunError). Err (Tell t)) (read_at t (sym is ∙ x.0)) | inr x ↦ (let other = x.0 in absurd (cc (other, is))) ]
 
 pub failed_read : (status : Status) → code status ≡ 3 → status ≡ ReadFailed
-failed_read ReadFailed is = refl
-failed_read Done is = absurd (cc (is))
-failed_read WriteFailed is = absurd (cc (is))
-failed_read Refused is = absurd (cc (is))
-failed_read NoSpace is = absurd (cc (is))
-failed_read NoMemory is = absurd (cc (is))
-failed_read SwapFailed is = absurd (cc (is))
-failed_read Usage is = absurd (cc (is))
-failed_read NoObject is = absurd (cc (is))
+failed_read status is = same_status status ReadFailed is
 
 pub failed_write : (status : Status) → code status ≡ 1 → status ≡ WriteFailed
-failed_write WriteFailed is = refl
-failed_write ReadFailed is = absurd (cc (is))
-failed_write Done is = absurd (cc (is))
-failed_write Refused is = absurd (cc (is))
-failed_write NoSpace is = absurd (cc (is))
-failed_write NoMemory is = absurd (cc (is))
-failed_write SwapFailed is = absurd (cc (is))
-failed_write Usage is = absurd (cc (is))
-failed_write NoObject is = absurd (cc (is))
+failed_write status is = same_status status WriteFailed is
 
 pub failed_swap : (status : Status) → code status ≡ 6 → status ≡ SwapFailed
-failed_swap SwapFailed is = refl
-failed_swap ReadFailed is = absurd (cc (is))
-failed_swap Done is = absurd (cc (is))
-failed_swap WriteFailed is = absurd (cc (is))
-failed_swap Refused is = absurd (cc (is))
-failed_swap NoSpace is = absurd (cc (is))
-failed_swap NoMemory is = absurd (cc (is))
-failed_swap Usage is = absurd (cc (is))
-failed_swap NoObject is = absurd (cc (is))
+failed_swap status is = same_status status SwapFailed is
