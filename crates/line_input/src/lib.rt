@@ -6,11 +6,13 @@
 //! the lines of a world file (`specs/WorldFile`).
 #![tactic(auto)]
 
+mod arguments;
 mod judging;
 mod lines;
 mod statuses;
 mod world_file;
 
+pub use arguments::read_arguments;
 pub use judging::{InputReader, LineJudge, early_end, read_lines};
 pub use lines::{LineReader, LineSpan};
 pub use statuses::{RunError, RunStop, Status, finish, report, tell_line, world_trouble};

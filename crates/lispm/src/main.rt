@@ -3,35 +3,18 @@
 //! reported as in a run.
 #![tactic(auto)]
 
-use line_input::{RunError, report};
+use line_input::{read_arguments, report};
 use outer_ports::{SinkWrite, SourceRead, SwapMemory};
 use replay_run::{Machine, run_lispm};
+use std::io;
 use std::process::ExitCode;
-use std::{env, io};
-
-/// The arguments of the program.
-fn read_arguments(rt: &HostRuntime) -> io::Result<Vec<String>> {
-    let mut words = Vec::new(rt.alloc());
-    for word in env::args(rt)?.skip(1) {
-        words.push(word)?;
-    }
-    Ok(words)
-}
-
-/// What is reported if the arguments can't be read: one of them isn't UTF-8, or memory ran out.
-fn argument_trouble(fault: &io::Error) -> RunError {
-    match fault.kind() {
-        io::ErrorKind::OutOfMemory => RunError::Memory,
-        _ => RunError::Usage,
-    }
-}
 
 fn main(rt: HostRuntime) -> ExitCode {
     let mut source = SourceRead::new(rt.reader());
     let mut sink = SinkWrite::new(io::writer(&rt));
     let words = match read_arguments(&rt) {
         Ok(words) => words,
-        Err(fault) => return ExitCode::from(report(&mut sink, &argument_trouble(&fault)).code()),
+        Err(trouble) => return ExitCode::from(report(&mut sink, &trouble).code()),
     };
     let mut machine = Machine::idle(SwapMemory::new(rt.alloc(), 0));
     let status = run_lispm(rt.alloc(), &words, &mut source, &mut sink, &mut machine);

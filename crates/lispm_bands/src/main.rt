@@ -2,27 +2,11 @@
 //! is a usage error, as any other argument is; if memory runs out while the arguments are read, it is reported as in a run.
 #![tactic(auto)]
 
-use band_run::{RunError, new_disk, report, run_bands};
+use band_run::{new_disk, run_bands};
+use line_input::{RunError, read_arguments, report};
 use outer_ports::{SinkWrite, SourceRead};
+use std::io;
 use std::process::ExitCode;
-use std::{env, io};
-
-/// The arguments of the program.
-fn read_arguments(rt: &HostRuntime) -> io::Result<Vec<String>> {
-    let mut words = Vec::new(rt.alloc());
-    for word in env::args(rt)?.skip(1) {
-        words.push(word)?;
-    }
-    Ok(words)
-}
-
-/// What is reported if the arguments can't be read: one of them isn't UTF-8, or memory ran out.
-fn argument_trouble(fault: &io::Error) -> RunError {
-    match fault.kind() {
-        io::ErrorKind::OutOfMemory => RunError::Memory,
-        _ => RunError::Usage,
-    }
-}
 
 fn main(rt: HostRuntime) -> ExitCode {
     let mut source = SourceRead::new(rt.reader());
@@ -33,7 +17,7 @@ fn main(rt: HostRuntime) -> ExitCode {
     };
     let words = match read_arguments(&rt) {
         Ok(words) => words,
-        Err(fault) => return ExitCode::from(report(&mut sink, &argument_trouble(&fault)).code()),
+        Err(trouble) => return ExitCode::from(report(&mut sink, &trouble).code()),
     };
     let status = run_bands(rt.alloc(), &words, &mut source, &mut sink, &mut disk);
     ExitCode::from(status)

@@ -3,34 +3,17 @@
 #![tactic(auto)]
 
 use inside_run::{fail_number, run_inside};
-use line_input::{RunError, report};
+use line_input::{read_arguments, report};
 use outer_ports::{SinkWrite, SourceRead, SwapMemory};
+use std::io;
 use std::process::ExitCode;
-use std::{env, io};
-
-/// The arguments of the program.
-fn read_arguments(rt: &HostRuntime) -> io::Result<Vec<String>> {
-    let mut words = Vec::new(rt.alloc());
-    for word in env::args(rt)?.skip(1) {
-        words.push(word)?;
-    }
-    Ok(words)
-}
-
-/// What is reported if the arguments can't be read: one of them isn't UTF-8, or memory ran out.
-fn argument_trouble(fault: &io::Error) -> RunError {
-    match fault.kind() {
-        io::ErrorKind::OutOfMemory => RunError::Memory,
-        _ => RunError::Usage,
-    }
-}
 
 fn main(rt: HostRuntime) -> ExitCode {
     let mut source = SourceRead::new(rt.reader());
     let mut sink = SinkWrite::new(io::writer(&rt));
     let words = match read_arguments(&rt) {
         Ok(words) => words,
-        Err(fault) => return ExitCode::from(report(&mut sink, &argument_trouble(&fault)).code()),
+        Err(trouble) => return ExitCode::from(report(&mut sink, &trouble).code()),
     };
     let fail = fail_number(&words).unwrap_or(0);
     let device = SwapMemory::new(rt.alloc(), fail);
