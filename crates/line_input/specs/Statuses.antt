@@ -60,42 +60,33 @@ outcome_status (Err (Tell trouble)) = status_of trouble
 
 -- Error lines
 
--- the words of a reason that concerns a single word of a line, without its number
-abbrev pub item_words : Reason → List ℕ
-item_words (R.NoObject object) = codes "no object"
-item_words R.UnknownCommand = codes "unknown command"
-item_words R.BadNumber = codes "bad number"
-item_words R.BadName = codes "bad name"
-item_words R.BadKind = codes "bad kind"
-item_words R.NoArea = codes "no area"
-item_words R.NoRegister = codes "no register"
-item_words R.BadValue = codes "bad value"
-item_words R.BadLevels = codes "bad levels"
-item_words _ = []
-
--- the words of a reason that concerns a line: how many words or what else it has, or one of its words
-abbrev pub line_words : Reason → List ℕ
-line_words R.BadLine = codes "bad line"
-line_words R.WrongCount = codes "wrong count"
-line_words R.TooManyAreas = codes "too many areas"
-line_words R.TooManyFields = codes "too many fields"
-line_words R.TooManyItems = codes "too many items"
-line_words R.AreaTwice = codes "area twice"
-line_words R.RegisterTwice = codes "register twice"
-line_words reason = item_words reason
-
--- the words of a reason, without its number: the reason concerns the input, or which line is next in it, or a line
+-- the words of a reason, without its number
 abbrev pub fixed_words : Reason → List ℕ
 fixed_words R.TextAfterEnd = codes "text after end"
 fixed_words R.InputTooLong = codes "input too long"
 fixed_words R.LineTooLong = codes "line too long"
 fixed_words R.NoEnd = codes "no end"
 fixed_words R.NotAWorld = codes "not a world"
+fixed_words R.BadLine = codes "bad line"
 fixed_words R.SpaceExpected = codes "space expected"
 fixed_words R.AreaExpected = codes "area expected"
 fixed_words R.CapacityExpected = codes "capacity expected"
 fixed_words R.UnexpectedLine = codes "unexpected line"
-fixed_words reason = line_words reason
+fixed_words R.UnknownCommand = codes "unknown command"
+fixed_words (R.NoObject object) = codes "no object"
+fixed_words R.TooManyAreas = codes "too many areas"
+fixed_words R.TooManyFields = codes "too many fields"
+fixed_words R.TooManyItems = codes "too many items"
+fixed_words R.WrongCount = codes "wrong count"
+fixed_words R.BadNumber = codes "bad number"
+fixed_words R.BadName = codes "bad name"
+fixed_words R.AreaTwice = codes "area twice"
+fixed_words R.BadKind = codes "bad kind"
+fixed_words R.NoArea = codes "no area"
+fixed_words R.NoRegister = codes "no register"
+fixed_words R.RegisterTwice = codes "register twice"
+fixed_words R.BadValue = codes "bad value"
+fixed_words R.BadLevels = codes "bad levels"
 
 -- the words of a reason
 abbrev pub reason_words : Reason → List ℕ
