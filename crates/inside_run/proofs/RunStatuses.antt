@@ -1,13 +1,14 @@
 -- What follows from a run that shows its machine, by its status.
-use Rattle.std.proofs.Common.{◌≡◌, ◌⊎◌, inl, inr, ℕ, ◌-◌, ◌<◌, ◌≤◌, List, ◌++◌, Option, Some, refl, sym, ap, ◌∙◌, subst}
-use Rattle.std.specs.Prelude.{◌==◌, if◌then◌else◌, Bool, is_some}
+use Rattle.std.proofs.Common.{◌≡◌, ◌⊎◌, inl, inr, ℕ, ◌-◌, ◌<◌, ◌≤◌, List, ◌++◌, Option, Some, sym, ap, ◌∙◌, subst}
+use Rattle.std.specs.Prelude.{is_some}
 use Rattle.std.specs.List.{All}
 use Rattle.std.proofs.lemmas.List.{append-nil}
 use Rattle.outer_ports.proofs.Gains.{gained_as}
 use Rattle.paged_machine.specs.lisp_heap.HeapView.{HeapView}
 use Rattle.line_input.specs.declared.statuses.status.Status.{Status}
-use Rattle.line_input.specs.declared.statuses.status.Status.TheVariants.{Done, WriteFailed, Refused, ReadFailed, NoSpace, NoMemory, SwapFailed, Usage, NoObject}
+use Rattle.line_input.specs.declared.statuses.status.Status.TheVariants.{NoMemory, Usage}
 use Rattle.line_input.specs.declared.statuses.status.RunError.{RunError}
+use Rattle.line_input.proofs.StatusCodes.{same_status}
 use Rattle.line_input.specs.Statuses.{code, status_of}
 use Rattle.input_verdict.specs.Verdict.{Broken, Whole, verdict}
 use Rattle.paged_machine.specs.Holding.{HasReading}
@@ -34,28 +35,6 @@ not_usage status o is wrote = (subst (λ x. Wrote x o) is wrote).demands
 pub shows_from : {left left' : Option (List ℕ)} {last : ℕ} {held held' : List ℕ → Type 0} {heap : Option HeapView} {source_rose : Type 0} {status : Status} (before before' now : ℕ)
     → before ≡ before' → Shows left left' last held held' heap source_rose (now - before) status → Shows left left' last held held' heap source_rose (now - before') status
 shows_from {left} {left'} {last} {held} {held'} {heap} {source_rose} {status} before before' now is s = subst (λ n. Shows left left' last held held' heap source_rose (now - n) status) is s
-
--- the status with this code
-status_at : ℕ → Status
-status_at n =
-    if n == 0 then Done else if n == 1 then WriteFailed else if n == 2 then Refused else if n == 3 then ReadFailed else if n == 4 then NoSpace
-    else if n == 5 then NoMemory else if n == 6 then SwapFailed else if n == 7 then Usage else NoObject
-
-at_code : (status : Status) → status_at (code status) ≡ status
-unfolding status_at
-at_code Done = refl
-at_code WriteFailed = refl
-at_code Refused = refl
-at_code ReadFailed = refl
-at_code NoSpace = refl
-at_code NoMemory = refl
-at_code SwapFailed = refl
-at_code Usage = refl
-at_code NoObject = refl
-
--- no two statuses have the same code
-pub same_status : (a b : Status) → code a ≡ code b → a ≡ b
-same_status a b is = sym (at_code a) ∙ ap status_at is ∙ at_code b
 
 pub never_usage : {left left' : Option (List ℕ)} {last : ℕ} {held held' : List ℕ → Type 0} {heap : Option HeapView} {source_rose : Type 0} {rose : ℕ} (result : ℕ) (status : Status)
     → result ≡ code status → Shows left left' last held held' heap source_rose rose status → result ≡ 7 → ⊥

@@ -1,6 +1,7 @@
 use Rattle.std.proofs.Common.{◌∙◌, arith, sym}
 use Rattle.line_input.specs.declared.statuses.status.Status.TheVariants.{ReadFailed, SwapFailed, WriteFailed}
-use Rattle.inside_run.proofs.RunStatuses.{breaks_off_shown, completes_shown, early_shown, never_usage, same_status, shows_from}
+use Rattle.line_input.proofs.StatusCodes.{same_status}
+use Rattle.inside_run.proofs.RunStatuses.{breaks_off_shown, completes_shown, early_shown, never_usage, shows_from}
 use Rattle.inside_run.proofs.top.run_inside.Goals as goal
 
 pub returns-clause-ran : goal.returns-clause-ran
