@@ -59,9 +59,6 @@ header_content (HeaderForward at) code count e = absurd (let x : None ≡ Some (
 header_content (GcForward at) code count e = absurd (let x : None ≡ Some (code, count) = e in cc)
 header_content (Fixnum i) code count e = absurd (let x : None ≡ Some (code, count) = e in cc)
 
-pub header_parts : (content : Content) (code count : ℕ) → content ≡ Header code count → parts_of content ≡ None → ⊥
-header_parts content code count is none = let x : Some (code, count) ≡ None = ap parts_of (sym is) ∙ none in cc
-
 module _ (m : Memory.Store) (t : Table) (k : RoleMap) (top : ℕ) (areas : List AreaRule) (s : Store) (aim : Condemned) (on : GroundInvariant m t k top areas s aim) (at n : ℕ) (named : names_as AsBlock (k.role at) ≡ Some n) where
   -- the block begins at its place
   pub head_role : k.role (k.at n) ≡ Head n

@@ -1,0 +1,60 @@
+"""What became of the clauses of public contracts between two versions of the code, for tests/house."""
+import re
+from typing import Dict, Iterator, List, NamedTuple, Sequence, Tuple
+
+HEAD = re.compile(r"(?:^| )(requires|ensures|invariant)(?: (\w+))? \{")
+# The sizes that have names in store_word/src/sizes.rt: a clause with the name says the same as one with the number.
+SIZES = {"PAGE_WORDS": "256", "PAGE_LEN": "256", "LAST_OFFSET": "255", "REGION_WORDS": "4096", "REGION_LEN": "4096", "REGION_PAGES": "16",
+         "MAX_OBJECT_WORDS": "2048", "MAX_MOVED_WORDS": "4096"}
+
+
+class Clause(NamedTuple):
+    """A clause: its function, as `CRATE FUNCTION`, its kind, its name, and its statement with sizes as numbers."""
+    place: str
+    kind: str
+    name: str
+    text: str
+
+
+def numbered(text: str) -> str:
+    """The text with numbers in place of the names of sizes."""
+    return re.sub(r"\b[A-Z_]{8,}\b", lambda found: SIZES.get(found[0], found[0]), text)
+
+
+def clauses_of(place: str, contract: str) -> Iterator[Clause]:
+    """The clauses of a contract, whose text is one line."""
+    heads = list(HEAD.finditer(contract))
+    ends = [head.start() for head in heads[1:]] + [len(contract)]
+    for head, end in zip(heads, ends):
+        text = contract[head.end():end].strip().rstrip("}").strip()
+        yield Clause(place, head[1], head[2] or "", numbered(text))
+
+
+def by_place(contracts: Sequence[Tuple[str, str]]) -> Dict[str, List[Clause]]:
+    """For each function, its clauses. Functions of one name in a crate are taken together."""
+    found: Dict[str, List[Clause]] = {}
+    for place, contract in contracts:
+        found.setdefault(place, []).extend(clauses_of(place, contract))
+    return found
+
+
+def fate(clause: Clause, new: Dict[str, List[Clause]]) -> str:
+    """Where a clause is now: "" if it is there word for word, under its name or another."""
+    here = new.get(clause.place)
+    if here is None:
+        return "no function of this name"
+    same = [one for one in here if (one.kind, one.text) == (clause.kind, clause.text)]
+    if not same:
+        return "other words: " + ", ".join(f"{one.kind} {one.name}".strip() for one in here if one.kind == clause.kind)
+    return "" if any(one.name == clause.name for one in same) else f"is now named {same[0].name or 'nothing'}"
+
+
+def table(old: Sequence[Tuple[str, str]], new: Sequence[Tuple[str, str]]) -> Iterator[str]:
+    """A line for each clause that isn't there word for word under its name, and the sum of all."""
+    before, after = by_place(old), by_place(new)
+    every = [clause for clauses in before.values() for clause in clauses]
+    fates = [(clause, fate(clause, after)) for clause in every]
+    for clause, now in fates:
+        if now:
+            yield f"{clause.place} {clause.kind} {clause.name}: {now}\n    {clause.text}"
+    yield f"{len(every)} clauses, {sum(not now for _, now in fates)} of them as before"
