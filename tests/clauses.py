@@ -1,11 +1,17 @@
 """What became of the clauses of public contracts between two versions of the code, for tests/house."""
 import re
+from collections import Counter
 from typing import Dict, Iterator, List, NamedTuple, Sequence, Tuple
 
 HEAD = re.compile(r"(?:^| )(requires|ensures|invariant)(?: (\w+))? \{")
 # The sizes that have names in store_word/src/sizes.rt: a clause with the name says the same as one with the number.
 SIZES = {"PAGE_WORDS": "256", "PAGE_LEN": "256", "LAST_OFFSET": "255", "REGION_WORDS": "4096", "REGION_LEN": "4096", "REGION_PAGES": "16",
          "MAX_OBJECT_WORDS": "2048", "MAX_MOVED_WORDS": "4096"}
+
+
+# How the fate of a clause begins, and what the sums call it.
+FATES = {"now named": "with another name", "now in": "in a definition of specs/", "other words": "in other words",
+         "no function": "of functions that are gone", "": "as before"}
 
 
 class Clause(NamedTuple):
@@ -26,7 +32,7 @@ def clauses_of(place: str, contract: str) -> Iterator[Clause]:
     heads = list(HEAD.finditer(contract))
     ends = [head.start() for head in heads[1:]] + [len(contract)]
     for head, end in zip(heads, ends):
-        text = contract[head.end():end].strip().rstrip("}").strip()
+        text = re.sub(r"\s*\}(\s*\{\s*\}?)?\s*$", "", contract[head.end():end].strip())
         yield Clause(place, head[1], head[2] or "", numbered(text))
 
 
@@ -38,23 +44,28 @@ def by_place(contracts: Sequence[Tuple[str, str]]) -> Dict[str, List[Clause]]:
     return found
 
 
-def fate(clause: Clause, new: Dict[str, List[Clause]]) -> str:
+def fate(clause: Clause, new: Dict[str, List[Clause]], specs: Dict[str, str]) -> str:
     """Where a clause is now: "" if it is there word for word, under its name or another."""
     here = new.get(clause.place)
     if here is None:
         return "no function of this name"
     same = [one for one in here if (one.kind, one.text) == (clause.kind, clause.text)]
-    if not same:
-        return "other words: " + ", ".join(f"{one.kind} {one.name}".strip() for one in here if one.kind == clause.kind)
-    return "" if any(one.name == clause.name for one in same) else f"is now named {same[0].name or 'nothing'}"
+    if any(one.name == clause.name for one in same):
+        return ""
+    if same:
+        return f"now named {same[0].name or 'nothing'}"
+    if clause.text in specs.get(clause.place.split()[0], ""):
+        return "now in a definition of specs/"
+    return "other words: " + ", ".join(f"{one.kind} {one.name}".strip() for one in here if one.kind == clause.kind)
 
 
-def table(old: Sequence[Tuple[str, str]], new: Sequence[Tuple[str, str]]) -> Iterator[str]:
-    """A line for each clause that isn't there word for word under its name, and the sum of all."""
+def table(old: Sequence[Tuple[str, str]], new: Sequence[Tuple[str, str]], specs: Dict[str, str]) -> Iterator[str]:
+    """A line for each clause that isn't there word for word under its name, and the sums. `specs` has the text of each crate's specs/."""
     before, after = by_place(old), by_place(new)
-    every = [clause for clauses in before.values() for clause in clauses]
-    fates = [(clause, fate(clause, after)) for clause in every]
+    plain = {crate: numbered(re.sub(r"\s+", " ", text)) for crate, text in specs.items()}
+    fates = [(clause, fate(clause, after, plain)) for clauses in before.values() for clause in clauses]
     for clause, now in fates:
         if now:
             yield f"{clause.place} {clause.kind} {clause.name}: {now}\n    {clause.text}"
-    yield f"{len(every)} clauses, {sum(not now for _, now in fates)} of them as before"
+    sums = Counter(next(words for words in FATES if now.startswith(words)) for _, now in fates)
+    yield f"{len(fates)} clauses: " + ", ".join(f"{sums[words]} {said}" for words, said in FATES.items())

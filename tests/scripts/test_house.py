@@ -37,6 +37,8 @@ module _ {A B : Type 0} (a : A) where
 abbrev pub Private : ℕ → ℕ → ℕ → ℕ → ℕ → ℕ → Type 0
 Private a b c d e f = a ≡ b
 """
+OLD = ["same { a < 256 }", "value { a ≡ 1 }", "small { a < 9 }", "even { a ≡ 2 }"]
+NEW = ["same { a < PAGE_WORDS }", "result { a ≡ 1 }", "odd { a ≡ 3 }"]
 VIEWS = """-- Restated.
 use Rattle.low.specs.Low as low
 
@@ -77,6 +79,10 @@ pub trait Three {
 class House(Tree):
     """Which definitions have many parameters, and which of these give a reason."""
 
+    def copy_house(self) -> None:
+        for name in ("house", "parameters.py", "clauses.py"):
+            self.copy(f"tests/{name}")
+
     def listed(self) -> List[Tuple[int, str, bool]]:
         """The parameters and the name of each definition that is listed, and whether it has a reason."""
         ended = self.run_words("tests/house", "--parameters")
@@ -88,10 +94,23 @@ class House(Tree):
 
     def test_parameters(self) -> None:
         """Implicit ones and those of a module count, those of members don't; a restated definition gives the reason."""
-        for name in ("house", "parameters.py"):
-            self.copy(f"tests/{name}")
+        self.copy_house()
         for path, text in ("specs/Low", SPECS), ("specs/Views", VIEWS):
             self.write(f"crates/low/{path}.antt", text)
         self.write("crates/low/src/main.rt", SOURCE)
         self.assertEqual(self.listed(), [(6, "Right", True), (6, "Without", False), (7, "Wrong", False), (8, "Restated", True), (6, "inner", False),
                                          (6, "Restated", True)])
+
+    def test_since(self) -> None:
+        """A clause is as it was with a size's name for its number; others are renamed, are in specs/, or have other words."""
+        self.copy_house()
+        self.write("crates/low/src/main.rt", "pub fn one(a: u8)" + "".join(f"\n    ensures {clause}" for clause in OLD) + "\n{}\n")
+        for words in ("init -q", "add -A", "-c user.name=a -c user.email=a commit -qm a"):
+            self.assertEqual(self.run_words("commands/git", *words.split()).status, 0)
+        self.write("crates/low/src/main.rt", "pub fn one(a: u8)" + "".join(f"\n    ensures {clause}" for clause in NEW) + "\n{}\n")
+        self.write("crates/low/specs/Low.antt", "pub record Low : Type 0 where\n  pub small :\n    a < 9\n")
+        ended = self.run_words("tests/house", "--since", "HEAD")
+        self.assertEqual((ended.status, ended.err), (0, ""))
+        self.assertEqual(ended.out, "low one ensures value: now named result\n    a ≡ 1\nlow one ensures small: now in a definition of specs/\n    a < 9\n"
+                         "low one ensures even: other words: ensures same, ensures result, ensures odd\n    a ≡ 2\n"
+                         "4 clauses: 1 with another name, 1 in a definition of specs/, 1 in other words, 0 of functions that are gone, 1 as before\n")
