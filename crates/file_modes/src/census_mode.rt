@@ -19,6 +19,7 @@ fn reached_of(alloc: Global, world: &World) -> Result<CensusRows, NoMemory>
     match reached(alloc, &mut WorldWalk::new(world), &world.areas) {
         Ok(rows) => Ok(rows),
         Err(DumpFault::NoMemory) => Err(NoMemory),
+        // A walk over a world in memory makes no page call.
         Err(DumpFault::Swap(_)) => unreachable!(),
     }
 }

@@ -19,6 +19,7 @@ pub fn dumped(alloc: Global, world: &World) -> Result<Text, NoMemory>
     ) {
         Ok(text) => Ok(text),
         Err(DumpFault::NoMemory) => Err(NoMemory),
+        // A walk over a world in memory makes no page call.
         Err(DumpFault::Swap(_)) => unreachable!(),
     }
 }

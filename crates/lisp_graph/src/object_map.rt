@@ -41,6 +41,7 @@ fn write_field(place: &mut Object, index: usize, value: Value)
 {
     match &mut place.body {
         Body::Block { fields, .. } => fields.set(index, value),
+        // Only a block has fields.
         Body::Cons { .. } => unreachable!(),
     }
 }

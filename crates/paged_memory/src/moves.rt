@@ -209,6 +209,7 @@ impl Pager {
         ensures stopped { OnErr result (StopsCalls (paging_of self.old) page (D.calls swap.old) (D.calls swap.new)) }
     {
         match self.places.place_of(page) {
+            // The page is absent, as the contract requires.
             PagePlace::InFrame(_) => unreachable!(),
             PagePlace::Empty => {
                 let free = self.make_room(swap)?;

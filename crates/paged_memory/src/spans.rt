@@ -23,6 +23,7 @@ impl Pager {
         ensures sound { IsPool self.new.pool }
     {
         let PagePlace::InFrame(frame) = self.places.place_of(page) else {
+            // A resident page is in a frame.
             unreachable!()
         };
         self.pool.touch(frame);

@@ -43,6 +43,7 @@ impl Store {
             } => Ok(self.put(*target, *index, *from)),
             Command::Size { of } => Ok(self.size(*of)),
             Command::Eq { left, right } => Ok(self.eq(*left, *right)),
+            // The other commands concern memory, not the graph: they have no effect, and the contract excludes them.
             _ => unreachable!(),
         }
     }
