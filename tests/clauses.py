@@ -10,8 +10,8 @@ SIZES = {"PAGE_WORDS": "256", "PAGE_LEN": "256", "LAST_OFFSET": "255", "REGION_W
 
 
 # How the fate of a clause begins, and what the sums call it.
-FATES = {"now named": "with another name", "now in": "in a definition of specs/", "other words": "in other words",
-         "no function": "of functions that are gone", "": "as before"}
+FATES = {"now named": "with another name", "now in": "in a definition of specs/", "changed": "changed",
+         "no function": "of functions that are gone", "": "unchanged"}
 
 
 class Clause(NamedTuple):
@@ -45,7 +45,7 @@ def by_place(contracts: Sequence[Tuple[str, str]]) -> Dict[str, List[Clause]]:
 
 
 def fate(clause: Clause, new: Dict[str, List[Clause]], specs: Dict[str, str]) -> str:
-    """Where a clause is now: "" if it is there word for word, under its name or another."""
+    """What became of a clause: "" if it is there word for word under its name."""
     here = new.get(clause.place)
     if here is None:
         return "no function of this name"
@@ -56,7 +56,7 @@ def fate(clause: Clause, new: Dict[str, List[Clause]], specs: Dict[str, str]) ->
         return f"now named {same[0].name or 'nothing'}"
     if clause.text in specs.get(clause.place.split()[0], ""):
         return "now in a definition of specs/"
-    return "other words: " + ", ".join(f"{one.kind} {one.name}".strip() for one in here if one.kind == clause.kind)
+    return "changed: " + ", ".join(f"{one.kind} {one.name}".strip() for one in here if one.kind == clause.kind)
 
 
 def table(old: Sequence[Tuple[str, str]], new: Sequence[Tuple[str, str]], specs: Dict[str, str]) -> Iterator[str]:

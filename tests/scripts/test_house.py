@@ -102,7 +102,7 @@ class House(Tree):
                                          (6, "Restated", True)])
 
     def test_since(self) -> None:
-        """A clause is as it was with a size's name for its number; others are renamed, are in specs/, or have other words."""
+        """A clause is unchanged with a size's name for its number; others are renamed, are in specs/, or changed."""
         self.copy_house()
         self.write("crates/low/src/main.rt", "pub fn one(a: u8)" + "".join(f"\n    ensures {clause}" for clause in OLD) + "\n{}\n")
         for words in ("init -q", "add -A", "-c user.name=a -c user.email=a commit -qm a"):
@@ -112,5 +112,5 @@ class House(Tree):
         ended = self.run_words("tests/house", "--since", "HEAD")
         self.assertEqual((ended.status, ended.err), (0, ""))
         self.assertEqual(ended.out, "low one ensures value: now named result\n    a ≡ 1\nlow one ensures small: now in a definition of specs/\n    a < 9\n"
-                         "low one ensures even: other words: ensures same, ensures result, ensures odd\n    a ≡ 2\n"
-                         "4 clauses: 1 with another name, 1 in a definition of specs/, 1 in other words, 0 of functions that are gone, 1 as before\n")
+                         "low one ensures even: changed: ensures same, ensures result, ensures odd\n    a ≡ 2\n"
+                         "4 clauses: 1 with another name, 1 in a definition of specs/, 1 changed, 0 of functions that are gone, 1 unchanged\n")

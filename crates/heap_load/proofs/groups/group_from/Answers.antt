@@ -4,7 +4,7 @@ use Rattle.heap_load.specs.Loading.{AreLinked}
 use Rattle.heap_load.proofs.groups.group_from.Goals.{After-skip_links-at, After-is_last}
 use Rattle.heap_load.proofs.groups.group_from.Goals as goal
 
--- the objects up to where the search ended refer each to the next
+-- the objects before the end of the search refer each to the next
 linked : (c : After-skip_links-at) → AreLinked c.args.objects.now c.args.number c.skip_links-at.result
 linked c = stays_linked c.args.objects.now c.args.number c.args.linked.now c.max-from.result c.skip_links-at.result _ c.requires.known c.area_of-area.ensures c.max-from.ensures c.skip_links-at.ensures.before
 
