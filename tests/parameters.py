@@ -43,6 +43,11 @@ def names_in(text: str) -> Names:
     return found
 
 
+def is_specs(folder: str) -> bool:
+    """Whether a folder has definitions: it is a specs/ or below one, and not a copy that a build has made in out/."""
+    return "/specs" in folder and "/out/" not in folder
+
+
 def cut(text: str, mark: str) -> List[str]:
     """The parts of a text between the marks that are in no brackets."""
     depth, parts = 0, [""]
@@ -117,7 +122,7 @@ class Specs:
         self.files: Dict[str, File] = {}
         self.homes: Dict[Tuple[str, str], List[str]] = {}
         for folder, _, names in sorted(os.walk(os.path.join(top, "crates"))):
-            paths = [os.path.join(folder, name) for name in sorted(names) if name.endswith(".antt") and "/specs" in folder]
+            paths = [os.path.join(folder, name) for name in sorted(names) if name.endswith(".antt") and is_specs(folder)]
             self.files.update((path, read_file(path)) for path in paths)
         for path, file in self.files.items():
             for name in list(file.definitions) + list(file.imports):

@@ -98,6 +98,7 @@ class House(Tree):
         for path, text in ("specs/Low", SPECS), ("specs/Views", VIEWS):
             self.write(f"crates/low/{path}.antt", text)
         self.write("crates/low/src/main.rt", SOURCE)
+        self.write("crates/low/out/rlib/low.rlib/specs/Low.antt", SPECS.replace("Without", "Copied"))
         self.assertEqual(self.listed(), [(6, "Right", True), (6, "Without", False), (7, "Wrong", False), (8, "Restated", True), (6, "inner", False),
                                          (6, "Restated", True)])
 

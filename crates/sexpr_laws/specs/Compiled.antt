@@ -43,7 +43,7 @@ pub record IsCompiledBack (text dump : List ℕ) : Type 0 where
 abbrev pub PrintsAreCompiledBack : World → Type 0
 PrintsAreCompiledBack world = (text dump : List ℕ) → IsPrint world text → IsDump (keyed (opening world)) world.space world.areas dump → IsCompiledBack text dump
 
--- So it is for each world that the lines of a world file, or those of an input before `trace`, mean; for each accepted world file; and for each accepted world whose integers fit their types.
+-- A print is compiled back to its world if the world is what the lines of a world file, or those of an input before `trace`, mean; if a world file that is accepted means it; or if it is an accepted world whose integers fit their types.
 pub record EachPrintIsCompiledBack : Type 0 where
   pub files : (file : Bool) (lines : List (List ℕ)) (world : World) → SayWorld file lines world → PrintsAreCompiledBack world
   pub accepted : (file : List ℕ) (world : World) → verdict file ≡ Ok world → PrintsAreCompiledBack world

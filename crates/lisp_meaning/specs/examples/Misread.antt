@@ -195,7 +195,7 @@ pub record WorkIsOwed : Type 0 where
 
 -- The law
 
--- Each image that is wrong in one point represents no state, and the image beside it is right in that point.
+-- Each of these images is wrong in one point and represents no state; the image beside it is right in that point.
 pub record RefusedImages : Type 0 where
   pub words_apart : WordsApart
   pub chain_is_full : ChainIsFull

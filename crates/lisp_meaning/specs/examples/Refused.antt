@@ -314,7 +314,7 @@ pub record RefusedExamples : Type 0 where
   pub husk_is_short : HuskIsShort
   pub left_is_used : LeftIsUsed
 
--- No run omits a silent step, takes it before the wrong command, or condemns another level by it.
+-- No run gives these answers: in each, a silent step is omitted, is taken before the wrong command, or condemns another level.
 pub record RefusedSilentSteps : Type 0 where
   pub full_and_not_flipped : Refuses full_and_not_flipped
   pub flipped_below_capacity : Refuses flipped_below_capacity
@@ -326,7 +326,7 @@ pub record RefusedSilentSteps : Type 0 where
   pub reclaimed_before_a_set : Refuses reclaimed_before_a_set
   pub reclaimed_without_capacity : Refuses reclaimed_without_capacity
 
--- No collection that has paid all that it owes remains unfinished.
+-- No run gives these answers: in each, a collection has paid for all its work, and isn't finished.
 pub record RefusedWork : Type 0 where
   pub wide_page : Refuses wide_page
   pub owed_twice : Refuses owed_twice
