@@ -132,6 +132,7 @@ impl<M: Memory> Ground<M> {
         ensures table { (slot : ℕ) → Contains (chain self.old.table (live slot)) (at / REGION_WORDS) → self.new.table ≡ husked self.old.table (live slot) words }
         ensures stays_ground { IsGround (view self.old) → IsGround (view self.new) }
         ensures stays_named { NamesNoFree (view self.old) → NamesNoFree (view self.new) }
+        ensures sound { IsTable self.new.table }
     {
         self.table.note_husk(at, words);
     }
@@ -145,10 +146,9 @@ impl<M: Memory> Ground<M> {
         ensures table { Condemns self.old.table self.new.table what }
         ensures stays_ground { IsGround (view self.old) → IsGround (view self.new) }
         ensures stays_named { NamesNoFree (view self.old) → NamesNoFree (view self.new) }
+        ensures sound { IsTable self.new.table }
     {
-        self.table.assert_invariant();
         self.table.condemn(what);
-        self.table.assert_invariant();
     }
 
     /// Makes all old regions free, their words NULL, and their classes' charges 0. Their pages are no longer
@@ -165,13 +165,13 @@ impl<M: Memory> Ground<M> {
         ensures stays_named { NamesNoFree (view self.new) }
         ensures no_fault { M.faults self.new.mem ≡ M.faults self.old.mem }
         ensures taken { M.taken self.new.mem ≡ M.taken self.old.mem }
+        ensures sound { IsTable self.new.table }
     {
         let regions = self.table.regions();
         for region in 0..regions {
             clear_if_old(&mut self.mem, &self.table, region);
         }
         self.table.free_old();
-        self.table.assert_invariant();
     }
 }
 

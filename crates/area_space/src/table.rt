@@ -66,13 +66,6 @@ impl RegionTable {
         self.regions
     }
 
-    /// What always holds of a table.
-    pub fn assert_invariant(&self)
-        ensures { IsTable self.now }
-    {
-        let _regions = self.regions();
-    }
-
     /// The number of areas, at most 16.
     pub fn areas(&self) -> u32
         ensures value { result ≡ areas_of self.now }
@@ -135,6 +128,7 @@ impl RegionTable {
         ensures area { IfSome result (λ class. class.area < areas_of self.now) }
         ensures level { IfSome result (λ class. class.level < levels_of self.now) }
         ensures cases { IfSome result (λ class. IsTrue class.stale ↔ IsOld self.now (at / REGION_WORDS)) }
+        ensures sound { IsTable self.now }
     {
         match self.class_at(at / REGION_WORDS) {
             Some(number) => Some(self.classes[number as usize]),
@@ -173,6 +167,14 @@ impl RegionTable {
         }
     }
 
+    // The number of slots: the levels of every area.
+    fn slots(&self) -> u32
+        ensures value { result ≡ slots_of self.now }
+        ensures sound { IsTable self.now }
+    {
+        self.areas * (self.top as u32 + 1)
+    }
+
     // The slot of an area and a level.
     #[inline]
     fn slot(&self, area: u8, level: u8) -> u32
@@ -201,6 +203,7 @@ impl RegionTable {
         ensures cases { MatchOption result (IsUnclassed self.now region) (λ class. Contains (chain self.now class) region) }
         ensures found { (class : ℕ) → Contains (chain self.now class) region → result ≡ Some class }
         ensures in_range { IfSome result (λ class. class < 2 * slots_of self.now) }
+        ensures sound { IsTable self.now }
     {
         self.chains.owner(region)
     }
@@ -221,7 +224,8 @@ impl RegionTable {
     // Whether an area is static.
     fn is_static(&self, area: u32) -> bool
         requires { area < areas_of self.now }
-        ensures { result ≡ kind_is_static (kind_of self.now area) }
+        ensures value { result ≡ kind_is_static (kind_of self.now area) }
+        ensures sound { IsTable self.now }
     {
         matches!(self.kinds[area as usize], AreaKind::Static)
     }

@@ -146,7 +146,7 @@ impl BandMemory {
         Ok(())
     }
 
-    fn write(&mut self, at: u32, piece: &[u8]) -> Result<(), DiskFault>
+    fn write(&mut self, at: u64, piece: &[u8]) -> Result<(), DiskFault>
         requires at_most { at ≤ length (disk_bytes self.old) }
         requires room { at + length piece.now ≤ self.old.room }
         ensures ok { is_ok result ≡ accepts self.old (Wrote at piece.now) }
@@ -156,7 +156,7 @@ impl BandMemory {
         if !self.begin(2, piece.len()) {
             return Err(DiskFault);
         }
-        self.log.note_write(at, piece);
+        self.log.note_write(at as u32, piece);
         overwrite(&mut self.bytes, at as usize, piece);
         Ok(())
     }
@@ -251,8 +251,7 @@ impl BandDisk for BandMemory {
         ensures ok { is_ok result ≡ accepts self.old (Wrote at from.now) }
         ensures after { self.new ≡ after_call self.old (Wrote at from.now) }
     {
-        let _room = self.room;
-        self.write(at as u32, from)
+        self.write(at, from)
     }
 
     fn sync(&mut self) -> Result<(), DiskFault>

@@ -14,6 +14,7 @@ ghost use Rattle.transporter.specs.Reads.{KeepsGround, ReadCosts};
 ghost use Rattle.transporter.specs.Settling.{RefersToOld};
 ghost use Rattle.block_store.specs.Headers.{CanFind};
 ghost use Rattle.block_store.specs.Fields.{IsFieldPlace, LacksField, WritesField};
+ghost use Rattle.transporter.specs.Accesses.{find_accesses, settle_accesses};
 
 use crate::fault::BlockFault;
 use crate::header::find;
@@ -37,7 +38,7 @@ fn find_field<M: Memory, L: Ledger>(
     ensures no_field { (count : ℕ) → result ≡ Err (BlockFault.NoField count) → LacksField (M.seen mem.old).words of.content index count }
     ensures unchanged { StoresNothing (M.seen mem.old) (M.seen mem.new) }
     ensures accounted { AccountsForFaultsIf (shown M.Memory mem.old) (shown M.Memory mem.new) steps.old steps.new (is_fault result) }
-    ensures cost { steps.new ≤ steps.old + 13 }
+    ensures cost { steps.new ≤ steps.old + find_accesses }
 {
     // No address of a memory overflows, as this call's contract says.
     assert_invariant(mem);
@@ -84,7 +85,7 @@ pub fn set_field<M: Memory, L: Ledger>(
 
     // Swap errors and the cost.
     ensures accounted { AccountsForFaultsIf (view ground.old).mem (view ground.new).mem steps.old steps.new (is_fault result) }
-    ensures cost { steps.new ≤ steps.old + 15 }
+    ensures cost { steps.new ≤ steps.old + find_accesses + 2 }
 {
     let at = find_field(&mut ground.mem, of, index, steps)?;
     let old = ground.mem.read(at, steps)?;
@@ -130,7 +131,7 @@ pub fn field<M: Memory, L: Ledger>(
 
     // Swap errors and the cost.
     ensures accounted { AccountsForFaultsIf (view ground.old).mem (view ground.new).mem steps.old steps.new (is_fault result) }
-    ensures costs { ReadCosts (view ground.old) (view ground.new) steps.old steps.new (is_fault result) 61 }
+    ensures costs { ReadCosts (view ground.old) (view ground.new) steps.old steps.new (is_fault result) (find_accesses + settle_accesses + 2) }
 {
     let at = find_field(&mut ground.mem, of, index, steps)?;
     let word = fetch(ground, at, steps)?;

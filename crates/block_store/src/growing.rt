@@ -79,7 +79,6 @@ pub fn grow<M: Memory, L: Ledger>(
     // The cost.
     ensures cost { steps.new ≤ steps.old + 4 * wanted + 40 }
 {
-    ground.table.assert_invariant();
     let head = find(&mut ground.mem, of, steps)?;
     let class = class_of_live(&ground.table, head.at);
     let wide = grown_length(head.length, wanted);
@@ -88,6 +87,5 @@ pub fn grow<M: Memory, L: Ledger>(
     lay_anew(&mut ground.mem, head, placed.at, wide, steps)?;
     ground.commit(&placed, words, words, Origin::New);
     ground.note_husk(head.at, head.length as u32 + 1);
-    ground.table.assert_invariant();
     Ok(placed.at)
 }

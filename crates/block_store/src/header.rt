@@ -7,9 +7,11 @@ ghost use Rattle.block_store.specs.Views.{HasMeaning, TellsArea, TellsCode, Tell
 ghost use Rattle.store_word.specs.Words.{tag_of};
 ghost use Rattle.mem_port.specs.Store.{StoresNothing};
 ghost use Rattle.area_space.specs.Table.{areas_of, IsLive};
+ghost use Rattle.area_space.specs.Sound.{IsTable};
 ghost use Rattle.transporter.specs.Settling.{RefersToOld};
 ghost use Rattle.block_store.specs.Headers.{CanFind, IsHead, IsLiveIn};
 ghost use Rattle.block_store.specs.Looks.{LooksAtBlock};
+ghost use Rattle.transporter.specs.Accesses.{find_accesses};
 
 use crate::fault::BlockFault;
 use area_space::{Class, Ground, RegionTable};
@@ -39,7 +41,7 @@ pub(crate) fn find<M: Memory, L: Ledger>(
     ensures no_field { (count : ℕ) → result ≢ Err (BlockFault.NoField count) }
     ensures unchanged { StoresNothing (M.seen mem.old) (M.seen mem.new) }
     ensures accounted { AccountsForFaultsIf (shown M.Memory mem.old) (shown M.Memory mem.new) steps.old steps.new (is_fault result) }
-    ensures cost { steps.new ≤ steps.old + 13 }
+    ensures cost { steps.new ≤ steps.old + find_accesses }
 {
     match of.content() {
         Content::Struct(reference) => {
@@ -89,9 +91,9 @@ pub fn code<M: Memory, L: Ledger>(
 pub(crate) fn class_of_live(table: &RegionTable, at: u32) -> Class
     requires in_range { at / REGION_WORDS < table.now.regions }
     requires live { IsLive table.now (at / REGION_WORDS) }
-    ensures { IsLiveIn table.now at result }
+    ensures value { IsLiveIn table.now at result }
+    ensures sound { IsTable table.now }
 {
-    table.assert_invariant();
     table.class_of(at).unwrap()
 }
 

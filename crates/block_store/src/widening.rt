@@ -6,6 +6,7 @@ ghost use Rattle.mem_port.specs.Store.{StoresNothing};
 ghost use Rattle.mem_port.specs.declared.spans.Span.{Span};
 ghost use Rattle.transporter.specs.Writes.{Writes};
 ghost use Rattle.block_store.specs.Growing.{CanLayAnew, LaysAnew, grown_word, husk_word};
+ghost use Rattle.transporter.specs.Accesses.{hold_accesses};
 
 use crate::header::Head;
 use mem_port::{Memory, Span, assert_invariant, hold_spans};
@@ -128,7 +129,7 @@ pub(crate) fn lay_anew<M: Memory, L: Ledger>(
 
     // Swap errors and the cost.
     ensures accounted { AccountsForFaults (shown M.Memory mem.old) (shown M.Memory mem.new) steps.old steps.new result }
-    ensures cost { steps.new ≤ steps.old + 2 * head.length + wide + 20 }
+    ensures cost { steps.new ≤ steps.old + 2 * head.length + wide + hold_accesses + 2 }
 {
     let from = Span {
         at: head.at,

@@ -6,6 +6,7 @@ ghost use Rattle.mem_port.specs.Store.{StoresNothing};
 ghost use Rattle.obj_layout.specs.Forwards.{word_at};
 ghost use Rattle.cdr_lists.specs.Faults.{AccountsForRefusals};
 ghost use Rattle.cdr_lists.specs.Reading.{CanFind, IsConsAt, IsConsPlace};
+ghost use Rattle.transporter.specs.Accesses.{find_accesses, resolve_accesses};
 
 use crate::fault::ListFault;
 use mem_port::Memory;
@@ -35,7 +36,7 @@ pub(crate) fn find_first<M: Memory, L: Ledger>(
     ensures unread { result ≡ Err ListFault.NotACons → steps.new ≡ steps.old }
     ensures unchanged { StoresNothing (M.seen mem.old) (M.seen mem.new) }
     ensures accounted { AccountsForRefusals (shown M.Memory mem.old) (shown M.Memory mem.new) steps.old steps.new result }
-    ensures cost { steps.new ≤ steps.old + 12 }
+    ensures cost { steps.new ≤ steps.old + resolve_accesses }
 {
     match of.content() {
         Content::List(reference) => {
@@ -59,7 +60,7 @@ pub(crate) fn read_cons<M: Memory, L: Ledger>(
     ensures unread { result ≡ Err ListFault.NotACons → steps.new ≡ steps.old }
     ensures unchanged { StoresNothing (M.seen mem.old) (M.seen mem.new) }
     ensures accounted { AccountsForRefusals (shown M.Memory mem.old) (shown M.Memory mem.new) steps.old steps.new result }
-    ensures cost { steps.new ≤ steps.old + 13 }
+    ensures cost { steps.new ≤ steps.old + find_accesses }
 {
     let found = find_first(mem, of, steps)?;
     let at = found.at;

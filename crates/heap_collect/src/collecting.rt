@@ -91,10 +91,7 @@ pub(crate) fn begin_collection<M: Memory>(
 {
     assert_invariant(&ground.mem);
     ground.condemn(what);
-    ground.table.assert_invariant();
-    let pages = scan.start(ground, what);
-    ground.table.assert_invariant();
-    pages
+    scan.start(ground, what)
 }
 
 // Ends a collection whose scan has finished: the old regions are free, and what was in them is gone. Each
@@ -107,6 +104,5 @@ pub(crate) fn end_collection<M: Memory>(ground: &mut Ground<M>)
     ensures no_fault { CountsUnchanged (view ground.old) (view ground.new) }
 {
     ground.free_old();
-    ground.table.assert_invariant();
     assert_invariant(&ground.mem);
 }

@@ -9,6 +9,7 @@ ghost use Rattle.store_word.specs.Words.{null_word};
 ghost use Rattle.transporter.specs.Settling.{RefersToOld};
 ghost use Rattle.transporter.specs.Preserving.{RegistersPreserved};
 ghost use Rattle.heap_state.specs.Settled.{IsSettled, NoOldAddressesInRegisters};
+ghost use Rattle.transporter.specs.Accesses.{settle_accesses};
 
 use area_space::Ground;
 use mem_port::Memory;
@@ -55,7 +56,7 @@ pub fn settle_register<M: Memory, L: Ledger>(
 
     // What is placed, and the cost.
     ensures at_most { ground.new.table.placed ≤ ground.old.table.placed + MAX_OBJECT_WORDS }
-    ensures cost { OnOk result (steps.new ≤ steps.old + 4 * (ground.new.table.placed - ground.old.table.placed) + 46) }
+    ensures cost { OnOk result (steps.new ≤ steps.old + 4 * (ground.new.table.placed - ground.old.table.placed) + settle_accesses) }
 {
     let word = registers[register as usize];
     if !ground.table.is_collecting() {
@@ -99,7 +100,7 @@ pub fn settle_items<M: Memory, L: Ledger>(
 
     // What is placed, and the cost.
     ensures at_most { ground.new.table.placed ≤ ground.old.table.placed + MAX_OBJECT_WORDS * length items.now }
-    ensures cost { OnOk result (steps.new ≤ steps.old + 4 * (ground.new.table.placed - ground.old.table.placed) + 46 * length items.now) }
+    ensures cost { OnOk result (steps.new ≤ steps.old + 4 * (ground.new.table.placed - ground.old.table.placed) + settle_accesses * length items.now) }
 {
     if !ground.table.is_collecting() {
         return Ok(());

@@ -107,8 +107,6 @@ fn tell_region<K: Sink>(
     ensures last { OnErr result (FailedLast (K.faults sink.old) (K.faults sink.new) (K.failed sink.new)) }
 {
     let table = &heap.ground().table;
-    // This call gives the prover the invariant of the table.
-    let _regions = table.regions();
     match table.class_of(REGION_WORDS * region) {
         None => Ok(()),
         Some(owner) => {

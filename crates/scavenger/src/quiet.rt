@@ -154,7 +154,6 @@ impl ScanSet {
         ensures cost_at_most { OnErr result (steps.new ≤ steps.old + 1) }
         ensures accounted { AccountsForFaults (shown M.Memory mem.old) (shown M.Memory mem.new) steps.old steps.new result }
     {
-        let _registers = self.registers;
         let test = OldAddresses { table };
         let passed = mem.read_until(span.at, span.words, &test, steps)?;
         if passed == 0 {
@@ -169,7 +168,7 @@ impl ScanSet {
     fn mark_words(&mut self, at: u32, count: u32)
         requires in_range { at / PAGE_WORDS < length self.old.pages }
         requires page { at % PAGE_WORDS + count ≤ PAGE_WORDS }
-        requires at_most { self.old.done < 2 ^ 40 }
+        requires at_most { self.old.begun < 2 ^ 32 → self.old.done < 2 ^ 40 }
         ensures { self.new ≡ words_done self.old at count }
     {
         self.pages[(at / PAGE_WORDS) as usize] = (at % PAGE_WORDS + count) as u16;

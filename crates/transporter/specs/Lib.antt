@@ -1,3 +1,4 @@
+pub mod Accesses
 pub mod Growth
 pub mod Laws
 pub mod LiveWordsUnchanged

@@ -9,10 +9,12 @@ ghost use Rattle.transporter.specs.Views.{CanMove, CanPut, OpensOnly, Relocates}
 ghost use Rattle.mem_port.specs.Store.{StoresNothing};
 ghost use Rattle.area_space.specs.Table.{areas_of, levels_of, slot_of, quota_of, IsOld};
 ghost use Rattle.area_space.specs.Room.{RoomRule, words_of_area};
+ghost use Rattle.area_space.specs.Sound.{IsTable};
 ghost use Rattle.area_space.specs.Places.{IsEnd};
 ghost use Rattle.area_space.specs.Flips.{survivor};
 ghost use Rattle.transporter.specs.Parcels.{ArePairOf, word_count_of};
 ghost use Rattle.transporter.specs.Relocations.{Commits, IsOldClass, Moves, OpensIfFull};
+ghost use Rattle.transporter.specs.Accesses.{hold_accesses};
 
 use crate::copying::move_words;
 use crate::parcel::{Pair, Parcel};
@@ -61,9 +63,7 @@ pub fn place_for<M: Memory>(ground: &mut Ground<M>, area: u8, level: u8, words: 
     ensures taken { M.taken ground.new.mem ≡ M.taken ground.old.mem }
     ensures resident { M.resident ground.new.mem ≡ M.resident ground.old.mem }
 {
-    let placed = ground.place(area, level, words);
-    ground.table.assert_invariant();
-    placed
+    ground.place(area, level, words)
 }
 
 // Holds the pages of a parcel's old words and of its new ones. Most parcels are pairs on one page at each place, whose
@@ -83,7 +83,7 @@ fn hold_places<M: Memory, L: Ledger>(
     ensures second_held { OnOk result (HoldsSpan (M.held mem.new) to) }
     ensures unchanged { StoresNothing (M.seen mem.old) (M.seen mem.new) }
     ensures accounted { AccountsForFaults (shown M.Memory mem.old) (shown M.Memory mem.new) steps.old steps.new result }
-    ensures at_most { steps.new ≤ steps.old + 18 }
+    ensures at_most { steps.new ≤ steps.old + hold_accesses }
 {
     assert_invariant(mem);
     if from.words == 2
@@ -113,9 +113,10 @@ fn put<M: Memory, L: Ledger>(
     ensures placed { OnOk result (Commits ground.old.table ground.new.table class.area class.level (survivor ground.old.table class.level) placed.now.at (word_count_of parcel.now) parcel.now.charge) }
     ensures unchanged { OnErr result (StoresNothing (view ground.old).mem.store (view ground.new).mem.store) }
     ensures table { OnErr result (ground.new.table ≡ ground.old.table) }
+    ensures sound { OnOk result (IsTable ground.new.table) }
     ensures accounted { AccountsForFaults (view ground.old).mem (view ground.new).mem steps.old steps.new result }
-    ensures cost { steps.new ≤ steps.old + 3 * word_count_of parcel.now + 18 }
-    ensures cost_at_most { OnErr result (steps.new ≤ steps.old + 18) }
+    ensures cost { steps.new ≤ steps.old + 3 * word_count_of parcel.now + hold_accesses }
+    ensures cost_at_most { OnErr result (steps.new ≤ steps.old + hold_accesses) }
 {
     let words = parcel.new_words();
     let from = Span {
@@ -150,14 +151,12 @@ pub(crate) fn relocate<M: Memory, L: Ledger>(
     ensures moved { IfOk result (Relocates (view ground.old) (view ground.new) parcel.now) }
     ensures fault { OnErr result (OpensOnly (view ground.old) (view ground.new)) }
     ensures accounted { AccountsForFaults (view ground.old).mem (view ground.new).mem steps.old steps.new result }
-    ensures cost { steps.new ≤ steps.old + 3 * word_count_of parcel.now + 18 }
-    ensures cost_at_most { OnErr result (steps.new ≤ steps.old + 18) }
+    ensures cost { steps.new ≤ steps.old + 3 * word_count_of parcel.now + hold_accesses }
+    ensures cost_at_most { OnErr result (steps.new ≤ steps.old + hold_accesses) }
 {
-    ground.table.assert_invariant();
     let level = ground.table.survivor_level(class.level);
     let placed = place_for(ground, class.area, level, parcel.new_words());
     put(ground, parcel, pair, class, &placed, steps)?;
-    ground.table.assert_invariant();
     Ok(placed.at)
 }
 
@@ -176,8 +175,8 @@ pub(crate) fn relocate_pair<M: Memory, L: Ledger>(
     ensures moved { IfOk result (Relocates (view ground.old) (view ground.new) parcel.now) }
     ensures fault { OnErr result (OpensOnly (view ground.old) (view ground.new)) }
     ensures accounted { AccountsForFaults (view ground.old).mem (view ground.new).mem steps.old steps.new result }
-    ensures cost { steps.new ≤ steps.old + 3 * word_count_of parcel.now + 18 }
-    ensures cost_at_most { OnErr result (steps.new ≤ steps.old + 18) }
+    ensures cost { steps.new ≤ steps.old + 3 * word_count_of parcel.now + hold_accesses }
+    ensures cost_at_most { OnErr result (steps.new ≤ steps.old + hold_accesses) }
 {
     let whole = Parcel {
         at: parcel.at,

@@ -13,6 +13,7 @@ ghost use Rattle.obj_layout.specs.Forwards.{word_at};
 ghost use Rattle.transporter.specs.Growth.{Grows};
 ghost use Rattle.transporter.specs.LiveWordsUnchanged.{IsLiveWord};
 ghost use Rattle.transporter.specs.Settling.{reference_of, readdressed, RefersToOld, Replaces, Settles};
+ghost use Rattle.transporter.specs.Accesses.{failed_fetch_accesses, failed_word_accesses, fetch_accesses, word_accesses};
 
 use crate::transports::transport;
 use area_space::Ground;
@@ -82,8 +83,8 @@ pub fn settle<M: Memory, L: Ledger>(
 
     // What is placed, and the cost.
     ensures at_most { ground.new.table.placed ≤ ground.old.table.placed + MAX_OBJECT_WORDS }
-    ensures cost { OnOk result (steps.new ≤ steps.old + 4 * (ground.new.table.placed - ground.old.table.placed) + 43) }
-    ensures cost_at_most { OnErr result (steps.new ≤ steps.old + 1069) }
+    ensures cost { OnOk result (steps.new ≤ steps.old + 4 * (ground.new.table.placed - ground.old.table.placed) + word_accesses) }
+    ensures cost_at_most { OnErr result (steps.new ≤ steps.old + failed_word_accesses) }
 {
     match reference(word) {
         Some(at) if ground.table.is_old(at) => settle_old(ground, word, at, steps),
@@ -117,8 +118,8 @@ fn settle_old<M: Memory, L: Ledger>(
 
     // What is placed, and the cost.
     ensures at_most { ground.new.table.placed ≤ ground.old.table.placed + MAX_OBJECT_WORDS }
-    ensures cost { OnOk result (steps.new ≤ steps.old + 4 * (ground.new.table.placed - ground.old.table.placed) + 43) }
-    ensures cost_at_most { OnErr result (steps.new ≤ steps.old + 1069) }
+    ensures cost { OnOk result (steps.new ≤ steps.old + 4 * (ground.new.table.placed - ground.old.table.placed) + word_accesses) }
+    ensures cost_at_most { OnErr result (steps.new ≤ steps.old + failed_word_accesses) }
 {
     let to = transport(ground, at, steps)?;
     Ok(with_address(word, to))
@@ -163,8 +164,8 @@ pub fn fetch<M: Memory, L: Ledger>(
 
     // What is placed, and the cost.
     ensures at_most { ground.new.table.placed ≤ ground.old.table.placed + MAX_OBJECT_WORDS }
-    ensures cost { OnOk result (steps.new ≤ steps.old + 4 * (ground.new.table.placed - ground.old.table.placed) + 45) }
-    ensures cost_at_most { steps.new ≤ steps.old + 4 * (ground.new.table.placed - ground.old.table.placed) + 1071 }
+    ensures cost { OnOk result (steps.new ≤ steps.old + 4 * (ground.new.table.placed - ground.old.table.placed) + fetch_accesses) }
+    ensures cost_at_most { steps.new ≤ steps.old + 4 * (ground.new.table.placed - ground.old.table.placed) + failed_fetch_accesses }
 {
     let word = ground.mem.read(at, steps)?;
     let settled = settle(ground, word, steps)?;

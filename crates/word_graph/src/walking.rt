@@ -102,13 +102,12 @@ fn charge_behind<M: Memory, L: Ledger>(
 ) -> Result<u32, SwapFault>
     requires first { first ≡ word_at (M.seen mem.old).words at }
     requires whole { IsWhole (M.seen mem.old).words at }
+    requires fits { length (M.seen mem.old).words < 2 ^ 32 }
     ensures value { IfOk result (λ charge. charge ≡ charge_at (M.seen mem.old).words at) }
     ensures unchanged { StoresNothing (M.seen mem.old) (M.seen mem.new) }
     ensures accounted { AccountsForFaults (shown M.Memory mem.old) (shown M.Memory mem.new) steps.old steps.new result }
     ensures cost { steps.new ≤ steps.old + 1 }
 {
-    // No address of a memory overflows, as this call's contract says.
-    let _pages = mem.pages();
     match first.content() {
         Content::Header { length, .. } => Ok(u32::from(length) + 1),
         _ => match first.cdr_code() {
@@ -159,13 +158,12 @@ fn cdr_behind<M: Memory, L: Ledger>(
     requires in_range { at < length (M.seen mem.old).words }
     requires first { first ≡ word_at (M.seen mem.old).words at }
     requires whole { HasCdr (M.seen mem.old).words at }
+    requires fits { length (M.seen mem.old).words < 2 ^ 32 }
     ensures value { IfOk result (λ word. word.content ≡ cdr_in (M.seen mem.old).words at) }
     ensures unchanged { StoresNothing (M.seen mem.old) (M.seen mem.new) }
     ensures accounted { AccountsForFaults (shown M.Memory mem.old) (shown M.Memory mem.new) steps.old steps.new result }
     ensures cost { steps.new ≤ steps.old + 1 }
 {
-    // No address of a memory overflows, as this call's contract says.
-    let _pages = mem.pages();
     match first.cdr_code() {
         CdrCode::Normal => mem.read(at + 1, steps),
         CdrCode::Nil => Ok(Word::nil()),
@@ -182,13 +180,12 @@ fn part_at<M: Memory, L: Ledger>(
 ) -> Result<Word, SwapFault>
     requires in_range { at < length (M.seen mem.old).words }
     requires whole { HasPart (M.seen mem.old).words at index (word_at (M.seen mem.old).words at).content }
+    requires fits { length (M.seen mem.old).words < 2 ^ 32 }
     ensures value { IfOk result (λ word. word.content ≡ part_in (M.seen mem.old).words at index (word_at (M.seen mem.old).words at).content) }
     ensures unchanged { StoresNothing (M.seen mem.old) (M.seen mem.new) }
     ensures accounted { AccountsForFaults (shown M.Memory mem.old) (shown M.Memory mem.new) steps.old steps.new result }
     ensures cost { steps.new ≤ steps.old + 2 }
 {
-    // No address of a memory overflows, as this call's contract says.
-    let _pages = mem.pages();
     let first = mem.read(at, steps)?;
     match first.content() {
         Content::Header { .. } => mem.read(at + 1 + index, steps),
@@ -232,14 +229,13 @@ fn rest_behind<M: Memory, L: Ledger>(
     requires first { first ≡ word_at (M.seen mem.old).words at }
     requires whole { HasCdr (M.seen mem.old).words at }
     requires pair { shape_of first ≡ cons_shape first.cdr }
+    requires fits { length (M.seen mem.old).words < 2 ^ 32 }
     ensures cdr { IfOk result (λ rest. rest.0.content ≡ cdr_in (M.seen mem.old).words at) }
     ensures value { IfOk result (λ rest. rest.1 ≡ charge_at (M.seen mem.old).words at) }
     ensures unchanged { StoresNothing (M.seen mem.old) (M.seen mem.new) }
     ensures accounted { AccountsForFaults (shown M.Memory mem.old) (shown M.Memory mem.new) steps.old steps.new result }
     ensures cost { steps.new ≤ steps.old + 1 }
 {
-    // No address of a memory overflows, as this call's contract says.
-    let _pages = mem.pages();
     match first.cdr_code() {
         CdrCode::Normal => {
             let second = mem.read(at + 1, steps)?;

@@ -2,6 +2,7 @@
 ghost use Rattle.std.specs.Prelude.{◌≡◌, ◌≢◌, ℕ, ◌+◌, ◌*◌, ◌/◌, ◌<◌, ◌≤◌, [], slice_index, Contains};
 ghost use Rattle.area_space.specs.Table.{levels_of, slots_of, live, chain, quota_of};
 ghost use Rattle.area_space.specs.Accounts.{account_of};
+ghost use Rattle.area_space.specs.Sound.{IsTable};
 ghost use Rattle.area_space.specs.Charges.{charged, husked, charged_by, AllowsOrigin};
 ghost use Rattle.area_space.specs.declared.classes.Origin.TheVariants.{Moved};
 
@@ -56,7 +57,8 @@ impl RegionTable {
     pub(crate) fn note_husk(&mut self, at: u32, words: u32)
         requires in_range { (slot : ℕ) × Contains (chain self.old (live slot)) (at / REGION_WORDS) }
         requires at_most { (slot : ℕ) → Contains (chain self.old (live slot)) (at / REGION_WORDS) → words ≤ slice_index self.old.charges (live slot) }
-        ensures { (slot : ℕ) → Contains (chain self.old (live slot)) (at / REGION_WORDS) → self.new ≡ husked self.old (live slot) words }
+        ensures after { (slot : ℕ) → Contains (chain self.old (live slot)) (at / REGION_WORDS) → self.new ≡ husked self.old (live slot) words }
+        ensures sound { IsTable self.new }
     {
         let slot = self.slot_at(at / REGION_WORDS);
         self.add_husk(2 * slot, words);
@@ -66,7 +68,8 @@ impl RegionTable {
     fn add_husk(&mut self, class: u32, words: u32)
         requires in_range { class < 2 * slots_of self.old }
         requires at_most { words ≤ slice_index self.old.charges class }
-        ensures { self.new ≡ husked self.old class words }
+        ensures after { self.new ≡ husked self.old class words }
+        ensures sound { IsTable self.new }
     {
         self.charges[class as usize] -= words;
         self.husks[class as usize] += words;

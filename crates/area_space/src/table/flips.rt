@@ -1,6 +1,7 @@
 //! A flip: classes become old, and the other live regions get their flip marks.
 ghost use Rattle.std.specs.Prelude.{◌≡◌, ◌≢◌, ℕ, ◌+◌, ◌*◌, ◌^◌, ◌<◌, IsSome, None, [], length, slice_index, slice_set};
 ghost use Rattle.area_space.specs.Table.{levels_of, slots_of, stale, chain, mark_of, IsOld};
+ghost use Rattle.area_space.specs.Sound.{IsTable};
 ghost use Rattle.area_space.specs.Flips.{condemns, condemns_level, begun, made_old, IsFlipMark, FlipsSlot, Condemns, survivor};
 
 use super::RegionTable;
@@ -20,7 +21,8 @@ impl RegionTable {
     pub fn survivor_level(&self, level: u8) -> u8
         requires collecting { IsSome self.now.aim }
         requires level { level < levels_of self.now }
-        ensures { result ≡ survivor self.now level }
+        ensures value { result ≡ survivor self.now level }
+        ensures sound { IsTable self.now }
     {
         match self.aim {
             Some(Condemn::Chosen(_)) => if level < self.top { level + 1 } else { 0 },
@@ -31,16 +33,16 @@ impl RegionTable {
     // Makes what is condemned old, and the used end of each other live region its flip mark.
     pub(crate) fn condemn(&mut self, what: Condemn)
         requires { (region : ℕ) → IsOld self.old region → ⊥ }
-        ensures { Condemns self.old self.new what }
+        ensures table { Condemns self.old self.new what }
+        ensures before { IsTable self.old }
+        ensures sound { IsTable self.new }
     {
-        self.assert_invariant();
-        let slots = self.areas() * self.levels();
+        let slots = self.slots();
         self.begin(what);
         for slot in 0..slots {
             self.flip_slot(slot, what);
         }
         self.mark_all();
-        self.assert_invariant();
     }
 
     // Begins a collection: nothing is placed, moved or to be scanned yet.
@@ -61,7 +63,6 @@ impl RegionTable {
         requires collecting { self.old.aim ≢ None }
         ensures { FlipsSlot self.old self.new what slot }
     {
-        self.assert_invariant();
         if self.is_condemned(slot, what) {
             self.turn(slot);
         }
@@ -70,7 +71,8 @@ impl RegionTable {
     // Whether a slot is condemned, by its level and its area.
     fn is_condemned(&self, slot: u32, what: Condemn) -> bool
         requires { slot < slots_of self.now }
-        ensures { result ≡ condemns self.now what slot }
+        ensures value { result ≡ condemns self.now what slot }
+        ensures sound { IsTable self.now }
     {
         let levels = self.levels();
         !self.is_static(slot / levels) && condemned(what, (slot % levels) as u8)
@@ -95,6 +97,7 @@ impl RegionTable {
     fn mark_all(&mut self)
         ensures unchanged { self.new ≡ record self.old { marks = self.new.marks } }
         ensures marks { (region : ℕ) → region < self.old.regions → IsFlipMark self.old region (slice_index self.new.marks region) }
+        ensures sound { IsTable self.new }
     {
         let regions = self.regions();
         for region in 0..regions {
@@ -118,7 +121,8 @@ impl RegionTable {
     fn set_mark(&mut self, region: u32, mark: u32)
         requires in_range { region < self.old.regions }
         requires marks { IsFlipMark self.old region mark }
-        ensures { self.new ≡ record self.old { marks = slice_set self.old.marks region mark } }
+        ensures after { self.new ≡ record self.old { marks = slice_set self.old.marks region mark } }
+        ensures sound { IsTable self.new }
     {
         self.marks[region as usize] = mark;
     }

@@ -11,15 +11,14 @@ use super::RegionTable;
 impl RegionTable {
     // Makes all old regions free.
     pub(crate) fn free_old(&mut self)
-        ensures { Frees self.old self.new }
+        ensures table { Frees self.old self.new }
+        ensures sound { IsTable self.new }
     {
-        self.assert_invariant();
-        let slots = self.areas() * self.levels();
+        let slots = self.slots();
         for slot in 0..slots {
             self.free_slot(slot);
         }
         self.finish();
-        self.assert_invariant();
     }
 
     // Makes the regions of an old class free.
@@ -28,7 +27,6 @@ impl RegionTable {
         ensures free { IsFreeing self.old self.new slot }
         ensures empty { chain self.new (stale slot) ≡ [] }
     {
-        self.assert_invariant();
         self.forgive(slot);
         while let Some(_region) = self.release(slot) {}
     }
@@ -36,7 +34,8 @@ impl RegionTable {
     // Removes all charges and husks of an old class.
     fn forgive(&mut self, slot: u32)
         requires { slot < slots_of self.old }
-        ensures { self.new ≡ forgiven self.old slot }
+        ensures after { self.new ≡ forgiven self.old slot }
+        ensures before { IsTable self.old }
     {
         let area = slot / (self.top as u32 + 1);
         let class = 2 * slot + 1;
@@ -50,7 +49,7 @@ impl RegionTable {
     fn release(&mut self, slot: u32) -> Option<u32>
         requires in_range { slot < slots_of self.old }
         requires empty { debt self.old (stale slot) ≡ 0 }
-        ensures sound { IsTable self.old }
+        ensures before { IsTable self.old }
         ensures none { IfNone result (chain self.old (stale slot) ≡ []) }
         ensures unchanged { IfNone result (self.new ≡ self.old) }
         ensures some { IfSome result (λ region. first_of (chain self.old (stale slot)) ≡ Some region) }
@@ -71,7 +70,8 @@ impl RegionTable {
     // Ends a collection: no class is old any more.
     fn finish(&mut self)
         requires { (slot : ℕ) → slot < slots_of self.old → chain self.old (stale slot) ≡ [] }
-        ensures { self.new ≡ record self.old { aim = None } }
+        ensures after { self.new ≡ record self.old { aim = None } }
+        ensures sound { IsTable self.new }
     {
         self.aim = None;
     }

@@ -1,6 +1,7 @@
 //! What the table notes for the scan of a collection.
 ghost use Rattle.std.specs.Prelude.{◌≡◌, ◌*◌, ◌<◌, Some};
 ghost use Rattle.area_space.specs.Table.{page_list};
+ghost use Rattle.area_space.specs.Sound.{IsTable};
 ghost use Rattle.area_space.specs.PageList.{Adds, Drops};
 
 use super::RegionTable;
@@ -19,7 +20,8 @@ impl RegionTable {
     /// Notes the page of the last word of a transport.
     pub fn note_moved(&mut self, page: u32)
         requires { page < REGION_PAGES * self.old.regions }
-        ensures { self.new ≡ record self.old { last = Some page } }
+        ensures after { self.new ≡ record self.old { last = Some page } }
+        ensures sound { IsTable self.new }
     {
         self.last = Some(page);
     }
@@ -27,7 +29,8 @@ impl RegionTable {
     /// The pages that have a word to be scanned, as far as the table knows: a flip empties the set,
     /// and a commit adds the pages of its words, whether a collection runs or not.
     pub fn scan_pages(&self) -> &PageSet
-        ensures { result.now ≡ page_list self.now }
+        ensures value { result.now ≡ page_list self.now }
+        ensures sound { IsTable self.now }
     {
         &self.scan
     }
@@ -53,7 +56,8 @@ impl RegionTable {
     /// The words committed since the latest flip, or since the table was made. A reclaim doesn't
     /// change them.
     pub fn placed_words(&self) -> u64
-        ensures { result ≡ self.now.placed }
+        ensures value { result ≡ self.now.placed }
+        ensures sound { IsTable self.now }
     {
         self.placed
     }

@@ -9,6 +9,7 @@ ghost use Rattle.heap_state.specs.Views.{RepresentsSame, RepresentsState, Perfor
 ghost use Rattle.block_store.specs.transporter.Views.{NoOldAddresses, MarksFollow, PreservesScanned};
 ghost use Rattle.heap_state.specs.Settled.{IsSettled, NoOldAddressesInRegisters};
 ghost use Rattle.block_store.specs.transporter.Preserving.{RegistersPreserved};
+ghost use Rattle.transporter.specs.Accesses.{find_accesses, settle_accesses};
 
 use crate::blocks::refusal::refusal;
 use area_space::Ground;
@@ -56,7 +57,7 @@ pub fn find_growing<M: Memory, L: Ledger>(
     // costs and swap errors
     ensures accounted { AccountsForFaultsIf (view ground.old).mem (view ground.new).mem steps.old steps.new (is_found_fault result) }
     ensures placed { ground.new.table.placed ≤ ground.old.table.placed + MAX_OBJECT_WORDS }
-    ensures cost { result ≢ Growing.Answered Reply.Fault → steps.new ≤ steps.old + 4 * (ground.new.table.placed - ground.old.table.placed) + 59 }
+    ensures cost { result ≢ Growing.Answered Reply.Fault → steps.new ≤ steps.old + 4 * (ground.new.table.placed - ground.old.table.placed) + (settle_accesses + find_accesses) }
 {
     let Ok(word) = settle_register(ground, registers, target, steps) else {
         return Growing::Answered(Reply::Fault);

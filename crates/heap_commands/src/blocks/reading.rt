@@ -1,10 +1,11 @@
 //! Copies the fields of blocks to registers, and counts them.
-ghost use Rattle.std.specs.Prelude.{◌≡◌, ◌<◌, pos, length as list_length};
+ghost use Rattle.std.specs.Prelude.{◌≡◌, ◌<◌, pos, length as list_length, ◌+◌, ◌*◌};
 ghost use Rattle.area_space.specs.View.{view};
 ghost use Rattle.block_store.specs.transporter.Views.{MovesAtMost};
 ghost use Rattle.heap_commands.specs.Costs.{CommandCosts};
 ghost use Rattle.heap_state.specs.Reads.{reply_of};
 ghost use Rattle.heap_state.specs.Views.{RepresentsState, Performs};
+ghost use Rattle.transporter.specs.Accesses.{find_accesses, settle_accesses};
 
 use crate::blocks::refusal::refusal;
 use area_space::Ground;
@@ -27,7 +28,7 @@ pub fn size<M: Memory, L: Ledger>(
     requires in_range { of < list_length registers.old }
     ensures performs { Performs (view ground.old) registers.old (view ground.new) registers.new (Command.Size of) (reply_of result) }
     ensures moves { MovesAtMost (view ground.old) (view ground.new) 1 }
-    ensures costs { CommandCosts (view ground.old) (view ground.new) steps.old steps.new result MAX_OBJECT_WORDS 59 }
+    ensures costs { CommandCosts (view ground.old) (view ground.new) steps.old steps.new result MAX_OBJECT_WORDS (settle_accesses + find_accesses) }
 {
     let block = settle_register(ground, registers, of, steps)?;
     match length(ground, block, steps) {
@@ -58,7 +59,7 @@ pub fn get<M: Memory, L: Ledger>(
     requires from { from < list_length registers.old }
     ensures performs { Performs (view ground.old) registers.old (view ground.new) registers.new (Command.Get to from index) (reply_of result) }
     ensures moves { MovesAtMost (view ground.old) (view ground.new) 2 }
-    ensures costs { CommandCosts (view ground.old) (view ground.new) steps.old steps.new result MAX_MOVED_WORDS 120 }
+    ensures costs { CommandCosts (view ground.old) (view ground.new) steps.old steps.new result MAX_MOVED_WORDS (2 * settle_accesses + 2 * find_accesses + 2) }
 {
     let block = settle_register(ground, registers, from, steps)?;
     match field(ground, block, index, steps) {

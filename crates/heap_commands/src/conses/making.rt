@@ -10,6 +10,7 @@ ghost use Rattle.heap_state.specs.Views.{RepresentsState, PerformsAt};
 ghost use Rattle.std.specs.List.{All};
 ghost use Rattle.area_space.specs.Accounts.{account_of};
 ghost use Rattle.area_space.specs.Table.{areas_of, levels_of, quota_of};
+ghost use Rattle.transporter.specs.Accesses.{settle_accesses};
 
 use crate::object::NewObject;
 use area_space::Ground;
@@ -18,7 +19,7 @@ use heap_state::settle_items;
 use lisp_graph::{Command, Items, Reply};
 use mem_port::Memory;
 use std::sync::ledger::Ledger;
-use store_word::{Steps, SwapFault, Word};
+use store_word::{MAX_MOVED_WORDS, MAX_OBJECT_WORDS, Steps, SwapFault, Word};
 
 /// `cons`: a register gets a new cons of the values of two registers, in an area, at the level of its new
 /// objects. Its charge, 2 words, has to fit the quota of the area. It places at most 4,098
@@ -44,7 +45,7 @@ pub fn cons<M: Memory, L: Ledger>(
     ensures unmarked { OnOk result (MarksMade (view ground.old) (view ground.new) (get_or registers.new object.to null_word) 2) }
 
     // costs and swap errors
-    ensures costs { CommandCosts (view ground.old) (view ground.new) steps.old steps.new result 4098 96 }
+    ensures costs { CommandCosts (view ground.old) (view ground.new) steps.old steps.new result (MAX_MOVED_WORDS + 2) (2 * settle_accesses + 4) }
 {
     settle_items(ground, registers, &[car, cdr], steps)?;
     let first = registers[car as usize];
@@ -84,7 +85,7 @@ pub fn list<M: Memory, L: Ledger>(
     ensures unmarked { OnOk result (MarksMade (view ground.old) (view ground.new) (get_or registers.new object.to null_word) (length items.now)) }
 
     // costs and swap errors
-    ensures costs { CommandCosts (view ground.old) (view ground.new) steps.old steps.new result (2049 * length items.now) (47 * length items.now + 5) }
+    ensures costs { CommandCosts (view ground.old) (view ground.new) steps.old steps.new result ((MAX_OBJECT_WORDS + 1) * length items.now) ((settle_accesses + 1) * length items.now + 5) }
 {
     settle_items(ground, registers, items.as_slice(), steps)?;
     let at = make_list(ground, object.area, object.level, registers, items, steps)?;

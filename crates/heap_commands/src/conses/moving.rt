@@ -1,10 +1,11 @@
 //! Copies a register's value to another, and compares two.
-ghost use Rattle.std.specs.Prelude.{◌≡◌, ◌<◌, if◌then◌else◌, length};
+ghost use Rattle.std.specs.Prelude.{◌≡◌, ◌<◌, if◌then◌else◌, length, ◌+◌, ◌*◌};
 ghost use Rattle.area_space.specs.View.{view};
 ghost use Rattle.block_store.specs.transporter.Views.{MovesAtMost};
 ghost use Rattle.heap_commands.specs.Costs.{CommandCosts};
 ghost use Rattle.heap_state.specs.Reads.{reply_of};
 ghost use Rattle.heap_state.specs.Views.{RepresentsState, Performs};
+ghost use Rattle.transporter.specs.Accesses.{resolve_accesses, settle_accesses};
 
 use area_space::Ground;
 use heap_state::{is_same, settle_items, settle_register};
@@ -27,7 +28,7 @@ pub fn copy_register<M: Memory, L: Ledger>(
     requires from { from < length registers.old }
     ensures performs { Performs (view ground.old) registers.old (view ground.new) registers.new (Command.Move to from) (reply_of result) }
     ensures moves { MovesAtMost (view ground.old) (view ground.new) 1 }
-    ensures costs { CommandCosts (view ground.old) (view ground.new) steps.old steps.new result MAX_OBJECT_WORDS 46 }
+    ensures costs { CommandCosts (view ground.old) (view ground.new) steps.old steps.new result MAX_OBJECT_WORDS settle_accesses }
 {
     let word = settle_register(ground, registers, from, steps)?;
     registers[to as usize] = word;
@@ -55,7 +56,7 @@ pub fn eq<M: Memory, L: Ledger>(
     requires right { right < length registers.old }
     ensures performs { Performs (view ground.old) registers.old (view ground.new) registers.new (Command.Eq left right) (reply_of result) }
     ensures moves { MovesAtMost (view ground.old) (view ground.new) 2 }
-    ensures costs { CommandCosts (view ground.old) (view ground.new) steps.old steps.new result MAX_MOVED_WORDS 116 }
+    ensures costs { CommandCosts (view ground.old) (view ground.new) steps.old steps.new result MAX_MOVED_WORDS (2 * settle_accesses + 2 * resolve_accesses) }
 {
     settle_items(ground, registers, &[left, right], steps)?;
     let first = registers[left as usize];

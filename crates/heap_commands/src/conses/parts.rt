@@ -1,5 +1,5 @@
 //! Copies the parts of conses to registers, and values of registers to them.
-ghost use Rattle.std.specs.Prelude.{◌<◌, get_or, length};
+ghost use Rattle.std.specs.Prelude.{◌<◌, get_or, length, ◌+◌, ◌*◌};
 ghost use Rattle.area_space.specs.View.{view};
 ghost use Rattle.store_word.specs.Words.{null_word};
 ghost use Rattle.block_store.specs.transporter.Views.{MovesAtMost};
@@ -7,6 +7,7 @@ ghost use Rattle.heap_commands.specs.Costs.{CommandCosts};
 ghost use Rattle.heap_commands.specs.Views.{MovesOrLays};
 ghost use Rattle.heap_state.specs.Reads.{reply_of};
 ghost use Rattle.heap_state.specs.Views.{RepresentsState, Performs};
+ghost use Rattle.transporter.specs.Accesses.{find_accesses, settle_accesses};
 
 use area_space::Ground;
 use cdr_lists::{ListFault, set_car, set_cdr};
@@ -14,7 +15,7 @@ use heap_state::{settle_items, settle_register, show_into};
 use lisp_graph::{Command, Reply};
 use mem_port::Memory;
 use std::sync::ledger::Ledger;
-use store_word::{MAX_MOVED_WORDS, Steps, SwapFault, Word};
+use store_word::{MAX_MOVED_WORDS, MAX_OBJECT_WORDS, Steps, SwapFault, Word};
 
 /// `car`: a register gets the car of the cons in another. It places at most 4,096 words. If no swap
 /// error occurs, it takes at most 119 memory accesses, and 4 for each word placed.
@@ -30,7 +31,7 @@ pub fn car<M: Memory, L: Ledger>(
     requires from { from < length registers.old }
     ensures performs { Performs (view ground.old) registers.old (view ground.new) registers.new (Command.Car to from) (reply_of result) }
     ensures moves { MovesAtMost (view ground.old) (view ground.new) 2 }
-    ensures costs { CommandCosts (view ground.old) (view ground.new) steps.old steps.new result MAX_MOVED_WORDS 119 }
+    ensures costs { CommandCosts (view ground.old) (view ground.new) steps.old steps.new result MAX_MOVED_WORDS (2 * settle_accesses + 2 * find_accesses + 1) }
 {
     let cons = settle_register(ground, registers, from, steps)?;
     match cdr_lists::car(ground, cons, steps) {
@@ -54,7 +55,7 @@ pub fn cdr<M: Memory, L: Ledger>(
     requires from { from < length registers.old }
     ensures performs { Performs (view ground.old) registers.old (view ground.new) registers.new (Command.Cdr to from) (reply_of result) }
     ensures moves { MovesAtMost (view ground.old) (view ground.new) 2 }
-    ensures costs { CommandCosts (view ground.old) (view ground.new) steps.old steps.new result MAX_MOVED_WORDS 120 }
+    ensures costs { CommandCosts (view ground.old) (view ground.new) steps.old steps.new result MAX_MOVED_WORDS (2 * settle_accesses + 2 * find_accesses + 2) }
 {
     let cons = settle_register(ground, registers, from, steps)?;
     match cdr_lists::cdr(ground, cons, steps) {
@@ -78,7 +79,7 @@ pub fn rplaca<M: Memory, L: Ledger>(
     requires from { from < length registers.old }
     ensures performs { Performs (view ground.old) registers.old (view ground.new) registers.new (Command.Rplaca target from) (reply_of result) }
     ensures moves { MovesAtMost (view ground.old) (view ground.new) 2 }
-    ensures costs { CommandCosts (view ground.old) (view ground.new) steps.old steps.new result MAX_MOVED_WORDS 106 }
+    ensures costs { CommandCosts (view ground.old) (view ground.new) steps.old steps.new result MAX_MOVED_WORDS (2 * settle_accesses + find_accesses + 1) }
 {
     settle_items(ground, registers, &[target, from], steps)?;
     let cons = registers[target as usize];
@@ -104,7 +105,7 @@ pub fn rplacd<M: Memory, L: Ledger>(
     requires from { from < length registers.old }
     ensures performs { Performs (view ground.old) registers.old (view ground.new) registers.new (Command.Rplacd target from) (reply_of result) }
     ensures moves { MovesOrLays (view ground.old) (view ground.new) (get_or registers.new target null_word) (get_or registers.new from null_word) }
-    ensures costs { CommandCosts (view ground.old) (view ground.new) steps.old steps.new result 6146 159 }
+    ensures costs { CommandCosts (view ground.old) (view ground.new) steps.old steps.new result (MAX_MOVED_WORDS + MAX_OBJECT_WORDS + 2) (3 * settle_accesses + find_accesses + 8) }
 {
     settle_items(ground, registers, &[target, from], steps)?;
     let cons = registers[target as usize];

@@ -1,5 +1,5 @@
 //! Commands on conses.
-ghost use Rattle.std.specs.Prelude.{◌≡◌, ◌*◌, ◌<◌, ◌≤◌, get_or, length};
+ghost use Rattle.std.specs.Prelude.{◌≡◌, ◌*◌, ◌<◌, ◌≤◌, get_or, length, ◌+◌};
 ghost use Rattle.std.specs.List.{All};
 ghost use Rattle.store_word.specs.Words.{null_word};
 ghost use Rattle.heap_commands.specs.Listing.{RefersToCells};
@@ -8,6 +8,7 @@ ghost use Rattle.lisp_heap.specs.Making.{ScansFirst};
 ghost use Rattle.lisp_heap.specs.Moves.{MovesAtMost, MovesOrLays};
 ghost use Rattle.lisp_heap.specs.NewMarks.{MarksMade};
 ghost use Rattle.lisp_heap.specs.Stands.{Runs};
+ghost use Rattle.transporter.specs.Accesses.{find_accesses, settle_accesses};
 
 use crate::heap::allocating::admit_allocation;
 use crate::heap::{Heap, finish_reply, finish_step};
@@ -16,7 +17,7 @@ use heap_commands::{CELL, NewObject, PAIR};
 use lisp_graph::{Command, Items, Reply};
 use mem_port::Memory;
 use std::sync::ledger::Ledger;
-use store_word::{MAX_MOVED_WORDS, Steps};
+use store_word::{MAX_MOVED_WORDS, MAX_OBJECT_WORDS, Steps};
 
 impl<M: Memory> Heap<M> {
     /// `cons`: a register gets a new cons of the values of two registers. In a world with a capacity above 0
@@ -117,7 +118,7 @@ impl<M: Memory> Heap<M> {
         requires to { to < length self.old.registers }
         requires from { from < length self.old.registers }
         ensures runs { Runs self.old self.new steps.old steps.new (Command.Car to from) result }
-        ensures costs { Takes self.old self.new steps.old steps.new MAX_MOVED_WORDS 119 result }
+        ensures costs { Takes self.old self.new steps.old steps.new MAX_MOVED_WORDS (2 * settle_accesses + 2 * find_accesses + 1) result }
         ensures moves { MovesAtMost self.old self.new 2 }
     {
         let answer = heap_commands::car(&mut self.ground, &mut self.registers, to, from, steps);
@@ -130,7 +131,7 @@ impl<M: Memory> Heap<M> {
         requires to { to < length self.old.registers }
         requires from { from < length self.old.registers }
         ensures runs { Runs self.old self.new steps.old steps.new (Command.Cdr to from) result }
-        ensures costs { Takes self.old self.new steps.old steps.new MAX_MOVED_WORDS 120 result }
+        ensures costs { Takes self.old self.new steps.old steps.new MAX_MOVED_WORDS (2 * settle_accesses + 2 * find_accesses + 2) result }
         ensures moves { MovesAtMost self.old self.new 2 }
     {
         let answer = heap_commands::cdr(&mut self.ground, &mut self.registers, to, from, steps);
@@ -143,7 +144,7 @@ impl<M: Memory> Heap<M> {
         requires target { target < length self.old.registers }
         requires from { from < length self.old.registers }
         ensures runs { Runs self.old self.new steps.old steps.new (Command.Rplaca target from) result }
-        ensures costs { Takes self.old self.new steps.old steps.new MAX_MOVED_WORDS 106 result }
+        ensures costs { Takes self.old self.new steps.old steps.new MAX_MOVED_WORDS (2 * settle_accesses + find_accesses + 1) result }
         ensures moves { MovesAtMost self.old self.new 2 }
     {
         let answer = heap_commands::rplaca(
@@ -163,7 +164,7 @@ impl<M: Memory> Heap<M> {
         requires target { target < length self.old.registers }
         requires from { from < length self.old.registers }
         ensures runs { Runs self.old self.new steps.old steps.new (Command.Rplacd target from) result }
-        ensures costs { Takes self.old self.new steps.old steps.new 6146 159 result }
+        ensures costs { Takes self.old self.new steps.old steps.new (MAX_MOVED_WORDS + MAX_OBJECT_WORDS + 2) (3 * settle_accesses + find_accesses + 8) result }
         ensures moves { MovesOrLays self.old self.new (get_or self.new.registers target null_word) (get_or self.new.registers from null_word) }
     {
         let answer = heap_commands::rplacd(

@@ -1,11 +1,12 @@
 //! Commands on registers alone.
-ghost use Rattle.std.specs.Prelude.{◌≡◌, ◌<◌, length};
+ghost use Rattle.std.specs.Prelude.{◌≡◌, ◌<◌, length, ◌+◌, ◌*◌};
 ghost use Rattle.lisp_graph.specs.Commands.{IsPlain};
 ghost use Rattle.heap_commands.specs.cdr_lists.Words.{plain};
 ghost use Rattle.lisp_heap.specs.Costs.{Takes};
 ghost use Rattle.lisp_heap.specs.Moves.{MovesAtMost};
 ghost use Rattle.lisp_heap.specs.Stands.{Runs};
 ghost use Rattle.lisp_heap.specs.Words.{content_of};
+ghost use Rattle.transporter.specs.Accesses.{resolve_accesses, settle_accesses};
 
 use crate::heap::{Heap, finish_step};
 use heap_state::commands_are_steps;
@@ -35,7 +36,7 @@ impl<M: Memory> Heap<M> {
         requires to { to < length self.old.registers }
         requires from { from < length self.old.registers }
         ensures runs { Runs self.old self.new steps.old steps.new (Command.Move to from) result }
-        ensures costs { Takes self.old self.new steps.old steps.new MAX_OBJECT_WORDS 46 result }
+        ensures costs { Takes self.old self.new steps.old steps.new MAX_OBJECT_WORDS settle_accesses result }
         ensures moves { MovesAtMost self.old self.new 1 }
     {
         let answer = heap_commands::copy_register(
@@ -55,7 +56,7 @@ impl<M: Memory> Heap<M> {
         requires left { left < length self.old.registers }
         requires right { right < length self.old.registers }
         ensures runs { Runs self.old self.new steps.old steps.new (Command.Eq left right) result }
-        ensures costs { Takes self.old self.new steps.old steps.new MAX_MOVED_WORDS 116 result }
+        ensures costs { Takes self.old self.new steps.old steps.new MAX_MOVED_WORDS (2 * settle_accesses + 2 * resolve_accesses) result }
         ensures moves { MovesAtMost self.old self.new 2 }
     {
         let answer = heap_commands::eq(&mut self.ground, &mut self.registers, left, right, steps);

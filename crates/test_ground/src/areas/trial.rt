@@ -64,7 +64,7 @@ impl Trial {
         ensures at_most { IfSome result (λ _. words ≤ 2048) }
         ensures in_range { IfSome result (λ _. self.old.live_words + self.old.old_words + words ≤ 2 * quota_of self.new.ground.table 0) }
     {
-        self.ground.table.assert_invariant();
+        let _regions = self.ground.table.regions();
         let quota = self.ground.table.quota(0);
         if words == 0 || words > 2048 || self.live_words + self.old_words + words > 2 * quota {
             return None;
@@ -78,7 +78,7 @@ impl Trial {
         ensures { IsTrial (plain_store self.new.ground.mem) self.new.ground.table self.new.live_words self.new.old_words self.new.moving }
     {
         let placed = self.place(words)?;
-        self.ground.table.assert_invariant();
+        let _regions = self.ground.table.regions();
         if self.ground.table.account(0) + words > self.ground.table.quota(0) {
             return None;
         }
@@ -93,7 +93,7 @@ impl Trial {
         ensures { IsTrial (plain_store self.new.ground.mem) self.new.ground.table self.new.live_words self.new.old_words self.new.moving }
     {
         let placed = self.place(words)?;
-        self.ground.table.assert_invariant();
+        let _regions = self.ground.table.regions();
         if words > self.moving {
             return None;
         }
@@ -114,7 +114,7 @@ impl Trial {
         requires { IsTrial (plain_store self.old.ground.mem) self.old.ground.table self.old.live_words self.old.old_words self.old.moving }
         ensures { IsTrial (plain_store self.new.ground.mem) self.new.ground.table self.new.live_words self.new.old_words self.new.moving }
     {
-        self.ground.table.assert_invariant();
+        let _regions = self.ground.table.regions();
         if has_no_old(&self.ground.table) {
             self.ground.condemn(Condemn::Full);
             self.old_words = self.live_words;
@@ -131,7 +131,7 @@ impl Trial {
         requires { IsTrial (plain_store self.old.ground.mem) self.old.ground.table self.old.live_words self.old.old_words self.old.moving }
         ensures { IsTrial (plain_store self.new.ground.mem) self.new.ground.table self.new.live_words self.new.old_words self.new.moving }
     {
-        self.ground.table.assert_invariant();
+        let _regions = self.ground.table.regions();
         self.ground.free_old();
         self.old_words = 0;
         self.moving = 0;

@@ -34,9 +34,7 @@ pub(crate) fn reserve<M: Memory>(
     ensures { Reserves (view ground.old) (view ground.new) result words charge origin }
 {
     let placed = ground.place(0, 0, words);
-    ground.table.assert_invariant();
     ground.commit(&placed, words, charge, origin);
-    ground.table.assert_invariant();
     placed.at
 }
 

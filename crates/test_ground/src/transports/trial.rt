@@ -43,7 +43,7 @@ impl<M: Memory + Drop> Trial<M> {
         ensures { IfOk result (λ trial. IsOpen (view trial.ground) trial.front trial.middle) }
     {
         let table = RegionTable::new(alloc, space, areas)?;
-        table.assert_invariant();
+        let _regions = table.regions();
         Ok(Trial {
             ground: Ground { mem, table },
             front: Word::nil(),
@@ -163,7 +163,6 @@ impl<M: Memory + Drop> Trial<M> {
         write_wider(mem, at, code, length, to, steps)?;
         leave_husk(mem, at, to, length, steps)?;
         self.ground.note_husk(at, length as u32 + 1);
-        self.ground.table.assert_invariant();
         Ok(true)
     }
 
@@ -181,7 +180,6 @@ impl<M: Memory + Drop> Trial<M> {
         ensures { IsRunning (view self.new.ground) self.new.front self.new.middle }
     {
         self.ground.condemn(Condemn::Full);
-        self.ground.table.assert_invariant();
         assert_invariant(&self.ground.mem);
     }
 

@@ -17,7 +17,7 @@ use Rattle.block_store.specs.Opening.{OpensAsNeeded}
 use Rattle.area_space.specs.Table.{Table, slot_of}
 use Rattle.transporter.proofs.PageMarks.{marks-read}
 use Rattle.block_store.proofs.growing.grow.Given.{Over}
-use Rattle.block_store.proofs.growing.grow.Goals.{After-assert_invariant-2}
+use Rattle.block_store.proofs.growing.grow.Goals.{After-note_husk}
 use Rattle.block_store.proofs.growing.grow.Goals as goal
 
 -- what is written, read and held
@@ -38,7 +38,7 @@ grown_length-wide-requires-clause-order g c = fewer_fields _ c.args.ground.now.t
 
 pub place_for-placed-requires-clause-in_range : goal.place_for-placed-requires-clause-in_range
 place_for-placed-requires-clause-in_range g c =
-    let room = room_for_wide _ c.args.ground.now.table c.args.of c.args.wanted c.requires.can c.requires.at_most c.in_ok-head.head c.in_ok-head.ensures.value c.class_of_live-class.result c.class_of_live-class.ensures in
+    let room = room_for_wide _ c.args.ground.now.table c.args.of c.args.wanted c.requires.can c.requires.at_most c.in_ok-head.head c.in_ok-head.ensures.value c.class_of_live-class.result c.class_of_live-class.ensures.value in
     let is = c.grown_length-wide.ensures in
     omega arith
 
@@ -57,16 +57,16 @@ lay_anew-requires g c =
     record {
       few = (let few = c.requires.at_most in omega arith);
       more = omega arith;
-      from_inside = old_inside _ _ c.args.of c.args.wanted c.requires.can c.requires.at_most c.in_ok-head.head head.value _ head.unchanged c.class_of_live-class.result c.class_of_live-class.ensures _ _ _ p.opened;
-      to_inside = new_inside _ _ c.args.of c.args.wanted c.requires.can c.requires.at_most c.in_ok-head.head head.value _ head.unchanged c.class_of_live-class.result c.class_of_live-class.ensures _ _ _ p.opened c.grown_length-wide.result c.grown_length-wide.ensures c.place_for-placed.result.at p.end;
-      apart = new_apart _ _ c.args.of c.args.wanted c.requires.can c.requires.at_most c.in_ok-head.head head.value _ head.unchanged c.class_of_live-class.result c.class_of_live-class.ensures _ _ _ p.opened c.grown_length-wide.result c.grown_length-wide.ensures c.place_for-placed.result.at p.end;
+      from_inside = old_inside _ _ c.args.of c.args.wanted c.requires.can c.requires.at_most c.in_ok-head.head head.value _ head.unchanged c.class_of_live-class.result c.class_of_live-class.ensures.value _ _ _ p.opened;
+      to_inside = new_inside _ _ c.args.of c.args.wanted c.requires.can c.requires.at_most c.in_ok-head.head head.value _ head.unchanged c.class_of_live-class.result c.class_of_live-class.ensures.value _ _ _ p.opened c.grown_length-wide.result c.grown_length-wide.ensures c.place_for-placed.result.at p.end;
+      apart = new_apart _ _ c.args.of c.args.wanted c.requires.can c.requires.at_most c.in_ok-head.head head.value _ head.unchanged c.class_of_live-class.result c.class_of_live-class.ensures.value _ _ _ p.opened c.grown_length-wide.result c.grown_length-wide.ensures c.place_for-placed.result.at p.end;
     }
 
 pub returns-in_err-lay_anew-clause-fault : goal.returns-in_err-lay_anew-clause-fault
 returns-in_err-lay_anew-clause-fault g c =
     let head = c.in_ok-head.ensures in
     let p = c.place_for-placed.ensures in
-    on-err c.from_residual-in_err-lay_anew.result (grow_stays _ _ c.args.of c.args.wanted c.requires.can c.requires.at_most c.in_ok-head.head head.value _ head.unchanged c.class_of_live-class.result c.class_of_live-class.ensures _ _ _ p.opened _ c.in_err-lay_anew.ensures.err)
+    on-err c.from_residual-in_err-lay_anew.result (grow_stays _ _ c.args.of c.args.wanted c.requires.can c.requires.at_most c.in_ok-head.head head.value _ head.unchanged c.class_of_live-class.result c.class_of_live-class.ensures.value _ _ _ p.opened _ c.in_err-lay_anew.ensures.err)
 
 pub returns-in_err-lay_anew-clause-cost : goal.returns-in_err-lay_anew-clause-cost
 returns-in_err-lay_anew-clause-cost g c =
@@ -80,15 +80,15 @@ pub commit-requires-clause-allowed : goal.commit-requires-clause-allowed
 commit-requires-clause-allowed g c =
     let head = c.in_ok-head.ensures in
     let p = c.place_for-placed.ensures in
-    new_charge_allowed _ _ c.args.of c.args.wanted c.requires.can c.requires.at_most c.in_ok-head.head head.value _ head.unchanged c.class_of_live-class.result c.class_of_live-class.ensures _ _ _ p.opened c.grown_length-wide.result c.grown_length-wide.ensures c.place_for-placed.result.at p.end
+    new_charge_allowed _ _ c.args.of c.args.wanted c.requires.can c.requires.at_most c.in_ok-head.head head.value _ head.unchanged c.class_of_live-class.result c.class_of_live-class.ensures.value _ _ _ p.opened c.grown_length-wide.result c.grown_length-wide.ensures c.place_for-placed.result.at p.end
 
 pub note_husk-requires-clause-in_range : goal.note_husk-requires-clause-in_range
 note_husk-requires-clause-in_range g c =
     let head = c.in_ok-head.ensures in
     let p = c.place_for-placed.ensures in
-    let end = new_end _ _ c.args.of c.args.wanted c.requires.can c.requires.at_most c.in_ok-head.head head.value _ head.unchanged c.class_of_live-class.result c.class_of_live-class.ensures _ _ _ p.opened c.grown_length-wide.result c.grown_length-wide.ensures c.place_for-placed.result.at p.end in (
+    let end = new_end _ _ c.args.of c.args.wanted c.requires.can c.requires.at_most c.in_ok-head.head head.value _ head.unchanged c.class_of_live-class.result c.class_of_live-class.ensures.value _ _ _ p.opened c.grown_length-wide.result c.grown_length-wide.ensures c.place_for-placed.result.at p.end in (
       _,
-      old_stands _ _ c.args.of c.args.wanted c.requires.can c.requires.at_most c.in_ok-head.head head.value _ head.unchanged c.class_of_live-class.result c.class_of_live-class.ensures _ _ _ p.opened c.grown_length-wide.result c.grown_length-wide.ensures c.place_for-placed.result.at p.end
+      old_stands _ _ c.args.of c.args.wanted c.requires.can c.requires.at_most c.in_ok-head.head head.value _ head.unchanged c.class_of_live-class.result c.class_of_live-class.ensures.value _ _ _ p.opened c.grown_length-wide.result c.grown_length-wide.ensures c.place_for-placed.result.at p.end
           (g.M.Memory.seen c.lay_anew.new.mem) c.in_ok-lay_anew.ensures.ok c.commit.new.self.table (c.commit.ensures.table _ end),
     )
 
@@ -96,39 +96,39 @@ pub note_husk-requires-clause-at_most : goal.note_husk-requires-clause-at_most
 note_husk-requires-clause-at_most g c =
     let head = c.in_ok-head.ensures in
     let p = c.place_for-placed.ensures in
-    let end = new_end _ _ c.args.of c.args.wanted c.requires.can c.requires.at_most c.in_ok-head.head head.value _ head.unchanged c.class_of_live-class.result c.class_of_live-class.ensures _ _ _ p.opened c.grown_length-wide.result c.grown_length-wide.ensures c.place_for-placed.result.at p.end in
-    old_charged _ _ c.args.of c.args.wanted c.requires.can c.requires.at_most c.in_ok-head.head head.value _ head.unchanged c.class_of_live-class.result c.class_of_live-class.ensures _ _ _ p.opened c.grown_length-wide.result c.grown_length-wide.ensures c.place_for-placed.result.at p.end
+    let end = new_end _ _ c.args.of c.args.wanted c.requires.can c.requires.at_most c.in_ok-head.head head.value _ head.unchanged c.class_of_live-class.result c.class_of_live-class.ensures.value _ _ _ p.opened c.grown_length-wide.result c.grown_length-wide.ensures c.place_for-placed.result.at p.end in
+    old_charged _ _ c.args.of c.args.wanted c.requires.can c.requires.at_most c.in_ok-head.head head.value _ head.unchanged c.class_of_live-class.result c.class_of_live-class.ensures.value _ _ _ p.opened c.grown_length-wide.result c.grown_length-wide.ensures c.place_for-placed.result.at p.end
     (g.M.Memory.seen c.lay_anew.new.mem) c.in_ok-lay_anew.ensures.ok c.commit.new.self.table (c.commit.ensures.table _ end)
 
 -- The state after the call
 
-has_grown : (g : Over) (c : After-assert_invariant-2 g) → LeavesGrown (g.M.Memory.seen c.args.ground.now.mem) c.args.ground.now.table (g.M.Memory.seen c.note_husk.new.self.mem) c.note_husk.new.self.table c.args.of.content c.args.wanted c.place_for-placed.result.at
+has_grown : (g : Over) (c : After-note_husk g) → LeavesGrown (g.M.Memory.seen c.args.ground.now.mem) c.args.ground.now.table (g.M.Memory.seen c.note_husk.new.self.mem) c.note_husk.new.self.table c.args.of.content c.args.wanted c.place_for-placed.result.at
 has_grown g c =
     let head = c.in_ok-head.ensures in
     let p = c.place_for-placed.ensures in
-    let end = new_end _ _ c.args.of c.args.wanted c.requires.can c.requires.at_most c.in_ok-head.head head.value _ head.unchanged c.class_of_live-class.result c.class_of_live-class.ensures _ _ _ p.opened c.grown_length-wide.result c.grown_length-wide.ensures c.place_for-placed.result.at p.end in
+    let end = new_end _ _ c.args.of c.args.wanted c.requires.can c.requires.at_most c.in_ok-head.head head.value _ head.unchanged c.class_of_live-class.result c.class_of_live-class.ensures.value _ _ _ p.opened c.grown_length-wide.result c.grown_length-wide.ensures c.place_for-placed.result.at p.end in
     let commit = c.commit.ensures.table _ end in
-    let stands = old_stands _ _ c.args.of c.args.wanted c.requires.can c.requires.at_most c.in_ok-head.head head.value _ head.unchanged c.class_of_live-class.result c.class_of_live-class.ensures _ _ _ p.opened c.grown_length-wide.result c.grown_length-wide.ensures c.place_for-placed.result.at p.end
+    let stands = old_stands _ _ c.args.of c.args.wanted c.requires.can c.requires.at_most c.in_ok-head.head head.value _ head.unchanged c.class_of_live-class.result c.class_of_live-class.ensures.value _ _ _ p.opened c.grown_length-wide.result c.grown_length-wide.ensures c.place_for-placed.result.at p.end
     (g.M.Memory.seen c.lay_anew.new.mem) c.in_ok-lay_anew.ensures.ok c.commit.new.self.table commit in
-    let grown = new_grown _ _ c.args.of c.args.wanted c.requires.can c.requires.at_most c.in_ok-head.head head.value _ head.unchanged c.class_of_live-class.result c.class_of_live-class.ensures _ _ _ p.opened c.grown_length-wide.result c.grown_length-wide.ensures c.place_for-placed.result.at p.end
-    (g.M.Memory.seen c.lay_anew.new.mem) c.in_ok-lay_anew.ensures.ok c.commit.new.self.table commit c.note_husk.new.self.table (c.note_husk.ensures.table _ stands) c.assert_invariant-2.ensures c.commit.ensures.pages in
+    let grown = new_grown _ _ c.args.of c.args.wanted c.requires.can c.requires.at_most c.in_ok-head.head head.value _ head.unchanged c.class_of_live-class.result c.class_of_live-class.ensures.value _ _ _ p.opened c.grown_length-wide.result c.grown_length-wide.ensures c.place_for-placed.result.at p.end
+    (g.M.Memory.seen c.lay_anew.new.mem) c.in_ok-lay_anew.ensures.ok c.commit.new.self.table commit c.note_husk.new.self.table (c.note_husk.ensures.table _ stands) c.note_husk.ensures.sound c.commit.ensures.pages in
     let memory = ap g.M.Memory.seen (c.note_husk.ensures.memory ∙ c.commit.ensures.memory) in
     subst (λ (m : Store). LeavesGrown (g.M.Memory.seen c.args.ground.now.mem) c.args.ground.now.table m c.note_husk.new.self.table c.args.of.content c.args.wanted c.place_for-placed.result.at) (sym memory) grown
 
 pub returns-clause-grows : goal.returns-clause-grows
-returns-clause-grows g c = (has_grown g (goal.at.returns-clause-grows g c).After-assert_invariant-2).grows
+returns-clause-grows g c = (has_grown g (goal.at.returns-clause-grows g c).After-note_husk).grows
 
 pub returns-clause-size : goal.returns-clause-size
-returns-clause-size g c = grows_within _ _ c.args.of c.args.wanted c.requires.can c.requires.at_most c.in_ok-head.head c.in_ok-head.ensures.value c.class_of_live-class.result c.class_of_live-class.ensures
+returns-clause-size g c = grows_within _ _ c.args.of c.args.wanted c.requires.can c.requires.at_most c.in_ok-head.head c.in_ok-head.ensures.value c.class_of_live-class.result c.class_of_live-class.ensures.value
 
 pub returns-clause-in_range : goal.returns-clause-in_range
 returns-clause-in_range g c =
     let head = c.in_ok-head.ensures in
     let p = c.place_for-placed.ensures in
-    new_low _ _ c.args.of c.args.wanted c.requires.can c.requires.at_most c.in_ok-head.head head.value _ head.unchanged c.class_of_live-class.result c.class_of_live-class.ensures _ _ _ p.opened c.grown_length-wide.result c.grown_length-wide.ensures c.place_for-placed.result.at p.end
+    new_low _ _ c.args.of c.args.wanted c.requires.can c.requires.at_most c.in_ok-head.head head.value _ head.unchanged c.class_of_live-class.result c.class_of_live-class.ensures.value _ _ _ p.opened c.grown_length-wide.result c.grown_length-wide.ensures c.place_for-placed.result.at p.end
 
 pub returns-clause-left : goal.returns-clause-left
-returns-clause-left g c = (has_grown g (goal.at.returns-clause-left g c).After-assert_invariant-2).husk
+returns-clause-left g c = (has_grown g (goal.at.returns-clause-left g c).After-note_husk).husk
 
 pub returns-clause-cost : goal.returns-clause-cost
 returns-clause-cost g c =
@@ -145,28 +145,28 @@ pub returns-in_err-lay_anew-clause-opened : goal.returns-in_err-lay_anew-clause-
 returns-in_err-lay_anew-clause-opened g c =
     let head = c.in_ok-head.ensures in
     let p = c.place_for-placed.ensures in
-    on-err c.from_residual-in_err-lay_anew.result (room_or_same _ _ c.args.of c.args.wanted c.requires.can c.requires.at_most c.in_ok-head.head head.value _ head.unchanged c.class_of_live-class.result c.class_of_live-class.ensures _ _ _ p.opened)
+    on-err c.from_residual-in_err-lay_anew.result (room_or_same _ _ c.args.of c.args.wanted c.requires.can c.requires.at_most c.in_ok-head.head head.value _ head.unchanged c.class_of_live-class.result c.class_of_live-class.ensures.value _ _ _ p.opened)
 
 pub returns-clause-placed : goal.returns-clause-placed
-returns-clause-placed g c = (has_grown g (goal.at.returns-clause-placed g c).After-assert_invariant-2).placed
+returns-clause-placed g c = (has_grown g (goal.at.returns-clause-placed g c).After-note_husk).placed
 
 pub returns-in_err-lay_anew-clause-preserves : goal.returns-in_err-lay_anew-clause-preserves
 returns-in_err-lay_anew-clause-preserves g c =
     let head = c.in_ok-head.ensures in
     let p = c.place_for-placed.ensures in
-    faulted_preserves _ _ c.args.of c.args.wanted c.requires.can c.requires.at_most c.in_ok-head.head head.value _ head.unchanged c.class_of_live-class.result c.class_of_live-class.ensures _ _ _ p.opened _ c.in_err-lay_anew.ensures.err
+    faulted_preserves _ _ c.args.of c.args.wanted c.requires.can c.requires.at_most c.in_ok-head.head head.value _ head.unchanged c.class_of_live-class.result c.class_of_live-class.ensures.value _ _ _ p.opened _ c.in_err-lay_anew.ensures.err
 
 pub returns-in_err-lay_anew-clause-stays_fresh : goal.returns-in_err-lay_anew-clause-stays_fresh
 returns-in_err-lay_anew-clause-stays_fresh g c =
     let head = c.in_ok-head.ensures in
     let p = c.place_for-placed.ensures in
-    faulted_stays_fresh _ _ c.args.of c.args.wanted c.requires.can c.requires.at_most c.in_ok-head.head head.value _ head.unchanged c.class_of_live-class.result c.class_of_live-class.ensures _ _ _ p.opened _ c.in_err-lay_anew.ensures.err
+    faulted_stays_fresh _ _ c.args.of c.args.wanted c.requires.can c.requires.at_most c.in_ok-head.head head.value _ head.unchanged c.class_of_live-class.result c.class_of_live-class.ensures.value _ _ _ p.opened _ c.in_err-lay_anew.ensures.err
 
 pub returns-clause-preserves : goal.returns-clause-preserves
-returns-clause-preserves g c = (has_grown g (goal.at.returns-clause-preserves g c).After-assert_invariant-2).preserves
+returns-clause-preserves g c = (has_grown g (goal.at.returns-clause-preserves g c).After-note_husk).preserves
 
 pub returns-clause-stays_fresh : goal.returns-clause-stays_fresh
-returns-clause-stays_fresh g c = (has_grown g (goal.at.returns-clause-stays_fresh g c).After-assert_invariant-2).stays_fresh
+returns-clause-stays_fresh g c = (has_grown g (goal.at.returns-clause-stays_fresh g c).After-note_husk).stays_fresh
 
 pub returns-in_err-lay_anew-clause-accounted : goal.returns-in_err-lay_anew-clause-accounted
 returns-in_err-lay_anew-clause-accounted g c =
@@ -187,7 +187,7 @@ pub returns-in_err-lay_anew-clause-needed : goal.returns-in_err-lay_anew-clause-
 returns-in_err-lay_anew-clause-needed g c =
     let head = c.in_ok-head.ensures in
     let p = c.place_for-placed.ensures in
-    let class = c.class_of_live-class.ensures in
+    let class = c.class_of_live-class.ensures.value in
     let table = c.requires.can.kept.table in
     let placed = place-needed _ _ c.args.ground.now.table c.place_for-placed.new.ground.table c.class_of_live-class.result.area c.class_of_live-class.result.level (c.grown_length-wide.result + 1) _ table class.area_in class.level_in p.opened p.needed in
     grown-needed (g.M.Memory.seen c.args.ground.now.mem) c.args.ground.now.table c.args.of.content c.in_ok-head.head head.value _ class table c.place_for-placed.new.ground.table c.args.wanted
@@ -197,11 +197,11 @@ pub returns-clause-needed : goal.returns-clause-needed
 returns-clause-needed g c =
     let head = c.in_ok-head.ensures in
     let p = c.place_for-placed.ensures in
-    let class = c.class_of_live-class.ensures in
+    let class = c.class_of_live-class.ensures.value in
     let table = c.requires.can.kept.table in
-    let end = new_end _ _ c.args.of c.args.wanted c.requires.can c.requires.at_most c.in_ok-head.head head.value _ head.unchanged c.class_of_live-class.result c.class_of_live-class.ensures _ _ _ p.opened c.grown_length-wide.result c.grown_length-wide.ensures c.place_for-placed.result.at p.end in
+    let end = new_end _ _ c.args.of c.args.wanted c.requires.can c.requires.at_most c.in_ok-head.head head.value _ head.unchanged c.class_of_live-class.result c.class_of_live-class.ensures.value _ _ _ p.opened c.grown_length-wide.result c.grown_length-wide.ensures c.place_for-placed.result.at p.end in
     let commit = c.commit.ensures.table _ end in
-    let stands = old_stands _ _ c.args.of c.args.wanted c.requires.can c.requires.at_most c.in_ok-head.head head.value _ head.unchanged c.class_of_live-class.result c.class_of_live-class.ensures _ _ _ p.opened c.grown_length-wide.result c.grown_length-wide.ensures c.place_for-placed.result.at p.end
+    let stands = old_stands _ _ c.args.of c.args.wanted c.requires.can c.requires.at_most c.in_ok-head.head head.value _ head.unchanged c.class_of_live-class.result c.class_of_live-class.ensures.value _ _ _ p.opened c.grown_length-wide.result c.grown_length-wide.ensures c.place_for-placed.result.at p.end
     (g.M.Memory.seen c.lay_anew.new.mem) c.in_ok-lay_anew.ensures.ok c.commit.new.self.table commit in
     let chains = ap (λ (u : Table). u.chains) (c.note_husk.ensures.table _ stands) ∙ ap (λ (u : Table). u.chains) commit in
     let placed = place-needed _ _ c.args.ground.now.table c.place_for-placed.new.ground.table c.class_of_live-class.result.area c.class_of_live-class.result.level (c.grown_length-wide.result + 1) _ table class.area_in class.level_in p.opened p.needed in
@@ -216,15 +216,15 @@ pub returns-in_err-lay_anew-clause-marks : goal.returns-in_err-lay_anew-clause-m
 returns-in_err-lay_anew-clause-marks g c =
     let head = c.in_ok-head.ensures in
     let p = c.place_for-placed.ensures in
-    faulted_marks _ _ c.args.of c.args.wanted c.requires.can c.requires.at_most c.in_ok-head.head head.value _ head.unchanged c.class_of_live-class.result c.class_of_live-class.ensures _ _ _ p.opened _ c.in_err-lay_anew.ensures.err
+    faulted_marks _ _ c.args.of c.args.wanted c.requires.can c.requires.at_most c.in_ok-head.head head.value _ head.unchanged c.class_of_live-class.result c.class_of_live-class.ensures.value _ _ _ p.opened _ c.in_err-lay_anew.ensures.err
 
 pub returns-clause-marks : goal.returns-clause-marks
-returns-clause-marks g c = (has_grown g (goal.at.returns-clause-marks g c).After-assert_invariant-2).marks
+returns-clause-marks g c = (has_grown g (goal.at.returns-clause-marks g c).After-note_husk).marks
 
 pub returns-clause-unmarked : goal.returns-clause-unmarked
 returns-clause-unmarked g c = λ reference here refers final.
     let head = c.in_ok-head.ensures in
     let p = c.place_for-placed.ensures in
-    let apart = new_apart _ _ c.args.of c.args.wanted c.requires.can c.requires.at_most c.in_ok-head.head head.value _ head.unchanged c.class_of_live-class.result c.class_of_live-class.ensures _ _ _ p.opened c.grown_length-wide.result c.grown_length-wide.ensures c.place_for-placed.result.at p.end in
+    let apart = new_apart _ _ c.args.of c.args.wanted c.requires.can c.requires.at_most c.in_ok-head.head head.value _ head.unchanged c.class_of_live-class.result c.class_of_live-class.ensures.value _ _ _ p.opened c.grown_length-wide.result c.grown_length-wide.ensures c.place_for-placed.result.at p.end in
     subst (λ (m : Store). MarksGrown (g.M.Memory.seen c.args.ground.now.mem) c.args.ground.now.table m c.args.of.content here c.place_for-placed.result.at c.args.wanted) (sym (ap g.M.Memory.seen (c.note_husk.ensures.memory ∙ c.commit.ensures.memory)))
     (block_marks_grown c.args.of c.args.wanted c.grown_length-wide.result c.place_for-placed.result.at head.value c.grown_length-wide.ensures c.place_for-placed.result.opened head.unchanged p.opened c.in_ok-lay_anew.ensures.ok apart reference here refers final)

@@ -10,7 +10,7 @@ pub class_of_live-class-requires-clause-live : goal.class_of_live-class-requires
 class_of_live-class-requires-clause-live g c = live_head _ _ c.args.of c.requires.represented c.requires.fresh c.in_ok-head.head c.in_ok-head.ensures.value
 
 pub returns-clause-area : goal.returns-clause-area
-returns-clause-area g c = tells_area (g.M.Memory.seen c.args.ground.now.mem) c.args.ground.now.table c.args.of.content c.in_ok-head.head c.in_ok-head.ensures.value c.class_of_live-class.result c.class_of_live-class.ensures
+returns-clause-area g c = tells_area (g.M.Memory.seen c.args.ground.now.mem) c.args.ground.now.table c.args.of.content c.in_ok-head.head c.in_ok-head.ensures.value c.class_of_live-class.result c.class_of_live-class.ensures.value
 
 pub returns-clause-size : goal.returns-clause-size
 returns-clause-size g c = tells_length (g.M.Memory.seen c.args.ground.now.mem) c.args.ground.now.table c.args.of.content c.in_ok-head.head c.in_ok-head.ensures.value

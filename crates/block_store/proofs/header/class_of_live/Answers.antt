@@ -6,12 +6,12 @@ use Rattle.block_store.proofs.header.class_of_live.Goals as goal
 pub unwrap-requires : goal.unwrap-requires
 unwrap-requires c = some_since _ _ _ c.class_of.ensures.none (λ free. free (live c.requires.live.0) c.requires.live.1)
 
-pub returns : goal.returns
-returns c =
+pub returns-clause-value : goal.returns-clause-value
+returns-clause-value c =
     let found = c.class_of.ensures in
     let is = c.unwrap.ensures in
     record {
       area_in = rw is at found.area;
       level_in = rw is at found.level;
-      region = class_there c.args.table.now c.args.at c.unwrap.result c.assert_invariant.ensures c.requires.live (rw is at found.some);
+      region = class_there c.args.table.now c.args.at c.unwrap.result c.class_of.ensures.sound c.requires.live (rw is at found.some);
     }

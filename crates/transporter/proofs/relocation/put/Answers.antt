@@ -68,4 +68,4 @@ returns-clause-placed g c =
     let size = c.new_words-words.ensures in
     let t = c.args.ground.now.table in
     let is = c.commit.ensures.table (slot_of t c.args.class.area (survivor t c.args.class.level)) (subst (λ (n : ℕ). IsEnd t (slot_of t c.args.class.area (survivor t c.args.class.level)) c.args.placed.now.at n) (sym size) r.end) in
-    commits-noted c.args.class (ap (λ b. record c.args.class { stale = b }) r.stale_is) (rw size at is) (rw size at c.commit.ensures.pages) (rw size at c.note_moved.ensures)
+    commits-noted c.args.class (ap (λ b. record c.args.class { stale = b }) r.stale_is) (rw size at is) (rw size at c.commit.ensures.pages) (rw size at c.note_moved.ensures.after)

@@ -12,7 +12,7 @@ place_for-placed-requires-clause-in_range g c =
     let class = c.args.class in
     let words = c.new_words.ensures in
     let within : words_of_area t r.area + c.new_words.result ≤ 2 * quota_of t r.area = (let w = r.within in omega arith) in
-    subst (λ (a : ℕ). words_of_area t a + c.new_words.result ≤ 2 * quota_of t a) (sym (same_area t _ _ _ _ _ c.assert_invariant.ensures c.requires.agrees.old r.old)) within
+    subst (λ (a : ℕ). words_of_area t a + c.new_words.result ≤ 2 * quota_of t a) (sym (same_area t _ _ _ _ _ c.survivor_level-level.ensures.sound c.requires.agrees.old r.old)) within
 
 pub put-requires-clause-can : goal.put-requires-clause-can
 put-requires-clause-can g c =
@@ -24,9 +24,9 @@ put-requires-clause-can g c =
     let low = survivor_in t class.level old.level_in in
     let s = g.M.Memory.seen c.args.ground.now.mem in
     let s' = g.M.Memory.seen placed.new.ground.mem in
-    can-put s t p c.requires.can c.assert_invariant.ensures class old c.requires.agrees.stale_is low placed.result.at s' placed.new.ground.table placed.result.opened
-    (opens-there s t p class old c.survivor_level-level.result c.new_words.result placed.result.at c.survivor_level-level.ensures c.new_words.ensures s' placed.new.ground.table placed.result.opened placed.ensures.opened placed.ensures.end placed.ensures.needed)
-    (end-there s t p class old c.survivor_level-level.result c.new_words.result placed.result.at c.survivor_level-level.ensures c.new_words.ensures s' placed.new.ground.table placed.result.opened placed.ensures.opened placed.ensures.end placed.ensures.needed)
+    can-put s t p c.requires.can c.survivor_level-level.ensures.sound class old c.requires.agrees.stale_is low placed.result.at s' placed.new.ground.table placed.result.opened
+    (opens-there s t p class old c.survivor_level-level.result c.new_words.result placed.result.at c.survivor_level-level.ensures.value c.new_words.ensures s' placed.new.ground.table placed.result.opened placed.ensures.opened placed.ensures.end placed.ensures.needed)
+    (end-there s t p class old c.survivor_level-level.result c.new_words.result placed.result.at c.survivor_level-level.ensures.value c.new_words.ensures s' placed.new.ground.table placed.result.opened placed.ensures.opened placed.ensures.end placed.ensures.needed)
 
 pub put-requires-clause-pair : goal.put-requires-clause-pair
 put-requires-clause-pair g c = pair-stays c.args.parcel.now c.args.pair (opens-words c.place_for-placed.result.opened c.place_for-placed.ensures.opened) c.requires.pair
@@ -40,8 +40,8 @@ returns-in_err-put-clause-fault g c =
     let placed = c.place_for-placed in
     let s = g.M.Memory.seen c.args.ground.now.mem in
     let s' = g.M.Memory.seen placed.new.ground.mem in
-    let low : c.survivor_level-level.result < levels_of t = subst (λ (l : ℕ). l < levels_of t) (sym c.survivor_level-level.ensures) (survivor_in t class.level old.level_in) in
-    on-err c.from_residual.result (opens-only s t p class old c.survivor_level-level.result c.new_words.result placed.result.at c.survivor_level-level.ensures c.new_words.ensures s' placed.new.ground.table placed.result.opened placed.ensures.opened placed.ensures.end placed.ensures.needed
+    let low : c.survivor_level-level.result < levels_of t = subst (λ (l : ℕ). l < levels_of t) (sym c.survivor_level-level.ensures.value) (survivor_in t class.level old.level_in) in
+    on-err c.from_residual.result (opens-only s t p class old c.survivor_level-level.result c.new_words.result placed.result.at c.survivor_level-level.ensures.value c.new_words.ensures s' placed.new.ground.table placed.result.opened placed.ensures.opened placed.ensures.end placed.ensures.needed
     _ _ low c.in_err-put.ensures.unchanged c.in_err-put.ensures.table)
 
 pub returns-clause-moved : goal.returns-clause-moved
@@ -53,5 +53,5 @@ returns-clause-moved g c =
     let placed = c.place_for-placed in
     let s = g.M.Memory.seen c.args.ground.now.mem in
     let s' = g.M.Memory.seen placed.new.ground.mem in
-    relocates s t p class old c.survivor_level-level.result c.new_words.result placed.result.at c.survivor_level-level.ensures c.new_words.ensures s' placed.new.ground.table placed.result.opened placed.ensures.opened placed.ensures.end placed.ensures.needed
-    _ _ c.assert_invariant-2.ensures c.in_ok-put.ensures.moved c.in_ok-put.ensures.placed
+    relocates s t p class old c.survivor_level-level.result c.new_words.result placed.result.at c.survivor_level-level.ensures.value c.new_words.ensures s' placed.new.ground.table placed.result.opened placed.ensures.opened placed.ensures.end placed.ensures.needed
+    _ _ c.in_ok-put.ensures.sound c.in_ok-put.ensures.moved c.in_ok-put.ensures.placed

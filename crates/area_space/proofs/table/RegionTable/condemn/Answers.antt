@@ -15,13 +15,10 @@ loop-slot-init c = flipping_start c.args.self.now c.begin.new.self c.args.what c
 pub loop-slot-preserved : goal.loop-slot-preserved
 loop-slot-preserved c = flipping_more c.args.self.now c.loop-slot.self c.flip_slot.new.self c.args.what c.loop-slot.slot c.loop-slot.invariant c.flip_slot.ensures
 
-pub returns : goal.returns
-returns c =
-    let a = c.areas.ensures.value in
-    let b = c.levels.ensures.levels in
-    let e : c.loop-slot.slot ≡ c.areas.result * c.levels.result = omega arith in
-    let f : c.areas.result * c.levels.result ≡ slots_of c.args.self.now = ap (λ (q : ℕ). q * c.levels.result) a ∙ ap (λ (q : ℕ). areas_of c.args.self.now * q) b in
-    flipping_end c.args.self.now c.loop-slot.self c.mark_all.new.self c.args.what c.assert_invariant.ensures c.assert_invariant-2.ensures (subst (IsFlipping c.args.self.now c.loop-slot.self c.args.what) (e ∙ f) c.loop-slot.invariant) c.mark_all.ensures.unchanged c.mark_all.ensures.marks
+pub returns-clause-table : goal.returns-clause-table
+returns-clause-table c =
+    let e : c.loop-slot.slot ≡ slots_of c.args.self.now = omega (arith, c.slots-slots.ensures.value) in
+    flipping_end c.args.self.now c.loop-slot.self c.mark_all.new.self c.args.what c.slots-slots.ensures.sound c.mark_all.ensures.sound (subst (IsFlipping c.args.self.now c.loop-slot.self c.args.what) e c.loop-slot.invariant) c.mark_all.ensures.unchanged c.mark_all.ensures.marks
 
 pub flip_slot-requires-clause-collecting : goal.flip_slot-requires-clause-collecting
 flip_slot-requires-clause-collecting c = λ e. (let a = ap (λ (t : Table). t.aim) c.loop-slot.invariant.same in cc)

@@ -9,5 +9,5 @@ add_husk-requires-clause-at_most c =
     let is = c.slot_at-slot.ensures.value e.0 e.1 in
     subst (λ (s : ℕ). c.args.words ≤ slice_index c.args.self.now.charges (live s)) (sym is) (c.requires.at_most e.0 e.1)
 
-pub returns : goal.returns
-returns c = λ slot m. c.add_husk.ensures ∙ ap (λ (s : ℕ). husked c.args.self.now (live s) c.args.words) (c.slot_at-slot.ensures.value slot m)
+pub returns-clause-after : goal.returns-clause-after
+returns-clause-after c = λ slot m. c.add_husk.ensures.after ∙ ap (λ (s : ℕ). husked c.args.self.now (live s) c.args.words) (c.slot_at-slot.ensures.value slot m)

@@ -30,7 +30,7 @@ returns-in-Some-clause-after g c =
     let ending = subst (λ (s : Scan). EndsPage (g.M.Memory.seen c.args.ground.now.mem) c.args.ground.now.table s (g.M.Memory.seen c.end_page.new.ground.mem) c.end_page.new.ground.table (c.args.at / 256)) c.mark_word.ensures c.end_page.ensures.end in
     let paged = ended-paged (g.M.Memory.seen c.args.ground.now.mem) (g.M.Memory.seen c.end_page.new.ground.mem) c.args.ground.now.table c.end_page.new.ground.table c.args.self.now c.args.at c.requires.first inside c.requires.paged ending in
     let left = subst (λ (s : Scan). page_done s c.args.ground.now.table (c.args.at / 256) ≡ false) c.mark_word.ensures (sym c.end_page.ensures.done ∙ c.if-end_page.false) in
-    c.mark_word.ensures ∙ sym (left-closed (g.M.Memory.seen c.args.ground.now.mem) (g.M.Memory.seen c.end_page.new.ground.mem) c.args.ground.now.table c.end_page.new.ground.table c.args.self.now c.args.at ending c.assert_invariant.ensures.used_size paged c.requires.going left)
+    c.mark_word.ensures ∙ sym (left-closed (g.M.Memory.seen c.args.ground.now.mem) (g.M.Memory.seen c.end_page.new.ground.mem) c.args.ground.now.table c.end_page.new.ground.table c.args.self.now c.args.at ending c.requires.sound.used_size paged c.requires.going left)
 
 pub returns-in_default-clause-after : goal.returns-in_default-clause-after
 returns-in_default-clause-after g c =
@@ -40,7 +40,7 @@ returns-in_default-clause-after g c =
     let ending = subst (λ (s : Scan). EndsPage (g.M.Memory.seen c.args.ground.now.mem) c.args.ground.now.table s (g.M.Memory.seen c.end_page.new.ground.mem) c.end_page.new.ground.table (c.args.at / 256)) c.mark_word.ensures c.end_page.ensures.end in
     let paged = ended-paged (g.M.Memory.seen c.args.ground.now.mem) (g.M.Memory.seen c.end_page.new.ground.mem) c.args.ground.now.table c.end_page.new.ground.table c.args.self.now c.args.at c.requires.first inside c.requires.paged ending in
     let left = subst (λ (s : Scan). page_done s c.args.ground.now.table (c.args.at / 256) ≡ false) c.mark_word.ensures (sym c.end_page.ensures.done ∙ c.if-end_page.false) in
-    c.mark_word.ensures ∙ sym (left-closed (g.M.Memory.seen c.args.ground.now.mem) (g.M.Memory.seen c.end_page.new.ground.mem) c.args.ground.now.table c.end_page.new.ground.table c.args.self.now c.args.at ending c.assert_invariant.ensures.used_size paged c.requires.going left)
+    c.mark_word.ensures ∙ sym (left-closed (g.M.Memory.seen c.args.ground.now.mem) (g.M.Memory.seen c.end_page.new.ground.mem) c.args.ground.now.table c.end_page.new.ground.table c.args.self.now c.args.at ending c.requires.sound.used_size paged c.requires.going left)
 
 pub returns-in_default-2-clause-after : goal.returns-in_default-2-clause-after
 returns-in_default-2-clause-after g c =
@@ -50,7 +50,7 @@ returns-in_default-2-clause-after g c =
     let ending = subst (λ (s : Scan). EndsPage (g.M.Memory.seen c.args.ground.now.mem) c.args.ground.now.table s (g.M.Memory.seen c.end_page.new.ground.mem) c.end_page.new.ground.table (c.args.at / 256)) c.mark_word.ensures c.end_page.ensures.end in
     let paged = ended-paged (g.M.Memory.seen c.args.ground.now.mem) (g.M.Memory.seen c.end_page.new.ground.mem) c.args.ground.now.table c.end_page.new.ground.table c.args.self.now c.args.at c.requires.first inside c.requires.paged ending in
     let left = subst (λ (s : Scan). page_done s c.args.ground.now.table (c.args.at / 256) ≡ false) c.mark_word.ensures (sym c.end_page.ensures.done ∙ c.if-end_page.false) in
-    c.mark_word.ensures ∙ sym (left-closed (g.M.Memory.seen c.args.ground.now.mem) (g.M.Memory.seen c.end_page.new.ground.mem) c.args.ground.now.table c.end_page.new.ground.table c.args.self.now c.args.at ending c.assert_invariant.ensures.used_size paged c.requires.going left)
+    c.mark_word.ensures ∙ sym (left-closed (g.M.Memory.seen c.args.ground.now.mem) (g.M.Memory.seen c.end_page.new.ground.mem) c.args.ground.now.table c.end_page.new.ground.table c.args.self.now c.args.at ending c.requires.sound.used_size paged c.requires.going left)
 
 pub returns-in-Some-clause-near : goal.returns-in-Some-clause-near
 returns-in-Some-clause-near g c =
@@ -62,4 +62,4 @@ returns-in-Some-clause-near g c =
     let left = subst (λ (s : Scan). page_done s c.args.ground.now.table (c.args.at / 256) ≡ false) c.mark_word.ensures (sym c.end_page.ensures.done ∙ c.if-end_page.false) in
     let last = sym c.last_moved.ensures ∙ c.in-Some.is ∙ ap (λ (p : ℕ). Some p) c.if-last-page.true in
     subst (λ (s : Scan). next_of s c.end_page.new.ground.table ≡ Some (Word (c.args.at + 1))) (sym c.mark_word.ensures)
-    (left-next (g.M.Memory.seen c.args.ground.now.mem) (g.M.Memory.seen c.end_page.new.ground.mem) c.args.ground.now.table c.end_page.new.ground.table c.args.self.now c.args.at ending c.assert_invariant.ensures.used_size paged c.requires.going left inside last)
+    (left-next (g.M.Memory.seen c.args.ground.now.mem) (g.M.Memory.seen c.end_page.new.ground.mem) c.args.ground.now.table c.end_page.new.ground.table c.args.self.now c.args.at ending c.requires.sound.used_size paged c.requires.going left inside last)

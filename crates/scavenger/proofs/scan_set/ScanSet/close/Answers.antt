@@ -19,7 +19,7 @@ returns c =
     let over : c.if-self.self ≡ is_none (next_of (opened s) t) = elim c.if-self.branch [
       | then-self w ↦
           let done = w.if-self.true in
-          w.self-is ∙ over-by-set s t c.assert_invariant.ensures.used_size c.requires w.lowest.result (w.lowest.ensures ∙ ap (λ (l : PageList). first_of l.pages) w.scan_pages.ensures)
+          w.self-is ∙ over-by-set s t w.scan_pages.ensures.sound.used_size c.requires w.lowest.result (w.lowest.ensures ∙ ap (λ (l : PageList). first_of l.pages) w.scan_pages.ensures.value)
           (omega arith) w.is_none-self-inside.result w.is_none-self-inside.ensures
       | else-self w ↦
           let low : s.scanned < s.registers = elim (cases_lt s.scanned s.registers) [ inl l ↦ l | inr h ↦ absurd (w.if-self.false (omega arith)) ] in

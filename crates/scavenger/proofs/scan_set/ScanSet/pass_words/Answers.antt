@@ -30,7 +30,7 @@ pub mark_words-requires-clause-at_most : goal.mark_words-requires-clause-at_most
 mark_words-requires-clause-at_most g c =
     let x = c.requires.collecting.1.collects in
     let next = next-word c.args.self.now c.args.table.now c.args.span.at c.requires.agrees in
-    few-done c.args.self.now x.kept.table x.clean next.going (subst (λ (s : Scan). s.begun < 2 ^ 32) c.self.view_is c.self.invariant.few_units)
+    few-done c.args.self.now x.kept.table x.clean next.going
 
 pub returns-clause-scans : goal.returns-clause-scans
 returns-clause-scans g c = λ registers x. (quiet-words c.args.span.at c.args.span.words c.in_ok-passed.passed x c.requires.agrees c.requires.after c.in_ok-passed.ensures.value.at_most (omega (arith, c.if-passed-eq0.false)) c.in_ok-passed.ensures.value c.mark_words.ensures).0

@@ -9,7 +9,7 @@ returns-then-self g c = sym (units-none (g.M.Memory.seen c.args.ground.now.mem) 
 
 pub overflow_add-result : goal.overflow_add-result
 overflow_add-result g c =
-    let v = c.assert_invariant.ensures in
+    let v = c.placed_words.ensures.sound in
     let placed = v.counted in
     let small = words_small c.args.ground.now.table v in
     let few = c.self.invariant.few_units in

@@ -5,7 +5,7 @@ use Rattle.test_ground.proofs.transports.making.reserve.Goals as goal
 pub commit-requires-clause-allowed : goal.commit-requires-clause-allowed
 commit-requires-clause-allowed g c =
     let e = c.place-placed.ensures in
-    made-allowed c.args.ground.now.table c.place-placed.new.self.table c.place-placed.result.at c.args.words c.args.charge c.args.origin c.place-placed.result.opened c.requires.made c.assert_invariant.ensures e.unchanged e.table c.requires.fits e.end
+    made-allowed c.args.ground.now.table c.place-placed.new.self.table c.place-placed.result.at c.args.words c.args.charge c.args.origin c.place-placed.result.opened c.requires.made c.place-placed.ensures.sound e.unchanged e.table c.requires.fits e.end
 
 pub returns : goal.returns
 returns g c =
@@ -25,9 +25,9 @@ returns g c =
         lowest = e.lowest;
         ground = e.stays_ground;
         named = e.stays_named;
-        sound = c.assert_invariant.ensures;
+        sound = c.place-placed.ensures.sound;
       });
       end = end;
       commit = c.commit.ensures.table (slot_of u 0 0) end;
-      sound = c.assert_invariant-2.ensures;
+      sound = c.commit.ensures.sound;
     }

@@ -88,4 +88,4 @@ returns g c =
     let memory = ap g.M.Memory.seen c.note_husk.ensures.memory in
     subst (λ (m : Store). IsOpen m c.note_husk.new.self.table c.args.self.now.front c.args.self.now.middle) (sym memory)
     (open-grown b c.reserve-to.result c.reserve-to.ensures c.if-length-gt1023.false (c.if-not-is_first_class.ensures refl) room c.in_ok-write_wider.ensures.written c.in_ok-leave_husk.ensures.written
-    (c.note_husk.ensures.table (slot_of c.reserve-to.ensures.room 0 0) there) c.assert_invariant.ensures)
+    (c.note_husk.ensures.table (slot_of c.reserve-to.ensures.room 0 0) there) c.note_husk.ensures.sound)

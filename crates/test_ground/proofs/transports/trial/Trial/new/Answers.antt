@@ -6,4 +6,4 @@ use Rattle.test_ground.proofs.transports.trial.Trial.new.Goals as goal
 pub returns : goal.returns
 returns g c =
     let r = c.requires in
-    open-new c.args.space.now c.args.areas.now r.fresh c.in_ok-table.ensures c.assert_invariant.ensures r.room r.areas (ap (λ (w : Parts). w.content) c.nil.ensures) (ap (λ (w : Parts). w.content) c.nil-2.ensures)
+    open-new c.args.space.now c.args.areas.now r.fresh c.in_ok-table.ensures c.regions-regions.ensures.sound r.room r.areas (ap (λ (w : Parts). w.content) c.nil.ensures) (ap (λ (w : Parts). w.content) c.nil-2.ensures)
