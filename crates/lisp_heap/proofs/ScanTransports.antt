@@ -104,21 +104,7 @@ most_listed x = record { count = x.count; few = x.few; moves = transported_liste
 -- A cell that became a pair
 
 lays_listed : {m m' : Store} {t t' : Table} {cell : ℕ} {car cdr : Parts} → LaysPair m t m' t' cell car cdr → LaysPair (in_lists m) t (in_lists m') t' cell car cdr
-lays_listed x = record {
-  room = x.room;
-  opens = x.opens;
-  area = x.area;
-  level = x.level;
-  needed = x.needed;
-  class = x.class;
-  at = x.at;
-  end = x.end;
-  commit = x.commit;
-  first = x.first;
-  second = x.second;
-  forward = x.forward;
-  rest = x.rest;
-}
+lays_listed x = record { room = x.room; opens = x.opens; area = x.area; level = x.level; needed = x.needed; class = x.class; at = x.at; end = x.end; commit = x.commit; first = x.first; second = x.second; forward = x.forward; rest = x.rest }
 
 pub laid_listed : {m m' : Store} {t t' : Table} {target cdr : Parts} → MovesOrLays m t m' t' target cdr → MovesOrLays (in_lists m) t (in_lists m') t' target cdr
 laid_listed (inl x) = inl (most_listed x)

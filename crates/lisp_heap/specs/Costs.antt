@@ -15,7 +15,7 @@ use Rattle.heap_collect.specs.Amounts.{Amount}
 use Rattle.heap_collect.specs.Silent.{done_from, flips_alone, placed_from}
 use Rattle.lisp_heap.specs.HeapView.{HeapView, store_of}
 use Rattle.scavenger.specs.Accesses.{step_accesses}
-use Rattle.transporter.specs.Accesses.{find_accesses, settle_accesses}
+use Rattle.heap_state.specs.transporter.Accesses.{find_accesses, settle_accesses}
 
 -- the units scanned, and the words placed since the flip, of the collection that runs when an allocation begins
 abbrev pub done_at : HeapView → ℕ

@@ -1,5 +1,5 @@
 //! Reads words and objects, and stores nothing.
-ghost use Rattle.std.specs.Prelude.{◌≡◌, ◌+◌, ◌/◌, ◌<◌, ◌≤◌, true, Contains, IfOk, length};
+ghost use Rattle.std.specs.Prelude.{◌≡◌, ◌+◌, ◌/◌, ◌^◌, ◌<◌, ◌≤◌, true, Contains, IfOk, length};
 ghost use Rattle.mem_port.specs.View.{AccountsForFaults, shown};
 ghost use Rattle.area_space.specs.Table.{IsUnclassed, chain, class_number, levels_of};
 ghost use Rattle.area_space.specs.View.{view};
@@ -102,7 +102,7 @@ fn charge_behind<M: Memory, L: Ledger>(
 ) -> Result<u32, SwapFault>
     requires first { first ≡ word_at (M.seen mem.old).words at }
     requires whole { IsWhole (M.seen mem.old).words at }
-    requires fits { length (M.seen mem.old).words < 2 ^ 32 }
+    requires fits { length (M.seen mem.old).words < 2 ^ 28 }
     ensures value { IfOk result (λ charge. charge ≡ charge_at (M.seen mem.old).words at) }
     ensures unchanged { StoresNothing (M.seen mem.old) (M.seen mem.new) }
     ensures accounted { AccountsForFaults (shown M.Memory mem.old) (shown M.Memory mem.new) steps.old steps.new result }
@@ -158,7 +158,7 @@ fn cdr_behind<M: Memory, L: Ledger>(
     requires in_range { at < length (M.seen mem.old).words }
     requires first { first ≡ word_at (M.seen mem.old).words at }
     requires whole { HasCdr (M.seen mem.old).words at }
-    requires fits { length (M.seen mem.old).words < 2 ^ 32 }
+    requires fits { length (M.seen mem.old).words < 2 ^ 28 }
     ensures value { IfOk result (λ word. word.content ≡ cdr_in (M.seen mem.old).words at) }
     ensures unchanged { StoresNothing (M.seen mem.old) (M.seen mem.new) }
     ensures accounted { AccountsForFaults (shown M.Memory mem.old) (shown M.Memory mem.new) steps.old steps.new result }
@@ -180,7 +180,7 @@ fn part_at<M: Memory, L: Ledger>(
 ) -> Result<Word, SwapFault>
     requires in_range { at < length (M.seen mem.old).words }
     requires whole { HasPart (M.seen mem.old).words at index (word_at (M.seen mem.old).words at).content }
-    requires fits { length (M.seen mem.old).words < 2 ^ 32 }
+    requires fits { length (M.seen mem.old).words < 2 ^ 28 }
     ensures value { IfOk result (λ word. word.content ≡ part_in (M.seen mem.old).words at index (word_at (M.seen mem.old).words at).content) }
     ensures unchanged { StoresNothing (M.seen mem.old) (M.seen mem.new) }
     ensures accounted { AccountsForFaults (shown M.Memory mem.old) (shown M.Memory mem.new) steps.old steps.new result }
@@ -229,7 +229,7 @@ fn rest_behind<M: Memory, L: Ledger>(
     requires first { first ≡ word_at (M.seen mem.old).words at }
     requires whole { HasCdr (M.seen mem.old).words at }
     requires pair { shape_of first ≡ cons_shape first.cdr }
-    requires fits { length (M.seen mem.old).words < 2 ^ 32 }
+    requires fits { length (M.seen mem.old).words < 2 ^ 28 }
     ensures cdr { IfOk result (λ rest. rest.0.content ≡ cdr_in (M.seen mem.old).words at) }
     ensures value { IfOk result (λ rest. rest.1 ≡ charge_at (M.seen mem.old).words at) }
     ensures unchanged { StoresNothing (M.seen mem.old) (M.seen mem.new) }

@@ -9,7 +9,7 @@ ghost use Rattle.heap_state.specs.Views.{RepresentsSame, RepresentsState, Perfor
 ghost use Rattle.block_store.specs.transporter.Views.{NoOldAddresses, MarksFollow, PreservesScanned};
 ghost use Rattle.heap_state.specs.Settled.{IsSettled, NoOldAddressesInRegisters};
 ghost use Rattle.block_store.specs.transporter.Preserving.{RegistersPreserved};
-ghost use Rattle.transporter.specs.Accesses.{find_accesses, settle_accesses};
+ghost use Rattle.heap_state.specs.transporter.Accesses.{find_accesses, settle_accesses};
 
 use crate::blocks::refusal::refusal;
 use area_space::Ground;

@@ -10,7 +10,7 @@ ghost use Rattle.heap_state.specs.Views.{RepresentsState, PerformsAt};
 ghost use Rattle.std.specs.List.{All};
 ghost use Rattle.area_space.specs.Accounts.{account_of};
 ghost use Rattle.area_space.specs.Table.{areas_of, levels_of, quota_of};
-ghost use Rattle.transporter.specs.Accesses.{settle_accesses};
+ghost use Rattle.heap_state.specs.transporter.Accesses.{settle_accesses};
 
 use crate::object::NewObject;
 use area_space::Ground;

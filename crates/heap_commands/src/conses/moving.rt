@@ -5,7 +5,7 @@ ghost use Rattle.block_store.specs.transporter.Views.{MovesAtMost};
 ghost use Rattle.heap_commands.specs.Costs.{CommandCosts};
 ghost use Rattle.heap_state.specs.Reads.{reply_of};
 ghost use Rattle.heap_state.specs.Views.{RepresentsState, Performs};
-ghost use Rattle.transporter.specs.Accesses.{resolve_accesses, settle_accesses};
+ghost use Rattle.heap_state.specs.transporter.Accesses.{resolve_accesses, settle_accesses};
 
 use area_space::Ground;
 use heap_state::{is_same, settle_items, settle_register};

@@ -7,7 +7,7 @@ ghost use Rattle.heap_commands.specs.Costs.{CommandCosts};
 ghost use Rattle.heap_commands.specs.Views.{MovesOrLays};
 ghost use Rattle.heap_state.specs.Reads.{reply_of};
 ghost use Rattle.heap_state.specs.Views.{RepresentsState, Performs};
-ghost use Rattle.transporter.specs.Accesses.{find_accesses, settle_accesses};
+ghost use Rattle.heap_state.specs.transporter.Accesses.{find_accesses, settle_accesses};
 
 use area_space::Ground;
 use cdr_lists::{ListFault, set_car, set_cdr};

@@ -8,7 +8,7 @@ ghost use Rattle.lisp_heap.specs.Making.{ScansFirst};
 ghost use Rattle.lisp_heap.specs.Moves.{MovesAtMost, MovesOrLays};
 ghost use Rattle.lisp_heap.specs.NewMarks.{MarksMade};
 ghost use Rattle.lisp_heap.specs.Stands.{Runs};
-ghost use Rattle.transporter.specs.Accesses.{find_accesses, settle_accesses};
+ghost use Rattle.heap_state.specs.transporter.Accesses.{find_accesses, settle_accesses};
 
 use crate::heap::allocating::admit_allocation;
 use crate::heap::{Heap, finish_reply, finish_step};

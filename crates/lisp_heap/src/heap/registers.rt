@@ -6,7 +6,7 @@ ghost use Rattle.lisp_heap.specs.Costs.{Takes};
 ghost use Rattle.lisp_heap.specs.Moves.{MovesAtMost};
 ghost use Rattle.lisp_heap.specs.Stands.{Runs};
 ghost use Rattle.lisp_heap.specs.Words.{content_of};
-ghost use Rattle.transporter.specs.Accesses.{resolve_accesses, settle_accesses};
+ghost use Rattle.heap_state.specs.transporter.Accesses.{resolve_accesses, settle_accesses};
 
 use crate::heap::{Heap, finish_step};
 use heap_state::commands_are_steps;
