@@ -22,6 +22,3 @@ pub use laws::dumps_are_world_files;
 pub use line_input::Status;
 pub use run::run_mode;
 pub use trouble::FileError;
-
-#[cfg(test)]
-mod tests;

@@ -17,6 +17,3 @@ pub use judging::{InputReader, LineJudge, early_end, read_lines};
 pub use lines::{LineReader, LineSpan};
 pub use statuses::{RunError, RunStop, Status, finish, report, tell_line, world_trouble};
 pub use world_file::WorldFile;
-
-#[cfg(test)]
-mod tests;

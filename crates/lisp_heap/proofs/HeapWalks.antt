@@ -19,10 +19,9 @@ use Rattle.word_graph.specs.Placed.{MeanValues, CanWalk, CanSee, HasObject}
 use Rattle.word_graph.specs.Shown.{told, form_in, field_in, parts_in, is_cons_in, cons_in}
 use Rattle.word_graph.proofs.HeldObjects.{registers_are_told, keys_are_objects, reached_show, reads_show_the_same, walks_go_on}
 use Rattle.word_graph.proofs.RenamedGraph.{dump_is_of_state as dump_shown}
-use Rattle.word_graph.proofs.StateCensus.{census_is_of_state as census_shown}
 use Rattle.lisp_heap.specs.HeapView.{HeapView, Counts, contents_of, lists_of, store_of}
 use Rattle.lisp_heap.specs.Stands.{Stands, IsSound}
-use Rattle.lisp_heap.specs.Walking.{graph_in, DumpIsOfState, CensusIsOfState, StandsAsBefore}
+use Rattle.lisp_heap.specs.Walking.{graph_in, DumpIsOfState, StandsAsBefore}
 use Rattle.lisp_heap.proofs.ListedMemory.{listed, read_all, unlisted}
 
 -- for each swap error of a read at most one page fewer is resident
@@ -31,14 +30,11 @@ room_by_faults faults faults' before now (Ok x) cause room = (let a = room.answe
 room_by_faults faults faults' before now (Err e) cause room = (let a = room.failed in let b = cause.failed in omega arith)
 
 -- the registers have the values of a state that the heap represents
-stands_mean : (h : HeapView) (s : State) (st : Stands h s) → MeanValues st.map h.registers s.registers
+pub stands_mean : (h : HeapView) (s : State) (st : Stands h s) → MeanValues st.map h.registers s.registers
 stands_mean h s st = record { count = st.represents.represents.count; each = st.represents.represents.means }
 
 pub dump_is_of_state : DumpIsOfState
 dump_is_of_state h s st space areas text dump = dump_shown (store_of h.memory) h.table h.registers st.map s st.represents.represents.kept (stands_mean h s st) space areas text dump
-
-pub census_is_of_state : CensusIsOfState
-census_is_of_state h s st rows census = census_shown (store_of h.memory) h.table h.registers st.map s st.represents.represents.kept (stands_mean h s st) rows census
 
 -- so a walk over it is possible
 stands_walk : (h : HeapView) (s : State) → Stands h s → CanWalk (store_of h.memory) h.table h.registers

@@ -6,8 +6,6 @@ use Rattle.lisp_graph.specs.KeyedGraph.{KeyedGraph, keyed}
 use Rattle.word_graph.specs.lisp_meaning.State.{State}
 use Rattle.word_graph.specs.lisp_meaning.Flip.{graph_of}
 use Rattle.world_text.specs.Dump.{IsDump}
-use Rattle.word_graph.specs.why_held.declared.rows.CensusRow.{CensusRow}
-use Rattle.word_graph.specs.why_held.Reached.{IsReachedCensus}
 use Rattle.word_graph.specs.Shown.{shown_by}
 use Rattle.lisp_heap.specs.HeapView.{HeapView, SameWorld, store_of}
 use Rattle.lisp_heap.specs.Stands.{Stands}
@@ -16,18 +14,9 @@ use Rattle.lisp_heap.specs.Stands.{Stands}
 abbrev pub graph_in : HeapView → KeyedGraph
 graph_in heap = shown_by (store_of heap.memory) heap.table heap.registers
 
--- a dump of it is a dump of each state that the heap represents,
+-- a dump of it is a dump of each state that the heap represents
 abbrev pub DumpIsOfState : Type 0
 DumpIsOfState = (heap : HeapView) (s : State) → Stands heap s → (space : Space) (areas : List AreaRule) (text : List ℕ) → IsDump (graph_in heap) space areas text → IsDump (keyed (graph_of s)) space areas text
-
--- and so is a census of what is reached
-abbrev pub CensusIsOfState : Type 0
-CensusIsOfState = (heap : HeapView) (s : State) → Stands heap s → (rows : List CensusRow) → IsReachedCensus (graph_in heap) rows → IsReachedCensus (keyed (graph_of s)) rows
-
--- What a walk over a heap shows has the dump and the census of each state that the heap represents.
-pub record WalksShowStates : Type 0 where
-  pub dump : DumpIsOfState
-  pub census : CensusIsOfState
 
 -- A heap was only read: no word was written and no register settled, it represents each state that it represented before, and its world is the same. For each swap error at most one page fewer is resident.
 pub record StandsAsBefore (old new : HeapView) : Type 0 where

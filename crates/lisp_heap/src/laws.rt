@@ -8,7 +8,7 @@ ghost use Rattle.lisp_heap.specs.HeapView.{HeapView};
 ghost use Rattle.lisp_heap.specs.Stands.{Stands, machine_of};
 ghost use Rattle.lisp_heap.specs.Freed.{SilentRetains};
 ghost use Rattle.lisp_heap.specs.Room.{HeapsHaveRoom};
-ghost use Rattle.lisp_heap.specs.Walking.{WalksShowStates};
+ghost use Rattle.lisp_heap.specs.Walking.{DumpIsOfState};
 
 /// A heap that represents a state has its meaning: each register and each object is found in its
 /// words, under a naming.
@@ -16,9 +16,9 @@ pub fn standing_is_meaning()
     ensures { (heap : HeapView) (s : State) → Stands heap s → Means (machine_of heap) s }
 {}
 
-/// What a walk over a heap shows has the dump and the census of each state that the heap represents.
+/// What a walk over a heap shows has the dump of each state that the heap represents.
 pub fn walks_show_states()
-    ensures { WalksShowStates }
+    ensures { DumpIsOfState }
 {}
 
 /// The objects of a world whose lines were accepted fit the quotas of its areas, so it can be loaded.

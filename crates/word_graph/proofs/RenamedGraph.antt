@@ -23,10 +23,10 @@ use Rattle.lisp_ground.specs.lisp_meaning.Roles.{RoleMap, value_of, owner, name_
 use Rattle.lisp_ground.proofs.lisp_meaning.reading.NextUnits.{lowest-passes, lowest-none}
 use Rattle.lisp_ground.proofs.lisp_meaning.maps.Patches.{begins_owner}
 use Rattle.lisp_ground.specs.GroundInvariant.{GroundInvariant}
-use Rattle.why_held.specs.world_text.Numbering.{is_numbered, seen_as}
-use Rattle.why_held.specs.world_text.Dump.{IsDump}
-use Rattle.why_held.specs.dump_laws.Renamed.{renamed, IsRenamed, HasSameCharges}
-use Rattle.why_held.proofs.dump_laws.RenamedGraphs.{at_key, dump_renamed}
+use Rattle.world_text.specs.Numbering.{is_numbered, seen_as}
+use Rattle.world_text.specs.Dump.{IsDump}
+use Rattle.dump_laws.specs.Renamed.{renamed, IsRenamed, HasSameCharges}
+use Rattle.dump_laws.proofs.RenamedGraphs.{at_key, dump_renamed}
 use Rattle.word_graph.specs.Shown.{objects_in, is_reached, shown_by, told, value_in}
 use Rattle.word_graph.specs.Placed.{MeanValues}
 use Rattle.word_graph.specs.Laws.{placed, placed_body, placed_object, name_of, WalkShowsState, DumpIsOfState}

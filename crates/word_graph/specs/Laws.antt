@@ -19,11 +19,9 @@ use Rattle.lisp_ground.specs.lisp_meaning.Roles.{RoleMap, name_or, value_of}
 use Rattle.lisp_ground.specs.lisp_meaning.Units.{lowest}
 use Rattle.obj_layout.specs.Forwards.{Leads}
 use Rattle.lisp_ground.specs.GroundInvariant.{GroundInvariant}
-use Rattle.why_held.specs.world_text.Numbering.{is_numbered}
-use Rattle.why_held.specs.world_text.Dump.{IsDump}
-use Rattle.why_held.specs.dump_laws.Renamed.{IsRenamed, HasSameCharges}
-use Rattle.why_held.specs.declared.rows.CensusRow.{CensusRow}
-use Rattle.why_held.specs.Reached.{IsReachedCensus}
+use Rattle.world_text.specs.Numbering.{is_numbered}
+use Rattle.world_text.specs.Dump.{IsDump}
+use Rattle.dump_laws.specs.Renamed.{IsRenamed, HasSameCharges}
 use Rattle.word_graph.specs.Shown.{led, value_in, object_in, is_reached, shown_by, told}
 use Rattle.word_graph.specs.Placed.{MeanValues, CanWalk, CanSee, HasObject}
 
@@ -117,18 +115,12 @@ pub record WalkShowsState : Type 0 where
   pub charges : (m : Store) (t : Table) (registers : List Parts) (k : RoleMap) (s : State) → GroundInvariant m t k s.space.levels s.areas s.store (aim_of s.phase) → MeanValues k registers s.registers
       → (keys : List ℕ) → ((key : ℕ) → is_numbered keys key ≡ true → (shown_by m t registers).has key ≡ true) → HasSameCharges (name_of k s.store) keys (shown_by m t registers) (keyed (graph_of s))
 
--- so a dump of what is shown is a dump of the state,
+-- so a dump of what is shown is a dump of the state
 abbrev pub DumpIsOfState : Type 0
 DumpIsOfState = (m : Store) (t : Table) (registers : List Parts) (k : RoleMap) (s : State) → GroundInvariant m t k s.space.levels s.areas s.store (aim_of s.phase) → MeanValues k registers s.registers
     → (space : Space) (areas : List AreaRule) (text : List ℕ) → IsDump (shown_by m t registers) space areas text → IsDump (keyed (graph_of s)) space areas text
 
--- and a census of what is reached in it is a census of what the state's registers reach
-abbrev pub CensusIsOfState : Type 0
-CensusIsOfState = (m : Store) (t : Table) (registers : List Parts) (k : RoleMap) (s : State) → GroundInvariant m t k s.space.levels s.areas s.store (aim_of s.phase) → MeanValues k registers s.registers
-    → (rows : List CensusRow) → IsReachedCensus (shown_by m t registers) rows → IsReachedCensus (keyed (graph_of s)) rows
-
--- The graph that the words show is that of each state that they represent, and so are its dump and the census of what its registers reach.
+-- The graph that the words show is that of each state that they represent, and so is its dump.
 pub record WalksShowStates : Type 0 where
   pub state : WalkShowsState
   pub dump : DumpIsOfState
-  pub census : CensusIsOfState

@@ -12,8 +12,7 @@ pub fn words_show_what_is_reached()
     ensures { WordsShowReached }
 {}
 
-/// The graph that the words show is that of each state that they represent, and so are its dump and
-/// the census of what its registers reach.
+/// The graph that the words show is that of each state that they represent, and so is its dump.
 pub fn walks_show_states()
     ensures { WalksShowStates }
 {}

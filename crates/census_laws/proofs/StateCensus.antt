@@ -1,4 +1,4 @@
--- The census of what is reached in the graph shown is that of each state that the ground and the registers represent.
+-- The census of what is reached in the graph shown is that of each state that is represented.
 use Rattle.std.proofs.Common.{◌≡◌, ℕ, zero, suc, ◌+◌, ◌<◌, inl, inr, true, sym, ◌∙◌, ap, subst, List, [], ◌∷◌, length, get_or, map, Some, arith}
 use Rattle.std.specs.Prelude.{nat_eq}
 use Rattle.std.proofs.lemmas.Map.Views.{Contains-from_any}
@@ -11,16 +11,19 @@ use Rattle.lisp_graph.specs.declared.walk.Seen.TheVariants as S
 use Rattle.lisp_graph.specs.KeyedGraph.{KeyedGraph, Shows, keyed, keyed_value}
 use Rattle.mem_port.specs.Store as Memory
 use Rattle.area_space.specs.Table.{Table}
-use Rattle.why_held.specs.world_text.Numbering.{is_numbered, fields_from}
+use Rattle.world_text.specs.Numbering.{is_numbered, fields_from}
 use Rattle.why_held.specs.Reached.{key_of, Refer, IsReached, from_register, from_field}
 use Rattle.why_held.proofs.SameCensus.{same_census}
 use Rattle.word_graph.specs.Shown.{is_reached, objects_in, shown_by, told, value_in}
 use Rattle.word_graph.specs.Placed.{CanWalk}
-use Rattle.word_graph.specs.Laws.{name_of, CensusIsOfState}
-use Rattle.lisp_ground.specs.lisp_meaning.State.{aim_of}
-use Rattle.lisp_ground.specs.lisp_meaning.Flip.{graph_of}
+use Rattle.word_graph.specs.Laws.{name_of}
+use Rattle.word_graph.specs.lisp_meaning.State.{aim_of}
+use Rattle.word_graph.specs.lisp_meaning.Flip.{graph_of}
 use Rattle.word_graph.proofs.HeldObjects.{same_number, field_shows, register_is, register_shows}
 use Rattle.word_graph.proofs.RenamedGraph.{is_renamed, same_charges}
+use Rattle.lisp_heap.specs.HeapView.{store_of}
+use Rattle.lisp_heap.proofs.HeapWalks.{stands_mean}
+use Rattle.census_laws.specs.Censuses.{OfGround, OfHeap}
 
 -- a value that is shown as it is refers to a key
 shown_has : (graph : KeyedGraph) (value : Seen) (key : ℕ) → Shows graph value → key_of value ≡ Some key → graph.has key ≡ true
@@ -57,11 +60,14 @@ module _ (m : Memory.Store) (t : Table) (registers : List Parts) (can : CanWalk 
       let w = one_field (shown_by m t registers) from key ((shown_by m t registers).form from).length 0 refer in
       shown_has (shown_by m t registers) ((shown_by m t registers).field from w.0) key (field_shows m t registers can from (reached_has from reached) w.0) w.1
 
-pub census_is_of_state : CensusIsOfState
-census_is_of_state m t registers k s on means rows census =
+pub of_ground : OfGround
+of_ground m t registers k s on means rows census =
     let can : CanWalk m t registers = record { map = k; top = s.space.levels; areas = s.areas; objects = s.store; aim = aim_of s.phase; kept = on; values = s.registers; means = means } in
     let reached : (key : ℕ) → is_numbered census.keys key ≡ true → is_reached m t registers key ≡ true =
     λ key e. (reached_has m t registers can key ((census.reached.each key).0 (Contains-from_any {eq = nat_eq} same_number key census.keys e))) in
     same_census (name_of k s.store) (shown_by m t registers) (keyed (graph_of s)) rows census
     (is_renamed m t registers k s on means census.keys reached)
     (same_charges m t registers k s on means census.keys reached)
+
+pub of_heap : OfHeap
+of_heap h s st rows census = of_ground (store_of h.memory) h.table h.registers st.map s st.represents.represents.kept (stands_mean h s st) rows census

@@ -1,7 +1,5 @@
-//! Runs over devices in memory: modes, files, and their answers.
-use crate::run_mode;
-use command_words::FileMode;
-use line_input::Status;
+//! The modes that answer about a file: runs over devices in memory, and their answers.
+use file_modes::{FileMode, Status, run_mode};
 use outer_ports::{SinkBytes, SourceBytes};
 use std::alloc::Global;
 use std::process::Abort;

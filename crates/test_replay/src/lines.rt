@@ -1,14 +1,16 @@
 //! Lines over pieces of an input, and error lines.
 ghost use Rattle.std.specs.Prelude.{◌≡◌, ◌≤◌, ◌^◌, [], true};
 
-use crate::lines::LONGEST_INPUT;
-use crate::{InputReader, LineReader, LineSpan, RunError, RunStop, Status, finish};
+use line_input::{InputReader, LineReader, LineSpan, RunError, RunStop, Status, finish};
 use lisp_graph::Name;
 use outer_ports::{SinkBuffer, SinkBytes, SourceBytes};
 use std::alloc::Global;
 use std::process::Abort;
 use std::test::Fail;
 use world_text::Reason;
+
+/// An input has at most this many bytes.
+const LONGEST_INPUT: u64 = 1 << 40;
 
 /// Compares the next line.
 fn next_is(
