@@ -34,8 +34,7 @@ impl RegionTable {
     pub(crate) fn condemn(&mut self, what: Condemn)
         requires { (region : ℕ) → IsOld self.old region → ⊥ }
         ensures table { Condemns self.old self.new what }
-        ensures before { IsTable self.old }
-        ensures sound { IsTable self.new }
+        ensures stays_sound { IsTable self.old × IsTable self.new }
     {
         let slots = self.slots();
         self.begin(what);

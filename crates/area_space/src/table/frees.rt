@@ -35,7 +35,7 @@ impl RegionTable {
     fn forgive(&mut self, slot: u32)
         requires { slot < slots_of self.old }
         ensures after { self.new ≡ forgiven self.old slot }
-        ensures before { IsTable self.old }
+        ensures sound { IsTable self.old }
     {
         let area = slot / (self.top as u32 + 1);
         let class = 2 * slot + 1;
@@ -49,7 +49,7 @@ impl RegionTable {
     fn release(&mut self, slot: u32) -> Option<u32>
         requires in_range { slot < slots_of self.old }
         requires empty { debt self.old (stale slot) ≡ 0 }
-        ensures before { IsTable self.old }
+        ensures sound { IsTable self.old }
         ensures none { IfNone result (chain self.old (stale slot) ≡ []) }
         ensures unchanged { IfNone result (self.new ≡ self.old) }
         ensures some { IfSome result (λ region. first_of (chain self.old (stale slot)) ≡ Some region) }

@@ -8,8 +8,8 @@ use Rattle.area_space.proofs.table.RegionTable.forgive.Goals as goal
 use Rattle.area_space.specs.Accounts.{debt}
 use Rattle.area_space.specs.Table.{Table, slots_of, levels_of, stale}
 
-pub returns-clause-before : goal.returns-clause-before
-returns-clause-before c = rw (← c.self.view_is) c.self.invariant.table
+pub returns-clause-sound : goal.returns-clause-sound
+returns-clause-sound c = rw (← c.self.view_is) c.self.invariant.table
 
 pub invariant_of-self : goal.invariant_of-self
 invariant_of-self c =

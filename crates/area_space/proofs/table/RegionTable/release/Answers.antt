@@ -25,11 +25,11 @@ returns-in-Some-clause-after c =
     let is = c.remove.ensures.after (2 * c.args.slot + 1) held in
     rw (← c.self.view_is, is) refl
 
-pub returns-in-Some-clause-before : goal.returns-in-Some-clause-before
-returns-in-Some-clause-before c = subst IsTable c.self.view_is c.self.invariant.table
+pub returns-in-Some-clause-sound : goal.returns-in-Some-clause-sound
+returns-in-Some-clause-sound c = subst IsTable c.self.view_is c.self.invariant.table
 
-pub returns-in-None-clause-before : goal.returns-in-None-clause-before
-returns-in-None-clause-before c = subst IsTable c.self.view_is c.self.invariant.table
+pub returns-in-None-clause-sound : goal.returns-in-None-clause-sound
+returns-in-None-clause-sound c = subst IsTable c.self.view_is c.self.invariant.table
 
 pub insert-requires : goal.insert-requires
 insert-requires c =
