@@ -14,7 +14,6 @@ ghost use Rattle.transporter.specs.Reads.{KeepsGround, ReadCosts};
 ghost use Rattle.transporter.specs.Settling.{RefersToOld};
 ghost use Rattle.block_store.specs.Headers.{CanFind};
 ghost use Rattle.block_store.specs.Fields.{IsFieldPlace, LacksField, WritesField};
-ghost use Rattle.transporter.specs.Accesses.{find_accesses, settle_accesses};
 
 use crate::fault::BlockFault;
 use crate::header::find;
@@ -22,7 +21,7 @@ use area_space::Ground;
 use mem_port::{Memory, assert_invariant};
 use std::sync::ledger::Ledger;
 use store_word::{CdrCode, Steps, SwapFault, Tag, Word};
-use transporter::fetch;
+use transporter::{FIND_ACCESSES, SETTLE_ACCESSES, fetch};
 
 // The address of the field of this index of the block to which a word refers. It takes at most 13
 // memory accesses.
@@ -38,7 +37,7 @@ fn find_field<M: Memory, L: Ledger>(
     ensures no_field { (count : ℕ) → result ≡ Err (BlockFault.NoField count) → LacksField (M.seen mem.old).words of.content index count }
     ensures unchanged { StoresNothing (M.seen mem.old) (M.seen mem.new) }
     ensures accounted { AccountsForFaultsIf (shown M.Memory mem.old) (shown M.Memory mem.new) steps.old steps.new (is_fault result) }
-    ensures cost { steps.new ≤ steps.old + find_accesses }
+    ensures cost { steps.new ≤ steps.old + FIND_ACCESSES }
 {
     // No address of a memory overflows, as this call's contract says.
     assert_invariant(mem);
@@ -85,7 +84,7 @@ pub fn set_field<M: Memory, L: Ledger>(
 
     // Swap errors and the cost.
     ensures accounted { AccountsForFaultsIf (view ground.old).mem (view ground.new).mem steps.old steps.new (is_fault result) }
-    ensures cost { steps.new ≤ steps.old + find_accesses + 2 }
+    ensures cost { steps.new ≤ steps.old + FIND_ACCESSES + 2 }
 {
     let at = find_field(&mut ground.mem, of, index, steps)?;
     let old = ground.mem.read(at, steps)?;
@@ -131,7 +130,7 @@ pub fn field<M: Memory, L: Ledger>(
 
     // Swap errors and the cost.
     ensures accounted { AccountsForFaultsIf (view ground.old).mem (view ground.new).mem steps.old steps.new (is_fault result) }
-    ensures costs { ReadCosts (view ground.old) (view ground.new) steps.old steps.new (is_fault result) (find_accesses + settle_accesses + 2) }
+    ensures costs { ReadCosts (view ground.old) (view ground.new) steps.old steps.new (is_fault result) (FIND_ACCESSES + SETTLE_ACCESSES + 2) }
 {
     let at = find_field(&mut ground.mem, of, index, steps)?;
     let word = fetch(ground, at, steps)?;

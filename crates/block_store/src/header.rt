@@ -11,7 +11,6 @@ ghost use Rattle.area_space.specs.Sound.{IsTable};
 ghost use Rattle.transporter.specs.Settling.{RefersToOld};
 ghost use Rattle.block_store.specs.Headers.{CanFind, IsHead, IsLiveIn};
 ghost use Rattle.block_store.specs.Looks.{LooksAtBlock};
-ghost use Rattle.transporter.specs.Accesses.{find_accesses};
 
 use crate::fault::BlockFault;
 use area_space::{Class, Ground, RegionTable};
@@ -19,6 +18,7 @@ use mem_port::Memory;
 use obj_layout::{first_word, resolve_first};
 use std::sync::ledger::Ledger;
 use store_word::{Content, REGION_WORDS, Steps, Tag, Word};
+use transporter::FIND_ACCESSES;
 
 /// The address of a block, and what its header says.
 #[derive(Clone, Copy)]
@@ -41,7 +41,7 @@ pub(crate) fn find<M: Memory, L: Ledger>(
     ensures no_field { (count : ℕ) → result ≢ Err (BlockFault.NoField count) }
     ensures unchanged { StoresNothing (M.seen mem.old) (M.seen mem.new) }
     ensures accounted { AccountsForFaultsIf (shown M.Memory mem.old) (shown M.Memory mem.new) steps.old steps.new (is_fault result) }
-    ensures cost { steps.new ≤ steps.old + find_accesses }
+    ensures cost { steps.new ≤ steps.old + FIND_ACCESSES }
 {
     match of.content() {
         Content::Struct(reference) => {

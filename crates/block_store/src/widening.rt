@@ -6,13 +6,12 @@ ghost use Rattle.mem_port.specs.Store.{StoresNothing};
 ghost use Rattle.mem_port.specs.declared.spans.Span.{Span};
 ghost use Rattle.transporter.specs.Writes.{Writes};
 ghost use Rattle.block_store.specs.Growing.{CanLayAnew, LaysAnew, grown_word, husk_word};
-ghost use Rattle.transporter.specs.Accesses.{hold_accesses};
 
 use crate::header::Head;
 use mem_port::{Memory, Span, assert_invariant, hold_spans};
 use std::sync::ledger::Ledger;
 use store_word::{PAGE_WORDS, Steps, SwapFault, Word};
-use transporter::copy_words;
+use transporter::{HOLD_ACCESSES, copy_words};
 
 // How many of the remaining words are on one page.
 fn on_one_page(at: u32, left: u32) -> u32
@@ -129,7 +128,7 @@ pub(crate) fn lay_anew<M: Memory, L: Ledger>(
 
     // Swap errors and the cost.
     ensures accounted { AccountsForFaults (shown M.Memory mem.old) (shown M.Memory mem.new) steps.old steps.new result }
-    ensures cost { steps.new ≤ steps.old + 2 * head.length + wide + hold_accesses + 2 }
+    ensures cost { steps.new ≤ steps.old + 2 * head.length + wide + HOLD_ACCESSES + 2 }
 {
     let from = Span {
         at: head.at,

@@ -13,7 +13,6 @@ ghost use Rattle.cdr_lists.specs.Parts.{WritesRelay};
 ghost use Rattle.cdr_lists.specs.Refusing.{RefusesOthers};
 ghost use Rattle.cdr_lists.specs.Storing.{FailsCdr, FailsRelay, FailsStill, KeepsButCar, KeepsButCdr, StoresCar, StoresCdr};
 ghost use Rattle.cdr_lists.specs.Words.{plain};
-ghost use Rattle.transporter.specs.Accesses.{find_accesses, settle_accesses};
 
 use crate::fault::ListFault;
 use crate::pair::PAIR;
@@ -22,7 +21,7 @@ use area_space::{Ground, Origin};
 use mem_port::Memory;
 use std::sync::ledger::Ledger;
 use store_word::{CdrCode, MAX_OBJECT_WORDS, PAGE_WORDS, Steps, SwapFault, Word};
-use transporter::{fetch, place_for};
+use transporter::{FIND_ACCESSES, SETTLE_ACCESSES, fetch, place_for};
 
 /// Writes the car of the cons to which a word refers. The word there keeps its cdr code.
 ///
@@ -48,7 +47,7 @@ pub fn set_car<M: Memory, L: Ledger>(
 
     // Swap errors and the cost.
     ensures accounted { AccountsForRefusals (view ground.old).mem (view ground.new).mem steps.old steps.new result }
-    ensures cost { steps.new ≤ steps.old + find_accesses + 1 }
+    ensures cost { steps.new ≤ steps.old + FIND_ACCESSES + 1 }
 {
     let cons = read_cons(&mut ground.mem, of, steps)?;
     ground.mem.write(cons.at, value.with_cdr(cons.code), steps)?;
@@ -83,7 +82,7 @@ pub fn set_cdr<M: Memory, L: Ledger>(
 
     // What is placed, and the cost.
     ensures at_most { ground.new.table.placed ≤ ground.old.table.placed + MAX_OBJECT_WORDS + 2 }
-    ensures cost { OnOk result (steps.new ≤ steps.old + 4 * (ground.new.table.placed - ground.old.table.placed) + (find_accesses + settle_accesses + 8)) }
+    ensures cost { OnOk result (steps.new ≤ steps.old + 4 * (ground.new.table.placed - ground.old.table.placed) + (FIND_ACCESSES + SETTLE_ACCESSES + 8)) }
 {
     let cons = read_cons(&mut ground.mem, of, steps)?;
     match cons.code {
@@ -123,7 +122,7 @@ fn lay_pair<M: Memory, L: Ledger>(
 
     // What is placed, and the cost.
     ensures at_most { ground.new.table.placed ≤ ground.old.table.placed + MAX_OBJECT_WORDS + 2 }
-    ensures cost { OnOk result (steps.new ≤ steps.old + 4 * (ground.new.table.placed - ground.old.table.placed) + (settle_accesses + 8)) }
+    ensures cost { OnOk result (steps.new ≤ steps.old + 4 * (ground.new.table.placed - ground.old.table.placed) + (SETTLE_ACCESSES + 8)) }
 {
     let car = fetch(ground, cell, steps)?;
     lay_settled(ground, cell, car, cdr, steps)

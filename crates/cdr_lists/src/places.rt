@@ -6,13 +6,13 @@ ghost use Rattle.mem_port.specs.Store.{StoresNothing};
 ghost use Rattle.obj_layout.specs.Forwards.{word_at};
 ghost use Rattle.cdr_lists.specs.Faults.{AccountsForRefusals};
 ghost use Rattle.cdr_lists.specs.Reading.{CanFind, IsConsAt, IsConsPlace};
-ghost use Rattle.transporter.specs.Accesses.{find_accesses, resolve_accesses};
 
 use crate::fault::ListFault;
 use mem_port::Memory;
 use obj_layout::{Resolved, first_word, resolve_first};
 use std::sync::ledger::Ledger;
 use store_word::{CdrCode, Content, Steps, SwapFault, Tag, Word};
+use transporter::{FIND_ACCESSES, RESOLVE_ACCESSES};
 
 /// The address of a cons, and the cdr code of its first word.
 #[derive(Clone, Copy)]
@@ -36,7 +36,7 @@ pub(crate) fn find_first<M: Memory, L: Ledger>(
     ensures unread { result ≡ Err ListFault.NotACons → steps.new ≡ steps.old }
     ensures unchanged { StoresNothing (M.seen mem.old) (M.seen mem.new) }
     ensures accounted { AccountsForRefusals (shown M.Memory mem.old) (shown M.Memory mem.new) steps.old steps.new result }
-    ensures cost { steps.new ≤ steps.old + resolve_accesses }
+    ensures cost { steps.new ≤ steps.old + RESOLVE_ACCESSES }
 {
     match of.content() {
         Content::List(reference) => {
@@ -60,7 +60,7 @@ pub(crate) fn read_cons<M: Memory, L: Ledger>(
     ensures unread { result ≡ Err ListFault.NotACons → steps.new ≡ steps.old }
     ensures unchanged { StoresNothing (M.seen mem.old) (M.seen mem.new) }
     ensures accounted { AccountsForRefusals (shown M.Memory mem.old) (shown M.Memory mem.new) steps.old steps.new result }
-    ensures cost { steps.new ≤ steps.old + find_accesses }
+    ensures cost { steps.new ≤ steps.old + FIND_ACCESSES }
 {
     let found = find_first(mem, of, steps)?;
     let at = found.at;

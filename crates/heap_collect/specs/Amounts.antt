@@ -12,7 +12,7 @@ use Rattle.heap_state.specs.transporter.Views.{MarksFollow, MovesAtMost}
 use Rattle.scavenger.specs.Scan.{Scan}
 use Rattle.scavenger.specs.Views.{ScansUpTo, units_of}
 use Rattle.heap_collect.specs.MachineView.{MachineView}
-use Rattle.scavenger.specs.Accesses.{step_accesses}
+use Rattle.scavenger.specs.declared.accesses.TheConstants.{STEP_ACCESSES}
 
 -- `limit` more units were scanned, or all that remained
 abbrev pub Amount : Scan → Scan → ℕ → Type 0
@@ -57,4 +57,4 @@ pub record ScansUnits (old new : MachineView) (limit before after : ℕ) : Type 
   -- at most 2,048 words were placed for each unit
   pub at_most : new.ground.table.placed ≤ old.ground.table.placed + MAX_OBJECT_WORDS * (new.scan.done - old.scan.done)
   -- at most 48 memory accesses for each unit, and 4 for each word placed
-  pub cost : after ≤ before + 4 * (new.ground.table.placed - old.ground.table.placed) + step_accesses * (new.scan.done - old.scan.done)
+  pub cost : after ≤ before + 4 * (new.ground.table.placed - old.ground.table.placed) + STEP_ACCESSES * (new.scan.done - old.scan.done)

@@ -5,12 +5,12 @@ ghost use Rattle.std.specs.Ordering.{int_eq};
 ghost use Rattle.mem_port.specs.Store.{StoresNothing};
 ghost use Rattle.obj_layout.specs.Forwards.{HasFinal};
 ghost use Rattle.heap_state.specs.Words.{CanCompare, SamePlace, SameWord};
-ghost use Rattle.transporter.specs.Accesses.{resolve_accesses};
 
 use mem_port::Memory;
 use obj_layout::resolve;
 use std::sync::ledger::Ledger;
 use store_word::{Content, Steps, SwapFault, Word};
+use transporter::RESOLVE_ACCESSES;
 
 // Whether two numbers are equal.
 fn is_same_number(left: i32, right: i32) -> bool
@@ -31,7 +31,7 @@ fn is_same_place<M: Memory, L: Ledger>(
     ensures value { IfOk result (SamePlace (M.seen mem.old).words left right) }
     ensures unchanged { StoresNothing (M.seen mem.old) (M.seen mem.new) }
     ensures accounted { AccountsForFaults (shown M.Memory mem.old) (shown M.Memory mem.new) steps.old steps.new result }
-    ensures cost { steps.new ≤ steps.old + 2 * resolve_accesses }
+    ensures cost { steps.new ≤ steps.old + 2 * RESOLVE_ACCESSES }
 {
     let a = resolve(mem, left, steps)?;
     let b = resolve(mem, right, steps)?;
@@ -50,7 +50,7 @@ pub fn is_same<M: Memory, L: Ledger>(
     ensures value { IfOk result (SameWord (M.seen mem.old).words left.content right.content) }
     ensures unchanged { StoresNothing (M.seen mem.old) (M.seen mem.new) }
     ensures accounted { AccountsForFaults (shown M.Memory mem.old) (shown M.Memory mem.new) steps.old steps.new result }
-    ensures cost { steps.new ≤ steps.old + 2 * resolve_accesses }
+    ensures cost { steps.new ≤ steps.old + 2 * RESOLVE_ACCESSES }
 {
     match (left.content(), right.content()) {
         (Content::Fixnum(i), Content::Fixnum(j)) => Ok(is_same_number(i, j)),

@@ -13,4 +13,5 @@ mod values;
 pub use compare::is_same;
 pub use laws::{commands_are_steps, what_is_represented_changes, what_is_represented_stands};
 pub use settling::{settle_items, settle_register};
+pub use transporter::{FIND_ACCESSES, RESOLVE_ACCESSES, SETTLE_ACCESSES};
 pub use values::show_into;

@@ -9,13 +9,12 @@ ghost use Rattle.store_word.specs.Words.{null_word};
 ghost use Rattle.transporter.specs.Settling.{RefersToOld};
 ghost use Rattle.transporter.specs.Preserving.{RegistersPreserved};
 ghost use Rattle.heap_state.specs.Settled.{IsSettled, NoOldAddressesInRegisters};
-ghost use Rattle.transporter.specs.Accesses.{settle_accesses};
 
 use area_space::Ground;
 use mem_port::Memory;
 use std::sync::ledger::Ledger;
 use store_word::{MAX_OBJECT_WORDS, Steps, SwapFault, Word};
-use transporter::settle;
+use transporter::{SETTLE_ACCESSES, settle};
 
 /// Settles a register (the read barrier): if its word refers to an old address, the word gets the live
 /// address of that object, which a collection moves there if it hasn't yet. It returns the word. While no
@@ -56,7 +55,7 @@ pub fn settle_register<M: Memory, L: Ledger>(
 
     // What is placed, and the cost.
     ensures at_most { ground.new.table.placed ≤ ground.old.table.placed + MAX_OBJECT_WORDS }
-    ensures cost { OnOk result (steps.new ≤ steps.old + 4 * (ground.new.table.placed - ground.old.table.placed) + settle_accesses) }
+    ensures cost { OnOk result (steps.new ≤ steps.old + 4 * (ground.new.table.placed - ground.old.table.placed) + SETTLE_ACCESSES) }
 {
     let word = registers[register as usize];
     if !ground.table.is_collecting() {
@@ -100,7 +99,7 @@ pub fn settle_items<M: Memory, L: Ledger>(
 
     // What is placed, and the cost.
     ensures at_most { ground.new.table.placed ≤ ground.old.table.placed + MAX_OBJECT_WORDS * length items.now }
-    ensures cost { OnOk result (steps.new ≤ steps.old + 4 * (ground.new.table.placed - ground.old.table.placed) + settle_accesses * length items.now) }
+    ensures cost { OnOk result (steps.new ≤ steps.old + 4 * (ground.new.table.placed - ground.old.table.placed) + SETTLE_ACCESSES * length items.now) }
 {
     if !ground.table.is_collecting() {
         return Ok(());

@@ -6,13 +6,13 @@ ghost use Rattle.store_word.specs.declared.word.Content.TheVariants.{Struct as S
 ghost use Rattle.obj_layout.specs.Forwards.{HasFinal};
 ghost use Rattle.heap_state.specs.Reads.{is_fault, reply_of};
 ghost use Rattle.heap_state.specs.Words.{CanShow, Shows, header_reply};
-ghost use Rattle.transporter.specs.Accesses.{find_accesses};
 
 use lisp_graph::Reply;
 use mem_port::Memory;
 use obj_layout::{first_word, resolve_first};
 use std::sync::ledger::Ledger;
 use store_word::{Content, Steps, SwapFault, Word};
+use transporter::FIND_ACCESSES;
 
 // The reply that shows a block, by its header.
 fn header_reply(header: Word) -> Reply
@@ -37,7 +37,7 @@ fn block_header<M: Memory, L: Ledger>(
     ensures value { IfOk result (λ header. Shows (M.seen mem.old).words (StructAt at) (header_reply header.content)) }
     ensures unchanged { StoresNothing (M.seen mem.old) (M.seen mem.new) }
     ensures accounted { AccountsForFaults (shown M.Memory mem.old) (shown M.Memory mem.new) steps.old steps.new result }
-    ensures cost { steps.new ≤ steps.old + find_accesses }
+    ensures cost { steps.new ≤ steps.old + FIND_ACCESSES }
 {
     let block = resolve_first(mem, at, steps)?;
     let header = first_word(mem, block, steps)?;
@@ -56,7 +56,7 @@ fn show<M: Memory, L: Ledger>(
     ensures succeeds { IfOk result (λ reply. reply ≢ Reply.Fault) }
     ensures unchanged { StoresNothing (M.seen mem.old) (M.seen mem.new) }
     ensures accounted { AccountsForFaults (shown M.Memory mem.old) (shown M.Memory mem.new) steps.old steps.new result }
-    ensures cost { steps.new ≤ steps.old + find_accesses }
+    ensures cost { steps.new ≤ steps.old + FIND_ACCESSES }
 {
     match word.content() {
         Content::Fixnum(number) => Ok(Reply::Number(number)),
@@ -87,7 +87,7 @@ pub fn show_into<M: Memory, L: Ledger>(
     ensures err { OnErr result (registers.new ≡ registers.old) }
     ensures unchanged { StoresNothing (M.seen mem.old) (M.seen mem.new) }
     ensures accounted { AccountsForFaultsIf (shown M.Memory mem.old) (shown M.Memory mem.new) steps.old steps.new (is_fault (reply_of result)) }
-    ensures cost { steps.new ≤ steps.old + find_accesses }
+    ensures cost { steps.new ≤ steps.old + FIND_ACCESSES }
 {
     let reply = show(mem, word, steps)?;
     registers[to as usize] = word;

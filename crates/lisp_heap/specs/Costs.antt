@@ -14,8 +14,8 @@ use Rattle.scavenger.specs.Left.{units_of}
 use Rattle.heap_collect.specs.Amounts.{Amount}
 use Rattle.heap_collect.specs.Silent.{done_from, flips_alone, placed_from}
 use Rattle.lisp_heap.specs.HeapView.{HeapView, store_of}
-use Rattle.scavenger.specs.Accesses.{step_accesses}
-use Rattle.heap_state.specs.transporter.Accesses.{find_accesses, settle_accesses}
+use Rattle.scavenger.specs.declared.accesses.TheConstants.{STEP_ACCESSES}
+use Rattle.heap_state.specs.transporter.declared.accesses.TheConstants.{FIND_ACCESSES, SETTLE_ACCESSES}
 
 -- the units scanned, and the words placed since the flip, of the collection that runs when an allocation begins
 abbrev pub done_at : HeapView → ℕ
@@ -80,7 +80,7 @@ pub record CostsLook (old new : HeapView) (before after : ℕ) : Type 0 where
   -- no unit was scanned
   pub done : new.scan.done ≡ done_at old
   -- at most 59 memory accesses, and 4 a word copied
-  pub bound : after ≤ before + (settle_accesses + find_accesses) + 4 * (new.table.placed - placed_at old)
+  pub bound : after ≤ before + (SETTLE_ACCESSES + FIND_ACCESSES) + 4 * (new.table.placed - placed_at old)
   -- at most 2,048 words are copied
   pub copied : new.table.placed ≤ placed_at old + MAX_OBJECT_WORDS
 
@@ -88,7 +88,7 @@ pub record CostsLook (old new : HeapView) (before after : ℕ) : Type 0 where
 pub record LookCosts (scan scan' : Scan) (t t' : Table) (before after : ℕ) : Type 0 where
   pub still : scan' ≡ scan
   pub grows : t.placed ≤ t'.placed
-  pub bound : after ≤ before + (settle_accesses + find_accesses) + 4 * (t'.placed - t.placed)
+  pub bound : after ≤ before + (SETTLE_ACCESSES + FIND_ACCESSES) + 4 * (t'.placed - t.placed)
   pub copied : t'.placed ≤ t.placed + MAX_OBJECT_WORDS
 
 -- After a call with this reply the counts of units and words are no less than before it, a scan that had finished still has, and it is the same collection if the block grew.
@@ -103,5 +103,5 @@ pub record Spends (scan scan' : Scan) (t t' : Table) (rate charge fixed read bef
   pub some : 1 ≤ charge
   pub amount : Amount scan scan' (rate * charge)
   pub grown : t.placed + charge ≤ t'.placed
-  pub bound : after ≤ before + fixed + 4 * (t'.placed - t.placed) + step_accesses * (scan'.done - scan.done)
+  pub bound : after ≤ before + fixed + 4 * (t'.placed - t.placed) + STEP_ACCESSES * (scan'.done - scan.done)
   pub copied : t'.placed ≤ t.placed + charge + MAX_OBJECT_WORDS * ((scan'.done - scan.done) + read)

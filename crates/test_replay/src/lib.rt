@@ -12,8 +12,6 @@ mod devices;
 #[cfg(test)]
 mod engine;
 #[cfg(test)]
-mod lines;
-#[cfg(test)]
 mod paging;
 #[cfg(test)]
 mod readers;

@@ -2,6 +2,8 @@
 ghost use Rattle.std.specs.Prelude.{◌<◌, OnOk};
 ghost use Rattle.input_verdict.specs.Places.{IsPlace};
 
+mod lines;
+
 use super::run::words_of;
 use command_words::read_words;
 use input_verdict::{InputJudge, JudgedInput, LineEffect, judge_line};

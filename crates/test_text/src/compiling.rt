@@ -1,4 +1,6 @@
 //! Runs over devices in memory: texts, and what they are compiled to.
+mod modes;
+
 use super::same::same;
 use file_modes::{FileMode, Status, run_mode};
 use outer_ports::{SinkBytes, SourceBytes};

@@ -10,8 +10,6 @@ mod files;
 #[cfg(test)]
 mod holding;
 #[cfg(test)]
-mod modes;
-#[cfg(test)]
 mod prints;
 #[cfg(test)]
 mod same;

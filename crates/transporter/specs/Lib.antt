@@ -1,4 +1,3 @@
-pub mod Accesses
 pub mod Growth
 pub mod Laws
 pub mod LiveWordsUnchanged

@@ -6,6 +6,7 @@
 //! (`specs/Transports.antt`). Begin with `transports`.
 #![tactic(auto)]
 
+mod accesses;
 mod copying;
 mod laws;
 mod parcel;
@@ -13,6 +14,10 @@ mod relocation;
 mod settling;
 mod transports;
 
+pub use accesses::{
+    FAILED_FETCH_ACCESSES, FETCH_ACCESSES, FIND_ACCESSES, HOLD_ACCESSES, RESOLVE_ACCESSES,
+    SETTLE_ACCESSES,
+};
 pub use copying::copy_words;
 pub use laws::{runs_move_together, transports_add_up, unchanged_pages_get_no_marks};
 pub use parcel::Parcel;

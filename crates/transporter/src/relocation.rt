@@ -14,8 +14,8 @@ ghost use Rattle.area_space.specs.Places.{IsEnd};
 ghost use Rattle.area_space.specs.Flips.{survivor};
 ghost use Rattle.transporter.specs.Parcels.{ArePairOf, word_count_of};
 ghost use Rattle.transporter.specs.Relocations.{Commits, IsOldClass, Moves, OpensIfFull};
-ghost use Rattle.transporter.specs.Accesses.{hold_accesses};
 
+use crate::accesses::HOLD_ACCESSES;
 use crate::copying::move_words;
 use crate::parcel::{Pair, Parcel};
 use area_space::{Class, Ground, Origin, Placed, RegionTable};
@@ -83,7 +83,7 @@ fn hold_places<M: Memory, L: Ledger>(
     ensures second_held { OnOk result (HoldsSpan (M.held mem.new) to) }
     ensures unchanged { StoresNothing (M.seen mem.old) (M.seen mem.new) }
     ensures accounted { AccountsForFaults (shown M.Memory mem.old) (shown M.Memory mem.new) steps.old steps.new result }
-    ensures at_most { steps.new ≤ steps.old + hold_accesses }
+    ensures at_most { steps.new ≤ steps.old + HOLD_ACCESSES }
 {
     assert_invariant(mem);
     if from.words == 2
@@ -115,8 +115,8 @@ fn put<M: Memory, L: Ledger>(
     ensures table { OnErr result (ground.new.table ≡ ground.old.table) }
     ensures sound { OnOk result (IsTable ground.new.table) }
     ensures accounted { AccountsForFaults (view ground.old).mem (view ground.new).mem steps.old steps.new result }
-    ensures cost { steps.new ≤ steps.old + 3 * word_count_of parcel.now + hold_accesses }
-    ensures cost_at_most { OnErr result (steps.new ≤ steps.old + hold_accesses) }
+    ensures cost { steps.new ≤ steps.old + 3 * word_count_of parcel.now + HOLD_ACCESSES }
+    ensures cost_at_most { OnErr result (steps.new ≤ steps.old + HOLD_ACCESSES) }
 {
     let words = parcel.new_words();
     let from = Span {
@@ -151,8 +151,8 @@ pub(crate) fn relocate<M: Memory, L: Ledger>(
     ensures moved { IfOk result (Relocates (view ground.old) (view ground.new) parcel.now) }
     ensures fault { OnErr result (OpensOnly (view ground.old) (view ground.new)) }
     ensures accounted { AccountsForFaults (view ground.old).mem (view ground.new).mem steps.old steps.new result }
-    ensures cost { steps.new ≤ steps.old + 3 * word_count_of parcel.now + hold_accesses }
-    ensures cost_at_most { OnErr result (steps.new ≤ steps.old + hold_accesses) }
+    ensures cost { steps.new ≤ steps.old + 3 * word_count_of parcel.now + HOLD_ACCESSES }
+    ensures cost_at_most { OnErr result (steps.new ≤ steps.old + HOLD_ACCESSES) }
 {
     let level = ground.table.survivor_level(class.level);
     let placed = place_for(ground, class.area, level, parcel.new_words());
@@ -175,8 +175,8 @@ pub(crate) fn relocate_pair<M: Memory, L: Ledger>(
     ensures moved { IfOk result (Relocates (view ground.old) (view ground.new) parcel.now) }
     ensures fault { OnErr result (OpensOnly (view ground.old) (view ground.new)) }
     ensures accounted { AccountsForFaults (view ground.old).mem (view ground.new).mem steps.old steps.new result }
-    ensures cost { steps.new ≤ steps.old + 3 * word_count_of parcel.now + hold_accesses }
-    ensures cost_at_most { OnErr result (steps.new ≤ steps.old + hold_accesses) }
+    ensures cost { steps.new ≤ steps.old + 3 * word_count_of parcel.now + HOLD_ACCESSES }
+    ensures cost_at_most { OnErr result (steps.new ≤ steps.old + HOLD_ACCESSES) }
 {
     let whole = Parcel {
         at: parcel.at,

@@ -13,8 +13,8 @@ ghost use Rattle.obj_layout.specs.Forwards.{word_at};
 ghost use Rattle.transporter.specs.Growth.{Grows};
 ghost use Rattle.transporter.specs.LiveWordsUnchanged.{IsLiveWord};
 ghost use Rattle.transporter.specs.Settling.{reference_of, readdressed, RefersToOld, Replaces, Settles};
-ghost use Rattle.transporter.specs.Accesses.{failed_fetch_accesses, failed_word_accesses, fetch_accesses, word_accesses};
 
+use crate::accesses::{FAILED_FETCH_ACCESSES, FAILED_WORD_ACCESSES, FETCH_ACCESSES, WORD_ACCESSES};
 use crate::transports::transport;
 use area_space::Ground;
 use mem_port::Memory;
@@ -83,8 +83,8 @@ pub fn settle<M: Memory, L: Ledger>(
 
     // What is placed, and the cost.
     ensures at_most { ground.new.table.placed ≤ ground.old.table.placed + MAX_OBJECT_WORDS }
-    ensures cost { OnOk result (steps.new ≤ steps.old + 4 * (ground.new.table.placed - ground.old.table.placed) + word_accesses) }
-    ensures cost_at_most { OnErr result (steps.new ≤ steps.old + failed_word_accesses) }
+    ensures cost { OnOk result (steps.new ≤ steps.old + 4 * (ground.new.table.placed - ground.old.table.placed) + WORD_ACCESSES) }
+    ensures cost_at_most { OnErr result (steps.new ≤ steps.old + FAILED_WORD_ACCESSES) }
 {
     match reference(word) {
         Some(at) if ground.table.is_old(at) => settle_old(ground, word, at, steps),
@@ -118,8 +118,8 @@ fn settle_old<M: Memory, L: Ledger>(
 
     // What is placed, and the cost.
     ensures at_most { ground.new.table.placed ≤ ground.old.table.placed + MAX_OBJECT_WORDS }
-    ensures cost { OnOk result (steps.new ≤ steps.old + 4 * (ground.new.table.placed - ground.old.table.placed) + word_accesses) }
-    ensures cost_at_most { OnErr result (steps.new ≤ steps.old + failed_word_accesses) }
+    ensures cost { OnOk result (steps.new ≤ steps.old + 4 * (ground.new.table.placed - ground.old.table.placed) + WORD_ACCESSES) }
+    ensures cost_at_most { OnErr result (steps.new ≤ steps.old + FAILED_WORD_ACCESSES) }
 {
     let to = transport(ground, at, steps)?;
     Ok(with_address(word, to))
@@ -164,8 +164,8 @@ pub fn fetch<M: Memory, L: Ledger>(
 
     // What is placed, and the cost.
     ensures at_most { ground.new.table.placed ≤ ground.old.table.placed + MAX_OBJECT_WORDS }
-    ensures cost { OnOk result (steps.new ≤ steps.old + 4 * (ground.new.table.placed - ground.old.table.placed) + fetch_accesses) }
-    ensures cost_at_most { steps.new ≤ steps.old + 4 * (ground.new.table.placed - ground.old.table.placed) + failed_fetch_accesses }
+    ensures cost { OnOk result (steps.new ≤ steps.old + 4 * (ground.new.table.placed - ground.old.table.placed) + FETCH_ACCESSES) }
+    ensures cost_at_most { steps.new ≤ steps.old + 4 * (ground.new.table.placed - ground.old.table.placed) + FAILED_FETCH_ACCESSES }
 {
     let word = ground.mem.read(at, steps)?;
     let settled = settle(ground, word, steps)?;

@@ -11,8 +11,10 @@ ghost use Rattle.transporter.specs.Growth.{Grows};
 ghost use Rattle.obj_layout.specs.Forwards.{word_at};
 ghost use Rattle.transporter.specs.Parcels.{StandsWhole};
 ghost use Rattle.transporter.specs.Relocations.{IsOldClass};
-ghost use Rattle.transporter.specs.Accesses.{failed_transport_accesses, failed_word_accesses, transport_accesses, word_accesses};
 
+use crate::accesses::{
+    FAILED_TRANSPORT_ACCESSES, FAILED_WORD_ACCESSES, TRANSPORT_ACCESSES, WORD_ACCESSES,
+};
 use crate::parcel::parcel_of;
 use crate::relocation::{class_if_old, relocate, relocate_pair};
 use area_space::{Class, Ground};
@@ -57,8 +59,8 @@ pub fn transport<M: Memory, L: Ledger>(
 
     // What is placed, and the cost.
     ensures at_most { ground.new.table.placed ≤ ground.old.table.placed + MAX_OBJECT_WORDS }
-    ensures cost { OnOk result (steps.new ≤ steps.old + 4 * (ground.new.table.placed - ground.old.table.placed) + word_accesses) }
-    ensures cost_at_most { OnErr result (steps.new ≤ steps.old + failed_word_accesses) }
+    ensures cost { OnOk result (steps.new ≤ steps.old + 4 * (ground.new.table.placed - ground.old.table.placed) + WORD_ACCESSES) }
+    ensures cost_at_most { OnErr result (steps.new ≤ steps.old + FAILED_WORD_ACCESSES) }
 {
     let found = resolve_first(&mut ground.mem, at, steps)?;
     match class_if_old(&ground.table, found.at) {
@@ -81,8 +83,8 @@ fn move_from<M: Memory, L: Ledger>(
     ensures moved { IfOk result (MovesHere (view ground.old) (view ground.new) object.at) }
     ensures fault { OnErr result (OpensAtMost (view ground.old) (view ground.new)) }
     ensures accounted { AccountsForFaults (view ground.old).mem (view ground.new).mem steps.old steps.new result }
-    ensures cost { OnOk result (steps.new ≤ steps.old + 4 * (ground.new.table.placed - ground.old.table.placed) + transport_accesses) }
-    ensures cost_at_most { OnErr result (steps.new ≤ steps.old + failed_transport_accesses) }
+    ensures cost { OnOk result (steps.new ≤ steps.old + 4 * (ground.new.table.placed - ground.old.table.placed) + TRANSPORT_ACCESSES) }
+    ensures cost_at_most { OnErr result (steps.new ≤ steps.old + FAILED_TRANSPORT_ACCESSES) }
 {
     let found = parcel_of(&mut ground.mem, object, steps)?;
     let parcel = found.parcel;

@@ -9,12 +9,11 @@ ghost use Rattle.heap_state.specs.Views.{RepresentsSame, RepresentsState, Perfor
 ghost use Rattle.block_store.specs.transporter.Views.{NoOldAddresses, MarksFollow, PreservesScanned};
 ghost use Rattle.heap_state.specs.Settled.{IsSettled, NoOldAddressesInRegisters};
 ghost use Rattle.block_store.specs.transporter.Preserving.{RegistersPreserved};
-ghost use Rattle.heap_state.specs.transporter.Accesses.{find_accesses, settle_accesses};
 
 use crate::blocks::refusal::refusal;
 use area_space::Ground;
 use block_store::{block_size, grown_length};
-use heap_state::settle_register;
+use heap_state::{FIND_ACCESSES, SETTLE_ACCESSES, settle_register};
 use lisp_graph::{Command, Reply};
 use mem_port::Memory;
 use std::sync::ledger::Ledger;
@@ -57,7 +56,7 @@ pub fn find_growing<M: Memory, L: Ledger>(
     // costs and swap errors
     ensures accounted { AccountsForFaultsIf (view ground.old).mem (view ground.new).mem steps.old steps.new (is_found_fault result) }
     ensures placed { ground.new.table.placed ≤ ground.old.table.placed + MAX_OBJECT_WORDS }
-    ensures cost { result ≢ Growing.Answered Reply.Fault → steps.new ≤ steps.old + 4 * (ground.new.table.placed - ground.old.table.placed) + (settle_accesses + find_accesses) }
+    ensures cost { result ≢ Growing.Answered Reply.Fault → steps.new ≤ steps.old + 4 * (ground.new.table.placed - ground.old.table.placed) + (SETTLE_ACCESSES + FIND_ACCESSES) }
 {
     let Ok(word) = settle_register(ground, registers, target, steps) else {
         return Growing::Answered(Reply::Fault);

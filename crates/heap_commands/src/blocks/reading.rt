@@ -5,12 +5,11 @@ ghost use Rattle.block_store.specs.transporter.Views.{MovesAtMost};
 ghost use Rattle.heap_commands.specs.Costs.{CommandCosts};
 ghost use Rattle.heap_state.specs.Reads.{reply_of};
 ghost use Rattle.heap_state.specs.Views.{RepresentsState, Performs};
-ghost use Rattle.heap_state.specs.transporter.Accesses.{find_accesses, settle_accesses};
 
 use crate::blocks::refusal::refusal;
 use area_space::Ground;
 use block_store::{field, length};
-use heap_state::{settle_register, show_into};
+use heap_state::{FIND_ACCESSES, SETTLE_ACCESSES, settle_register, show_into};
 use lisp_graph::{Command, Reply};
 use mem_port::Memory;
 use std::sync::ledger::Ledger;
@@ -28,7 +27,7 @@ pub fn size<M: Memory, L: Ledger>(
     requires in_range { of < list_length registers.old }
     ensures performs { Performs (view ground.old) registers.old (view ground.new) registers.new (Command.Size of) (reply_of result) }
     ensures moves { MovesAtMost (view ground.old) (view ground.new) 1 }
-    ensures costs { CommandCosts (view ground.old) (view ground.new) steps.old steps.new result MAX_OBJECT_WORDS (settle_accesses + find_accesses) }
+    ensures costs { CommandCosts (view ground.old) (view ground.new) steps.old steps.new result MAX_OBJECT_WORDS (SETTLE_ACCESSES + FIND_ACCESSES) }
 {
     let block = settle_register(ground, registers, of, steps)?;
     match length(ground, block, steps) {
@@ -59,7 +58,7 @@ pub fn get<M: Memory, L: Ledger>(
     requires from { from < list_length registers.old }
     ensures performs { Performs (view ground.old) registers.old (view ground.new) registers.new (Command.Get to from index) (reply_of result) }
     ensures moves { MovesAtMost (view ground.old) (view ground.new) 2 }
-    ensures costs { CommandCosts (view ground.old) (view ground.new) steps.old steps.new result MAX_MOVED_WORDS (2 * settle_accesses + 2 * find_accesses + 2) }
+    ensures costs { CommandCosts (view ground.old) (view ground.new) steps.old steps.new result MAX_MOVED_WORDS (2 * SETTLE_ACCESSES + 2 * FIND_ACCESSES + 2) }
 {
     let block = settle_register(ground, registers, from, steps)?;
     match field(ground, block, index, steps) {

@@ -5,12 +5,11 @@ ghost use Rattle.block_store.specs.transporter.Views.{MovesAtMost};
 ghost use Rattle.heap_commands.specs.Costs.{CommandCosts};
 ghost use Rattle.heap_state.specs.Reads.{reply_of};
 ghost use Rattle.heap_state.specs.Views.{RepresentsState, Performs};
-ghost use Rattle.heap_state.specs.transporter.Accesses.{find_accesses, settle_accesses};
 
 use crate::blocks::refusal::refusal;
 use area_space::Ground;
 use block_store::set_field;
-use heap_state::settle_items;
+use heap_state::{FIND_ACCESSES, SETTLE_ACCESSES, settle_items};
 use lisp_graph::{Command, Reply};
 use mem_port::Memory;
 use std::sync::ledger::Ledger;
@@ -31,7 +30,7 @@ pub fn put<M: Memory, L: Ledger>(
     requires from { from < length registers.old }
     ensures performs { Performs (view ground.old) registers.old (view ground.new) registers.new (Command.Put target index from) (reply_of result) }
     ensures moves { MovesAtMost (view ground.old) (view ground.new) 2 }
-    ensures costs { CommandCosts (view ground.old) (view ground.new) steps.old steps.new result MAX_MOVED_WORDS (2 * settle_accesses + find_accesses + 2) }
+    ensures costs { CommandCosts (view ground.old) (view ground.new) steps.old steps.new result MAX_MOVED_WORDS (2 * SETTLE_ACCESSES + FIND_ACCESSES + 2) }
 {
     settle_items(ground, registers, &[target, from], steps)?;
     let block = registers[target as usize];

@@ -10,12 +10,11 @@ ghost use Rattle.heap_state.specs.Views.{RepresentsState, PerformsAt};
 ghost use Rattle.std.specs.List.{All};
 ghost use Rattle.area_space.specs.Accounts.{account_of};
 ghost use Rattle.area_space.specs.Table.{areas_of, levels_of, quota_of};
-ghost use Rattle.heap_state.specs.transporter.Accesses.{settle_accesses};
 
 use crate::object::NewObject;
 use area_space::Ground;
 use cdr_lists::{NewPair, PAIR, make_list, make_pair_of};
-use heap_state::settle_items;
+use heap_state::{SETTLE_ACCESSES, settle_items};
 use lisp_graph::{Command, Items, Reply};
 use mem_port::Memory;
 use std::sync::ledger::Ledger;
@@ -45,7 +44,7 @@ pub fn cons<M: Memory, L: Ledger>(
     ensures unmarked { OnOk result (MarksMade (view ground.old) (view ground.new) (get_or registers.new object.to null_word) 2) }
 
     // costs and swap errors
-    ensures costs { CommandCosts (view ground.old) (view ground.new) steps.old steps.new result (MAX_MOVED_WORDS + 2) (2 * settle_accesses + 4) }
+    ensures costs { CommandCosts (view ground.old) (view ground.new) steps.old steps.new result (MAX_MOVED_WORDS + 2) (2 * SETTLE_ACCESSES + 4) }
 {
     settle_items(ground, registers, &[car, cdr], steps)?;
     let first = registers[car as usize];
@@ -85,7 +84,7 @@ pub fn list<M: Memory, L: Ledger>(
     ensures unmarked { OnOk result (MarksMade (view ground.old) (view ground.new) (get_or registers.new object.to null_word) (length items.now)) }
 
     // costs and swap errors
-    ensures costs { CommandCosts (view ground.old) (view ground.new) steps.old steps.new result ((MAX_OBJECT_WORDS + 1) * length items.now) ((settle_accesses + 1) * length items.now + 5) }
+    ensures costs { CommandCosts (view ground.old) (view ground.new) steps.old steps.new result ((MAX_OBJECT_WORDS + 1) * length items.now) ((SETTLE_ACCESSES + 1) * length items.now + 5) }
 {
     settle_items(ground, registers, items.as_slice(), steps)?;
     let at = make_list(ground, object.area, object.level, registers, items, steps)?;

@@ -5,10 +5,9 @@ ghost use Rattle.block_store.specs.transporter.Views.{MovesAtMost};
 ghost use Rattle.heap_commands.specs.Costs.{CommandCosts};
 ghost use Rattle.heap_state.specs.Reads.{reply_of};
 ghost use Rattle.heap_state.specs.Views.{RepresentsState, Performs};
-ghost use Rattle.heap_state.specs.transporter.Accesses.{resolve_accesses, settle_accesses};
 
 use area_space::Ground;
-use heap_state::{is_same, settle_items, settle_register};
+use heap_state::{RESOLVE_ACCESSES, SETTLE_ACCESSES, is_same, settle_items, settle_register};
 use lisp_graph::{Command, Reply};
 use mem_port::Memory;
 use std::sync::ledger::Ledger;
@@ -28,7 +27,7 @@ pub fn copy_register<M: Memory, L: Ledger>(
     requires from { from < length registers.old }
     ensures performs { Performs (view ground.old) registers.old (view ground.new) registers.new (Command.Move to from) (reply_of result) }
     ensures moves { MovesAtMost (view ground.old) (view ground.new) 1 }
-    ensures costs { CommandCosts (view ground.old) (view ground.new) steps.old steps.new result MAX_OBJECT_WORDS settle_accesses }
+    ensures costs { CommandCosts (view ground.old) (view ground.new) steps.old steps.new result MAX_OBJECT_WORDS SETTLE_ACCESSES }
 {
     let word = settle_register(ground, registers, from, steps)?;
     registers[to as usize] = word;
@@ -56,7 +55,7 @@ pub fn eq<M: Memory, L: Ledger>(
     requires right { right < length registers.old }
     ensures performs { Performs (view ground.old) registers.old (view ground.new) registers.new (Command.Eq left right) (reply_of result) }
     ensures moves { MovesAtMost (view ground.old) (view ground.new) 2 }
-    ensures costs { CommandCosts (view ground.old) (view ground.new) steps.old steps.new result MAX_MOVED_WORDS (2 * settle_accesses + 2 * resolve_accesses) }
+    ensures costs { CommandCosts (view ground.old) (view ground.new) steps.old steps.new result MAX_MOVED_WORDS (2 * SETTLE_ACCESSES + 2 * RESOLVE_ACCESSES) }
 {
     settle_items(ground, registers, &[left, right], steps)?;
     let first = registers[left as usize];

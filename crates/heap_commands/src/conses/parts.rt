@@ -7,11 +7,10 @@ ghost use Rattle.heap_commands.specs.Costs.{CommandCosts};
 ghost use Rattle.heap_commands.specs.Views.{MovesOrLays};
 ghost use Rattle.heap_state.specs.Reads.{reply_of};
 ghost use Rattle.heap_state.specs.Views.{RepresentsState, Performs};
-ghost use Rattle.heap_state.specs.transporter.Accesses.{find_accesses, settle_accesses};
 
 use area_space::Ground;
 use cdr_lists::{ListFault, set_car, set_cdr};
-use heap_state::{settle_items, settle_register, show_into};
+use heap_state::{FIND_ACCESSES, SETTLE_ACCESSES, settle_items, settle_register, show_into};
 use lisp_graph::{Command, Reply};
 use mem_port::Memory;
 use std::sync::ledger::Ledger;
@@ -31,7 +30,7 @@ pub fn car<M: Memory, L: Ledger>(
     requires from { from < length registers.old }
     ensures performs { Performs (view ground.old) registers.old (view ground.new) registers.new (Command.Car to from) (reply_of result) }
     ensures moves { MovesAtMost (view ground.old) (view ground.new) 2 }
-    ensures costs { CommandCosts (view ground.old) (view ground.new) steps.old steps.new result MAX_MOVED_WORDS (2 * settle_accesses + 2 * find_accesses + 1) }
+    ensures costs { CommandCosts (view ground.old) (view ground.new) steps.old steps.new result MAX_MOVED_WORDS (2 * SETTLE_ACCESSES + 2 * FIND_ACCESSES + 1) }
 {
     let cons = settle_register(ground, registers, from, steps)?;
     match cdr_lists::car(ground, cons, steps) {
@@ -55,7 +54,7 @@ pub fn cdr<M: Memory, L: Ledger>(
     requires from { from < length registers.old }
     ensures performs { Performs (view ground.old) registers.old (view ground.new) registers.new (Command.Cdr to from) (reply_of result) }
     ensures moves { MovesAtMost (view ground.old) (view ground.new) 2 }
-    ensures costs { CommandCosts (view ground.old) (view ground.new) steps.old steps.new result MAX_MOVED_WORDS (2 * settle_accesses + 2 * find_accesses + 2) }
+    ensures costs { CommandCosts (view ground.old) (view ground.new) steps.old steps.new result MAX_MOVED_WORDS (2 * SETTLE_ACCESSES + 2 * FIND_ACCESSES + 2) }
 {
     let cons = settle_register(ground, registers, from, steps)?;
     match cdr_lists::cdr(ground, cons, steps) {
@@ -79,7 +78,7 @@ pub fn rplaca<M: Memory, L: Ledger>(
     requires from { from < length registers.old }
     ensures performs { Performs (view ground.old) registers.old (view ground.new) registers.new (Command.Rplaca target from) (reply_of result) }
     ensures moves { MovesAtMost (view ground.old) (view ground.new) 2 }
-    ensures costs { CommandCosts (view ground.old) (view ground.new) steps.old steps.new result MAX_MOVED_WORDS (2 * settle_accesses + find_accesses + 1) }
+    ensures costs { CommandCosts (view ground.old) (view ground.new) steps.old steps.new result MAX_MOVED_WORDS (2 * SETTLE_ACCESSES + FIND_ACCESSES + 1) }
 {
     settle_items(ground, registers, &[target, from], steps)?;
     let cons = registers[target as usize];
@@ -105,7 +104,7 @@ pub fn rplacd<M: Memory, L: Ledger>(
     requires from { from < length registers.old }
     ensures performs { Performs (view ground.old) registers.old (view ground.new) registers.new (Command.Rplacd target from) (reply_of result) }
     ensures moves { MovesOrLays (view ground.old) (view ground.new) (get_or registers.new target null_word) (get_or registers.new from null_word) }
-    ensures costs { CommandCosts (view ground.old) (view ground.new) steps.old steps.new result (MAX_MOVED_WORDS + MAX_OBJECT_WORDS + 2) (3 * settle_accesses + find_accesses + 8) }
+    ensures costs { CommandCosts (view ground.old) (view ground.new) steps.old steps.new result (MAX_MOVED_WORDS + MAX_OBJECT_WORDS + 2) (3 * SETTLE_ACCESSES + FIND_ACCESSES + 8) }
 {
     settle_items(ground, registers, &[target, from], steps)?;
     let cons = registers[target as usize];

@@ -6,12 +6,12 @@ ghost use Rattle.lisp_heap.specs.Moves.{MovesAtMost};
 ghost use Rattle.lisp_heap.specs.NewMarks.{MarksMade};
 ghost use Rattle.store_word.specs.Words.{null_word};
 ghost use Rattle.lisp_heap.specs.Stands.{Runs};
-ghost use Rattle.heap_state.specs.transporter.Accesses.{find_accesses, settle_accesses};
 
 use crate::heap::allocating::admit_allocation;
 use crate::heap::{Heap, finish_reply, finish_step};
 use heap_collect::Allocation;
 use heap_commands::NewObject;
+use heap_state::{FIND_ACCESSES, SETTLE_ACCESSES};
 use lisp_graph::{Command, Reply};
 use mem_port::Memory;
 use std::sync::ledger::Ledger;
@@ -67,7 +67,7 @@ impl<M: Memory> Heap<M> {
         requires to { to < length self.old.registers }
         requires from { from < length self.old.registers }
         ensures runs { Runs self.old self.new steps.old steps.new (Command.Get to from index) result }
-        ensures costs { Takes self.old self.new steps.old steps.new MAX_MOVED_WORDS (2 * settle_accesses + 2 * find_accesses + 2) result }
+        ensures costs { Takes self.old self.new steps.old steps.new MAX_MOVED_WORDS (2 * SETTLE_ACCESSES + 2 * FIND_ACCESSES + 2) result }
         ensures moves { MovesAtMost self.old self.new 2 }
     {
         let answer = heap_commands::get(
@@ -93,7 +93,7 @@ impl<M: Memory> Heap<M> {
         requires target { target < length self.old.registers }
         requires from { from < length self.old.registers }
         ensures runs { Runs self.old self.new steps.old steps.new (Command.Put target index from) result }
-        ensures costs { Takes self.old self.new steps.old steps.new MAX_MOVED_WORDS (2 * settle_accesses + find_accesses + 2) result }
+        ensures costs { Takes self.old self.new steps.old steps.new MAX_MOVED_WORDS (2 * SETTLE_ACCESSES + FIND_ACCESSES + 2) result }
         ensures moves { MovesAtMost self.old self.new 2 }
     {
         let answer = heap_commands::put(
@@ -112,7 +112,7 @@ impl<M: Memory> Heap<M> {
     pub fn size<L: Ledger>(&mut self, of: u8, steps: &mut Steps<L>) -> Reply
         requires in_range { of < length self.old.registers }
         ensures runs { Runs self.old self.new steps.old steps.new (Command.Size of) result }
-        ensures costs { Takes self.old self.new steps.old steps.new MAX_OBJECT_WORDS (settle_accesses + find_accesses) result }
+        ensures costs { Takes self.old self.new steps.old steps.new MAX_OBJECT_WORDS (SETTLE_ACCESSES + FIND_ACCESSES) result }
         ensures moves { MovesAtMost self.old self.new 1 }
     {
         let answer = heap_commands::size(&mut self.ground, &mut self.registers, of, steps);

@@ -3,7 +3,6 @@ ghost use Rattle.std.specs.Prelude.{◌≡◌, ◌≢◌, ◌+◌, ◌-◌, ◌*
 ghost use Rattle.area_space.specs.Flips.{Condemns};
 ghost use Rattle.area_space.specs.Frees.{outside_old};
 ghost use Rattle.scavenger.specs.Starting.{Begins, base_pages};
-ghost use Rattle.scavenger.specs.Accesses.{step_accesses};
 ghost use Rattle.heap_collect.specs.Amounts.{CountsPlaced};
 ghost use Rattle.word_graph.specs.lisp_meaning.State.{State};
 ghost use Rattle.lisp_heap.specs.HeapView.{store_of};
@@ -17,6 +16,7 @@ use crate::heap::Heap;
 use heap_collect::{flip, reclaim, scavenge};
 use lisp_graph::{Command, Condemn, Reply};
 use mem_port::{Memory, assert_invariant};
+use scavenger::STEP_ACCESSES;
 use std::sync::ledger::Ledger;
 use store_word::{MAX_OBJECT_WORDS, Steps};
 
@@ -55,7 +55,7 @@ impl<M: Memory> Heap<M> {
         ensures going { result ≡ Reply.More → IsUnfinished self.new }
         ensures done { result ≡ Reply.Done → left_in self.new ≡ 0 }
         ensures at_most { result ≢ Reply.Fault → self.new.table.placed ≤ self.old.table.placed + MAX_OBJECT_WORDS * (self.new.scan.done - self.old.scan.done) }
-        ensures cost { result ≢ Reply.Fault → steps.new ≤ steps.old + 4 * (self.new.table.placed - self.old.table.placed) + step_accesses * (self.new.scan.done - self.old.scan.done) }
+        ensures cost { result ≢ Reply.Fault → steps.new ≤ steps.old + 4 * (self.new.table.placed - self.old.table.placed) + STEP_ACCESSES * (self.new.scan.done - self.old.scan.done) }
     {
         let reply = scavenge(
             &mut self.ground,

@@ -8,12 +8,12 @@ ghost use Rattle.lisp_heap.specs.Making.{ScansFirst};
 ghost use Rattle.lisp_heap.specs.Moves.{MovesAtMost, MovesOrLays};
 ghost use Rattle.lisp_heap.specs.NewMarks.{MarksMade};
 ghost use Rattle.lisp_heap.specs.Stands.{Runs};
-ghost use Rattle.heap_state.specs.transporter.Accesses.{find_accesses, settle_accesses};
 
 use crate::heap::allocating::admit_allocation;
 use crate::heap::{Heap, finish_reply, finish_step};
 use heap_collect::Allocation;
 use heap_commands::{CELL, NewObject, PAIR};
+use heap_state::{FIND_ACCESSES, SETTLE_ACCESSES};
 use lisp_graph::{Command, Items, Reply};
 use mem_port::Memory;
 use std::sync::ledger::Ledger;
@@ -118,7 +118,7 @@ impl<M: Memory> Heap<M> {
         requires to { to < length self.old.registers }
         requires from { from < length self.old.registers }
         ensures runs { Runs self.old self.new steps.old steps.new (Command.Car to from) result }
-        ensures costs { Takes self.old self.new steps.old steps.new MAX_MOVED_WORDS (2 * settle_accesses + 2 * find_accesses + 1) result }
+        ensures costs { Takes self.old self.new steps.old steps.new MAX_MOVED_WORDS (2 * SETTLE_ACCESSES + 2 * FIND_ACCESSES + 1) result }
         ensures moves { MovesAtMost self.old self.new 2 }
     {
         let answer = heap_commands::car(&mut self.ground, &mut self.registers, to, from, steps);
@@ -131,7 +131,7 @@ impl<M: Memory> Heap<M> {
         requires to { to < length self.old.registers }
         requires from { from < length self.old.registers }
         ensures runs { Runs self.old self.new steps.old steps.new (Command.Cdr to from) result }
-        ensures costs { Takes self.old self.new steps.old steps.new MAX_MOVED_WORDS (2 * settle_accesses + 2 * find_accesses + 2) result }
+        ensures costs { Takes self.old self.new steps.old steps.new MAX_MOVED_WORDS (2 * SETTLE_ACCESSES + 2 * FIND_ACCESSES + 2) result }
         ensures moves { MovesAtMost self.old self.new 2 }
     {
         let answer = heap_commands::cdr(&mut self.ground, &mut self.registers, to, from, steps);
@@ -144,7 +144,7 @@ impl<M: Memory> Heap<M> {
         requires target { target < length self.old.registers }
         requires from { from < length self.old.registers }
         ensures runs { Runs self.old self.new steps.old steps.new (Command.Rplaca target from) result }
-        ensures costs { Takes self.old self.new steps.old steps.new MAX_MOVED_WORDS (2 * settle_accesses + find_accesses + 1) result }
+        ensures costs { Takes self.old self.new steps.old steps.new MAX_MOVED_WORDS (2 * SETTLE_ACCESSES + FIND_ACCESSES + 1) result }
         ensures moves { MovesAtMost self.old self.new 2 }
     {
         let answer = heap_commands::rplaca(
@@ -164,7 +164,7 @@ impl<M: Memory> Heap<M> {
         requires target { target < length self.old.registers }
         requires from { from < length self.old.registers }
         ensures runs { Runs self.old self.new steps.old steps.new (Command.Rplacd target from) result }
-        ensures costs { Takes self.old self.new steps.old steps.new (MAX_MOVED_WORDS + MAX_OBJECT_WORDS + 2) (3 * settle_accesses + find_accesses + 8) result }
+        ensures costs { Takes self.old self.new steps.old steps.new (MAX_MOVED_WORDS + MAX_OBJECT_WORDS + 2) (3 * SETTLE_ACCESSES + FIND_ACCESSES + 8) result }
         ensures moves { MovesOrLays self.old self.new (get_or self.new.registers target null_word) (get_or self.new.registers from null_word) }
     {
         let answer = heap_commands::rplacd(

@@ -6,10 +6,9 @@ ghost use Rattle.lisp_heap.specs.Costs.{Takes};
 ghost use Rattle.lisp_heap.specs.Moves.{MovesAtMost};
 ghost use Rattle.lisp_heap.specs.Stands.{Runs};
 ghost use Rattle.lisp_heap.specs.Words.{content_of};
-ghost use Rattle.heap_state.specs.transporter.Accesses.{resolve_accesses, settle_accesses};
 
 use crate::heap::{Heap, finish_step};
-use heap_state::commands_are_steps;
+use heap_state::{RESOLVE_ACCESSES, SETTLE_ACCESSES, commands_are_steps};
 use lisp_graph::{Command, Reply, Value};
 use mem_port::{Memory, assert_invariant};
 use std::sync::ledger::Ledger;
@@ -36,7 +35,7 @@ impl<M: Memory> Heap<M> {
         requires to { to < length self.old.registers }
         requires from { from < length self.old.registers }
         ensures runs { Runs self.old self.new steps.old steps.new (Command.Move to from) result }
-        ensures costs { Takes self.old self.new steps.old steps.new MAX_OBJECT_WORDS settle_accesses result }
+        ensures costs { Takes self.old self.new steps.old steps.new MAX_OBJECT_WORDS SETTLE_ACCESSES result }
         ensures moves { MovesAtMost self.old self.new 1 }
     {
         let answer = heap_commands::copy_register(
@@ -56,7 +55,7 @@ impl<M: Memory> Heap<M> {
         requires left { left < length self.old.registers }
         requires right { right < length self.old.registers }
         ensures runs { Runs self.old self.new steps.old steps.new (Command.Eq left right) result }
-        ensures costs { Takes self.old self.new steps.old steps.new MAX_MOVED_WORDS (2 * settle_accesses + 2 * resolve_accesses) result }
+        ensures costs { Takes self.old self.new steps.old steps.new MAX_MOVED_WORDS (2 * SETTLE_ACCESSES + 2 * RESOLVE_ACCESSES) result }
         ensures moves { MovesAtMost self.old self.new 2 }
     {
         let answer = heap_commands::eq(&mut self.ground, &mut self.registers, left, right, steps);
