@@ -10,7 +10,6 @@ use Rattle.store_word.specs.declared.word.Content.{Content}
 use Rattle.store_word.specs.declared.word.Content.TheVariants.{Null, Struct as StructAt, Nil as NilWord, Header, HeaderForward}
 use Rattle.area_space.specs.lisp_graph.declared.object.Value.{Value}
 use Rattle.area_space.specs.lisp_graph.declared.object.Body.TheVariants.{Block}
-use Rattle.area_space.specs.lisp_graph.declared.world.AreaRule.{AreaRule}
 use Rattle.area_space.specs.lisp_graph.Effect.{grown_block, grown_length}
 use Rattle.mem_port.specs.Store.{StoresNothing, level_of_word}
 use Rattle.mem_port.specs.Store as Memory
@@ -22,13 +21,14 @@ use Rattle.area_space.specs.Places.{IsEnd}
 use Rattle.area_space.specs.Charges.{AllowsOrigin, committed, husked}
 use Rattle.area_space.specs.Sound.{IsTable}
 use Rattle.obj_layout.specs.Forwards.{word_at, Final, IsFinal}
-use Rattle.transporter.specs.lisp_meaning.State.{Condemned, Store, object, rule_of}
+use Rattle.transporter.specs.lisp_meaning.State.{object, rule_of}
 use Rattle.transporter.specs.lisp_meaning.Changes.{with_grown}
 use Rattle.transporter.specs.lisp_meaning.Charges.{account}
-use Rattle.transporter.specs.lisp_meaning.Roles.{AsBlock, RoleMap, names_as}
+use Rattle.transporter.specs.lisp_meaning.Roles.{AsBlock, names_as}
 use Rattle.transporter.specs.lisp_meaning.Rewriting.{StandsThere}
 use Rattle.transporter.specs.lisp_ground.Image.{ground_image}
 use Rattle.transporter.specs.lisp_ground.GroundInvariant.{GroundInvariant, SameForm}
+use Rattle.transporter.specs.lisp_meaning.Interpretation.{Interpretation}
 use Rattle.transporter.specs.lisp_ground.After.{AfterOn}
 use Rattle.transporter.specs.lisp_ground.Placing.{Opens}
 use Rattle.transporter.specs.lisp_ground.Rewriting.{MakesGrown, RelaysOn}
@@ -138,12 +138,12 @@ module _ (m mid m' : Memory.Store) (t c t' : Table) (here at code count wanted a
 -- The ground represents the objects with the wider block
 
 laid_grows : (m mid m' : Memory.Store) (t c t' : Table) (here at code wanted area level : ℕ) (fields : List Value) → Laid m mid m' t c t' here at code (length fields) wanted area level → length fields < wanted → wanted ≤ 2047
-    → (k : RoleMap) (top : ℕ) (areas : List AreaRule) (s : Store) (aim : Condemned) (n : ℕ) → GroundInvariant m t k top areas s aim → StandsThere (ground_image m t) k AsBlock here n → (object s n).body ≡ Block code fields
-    → account top s aim area + suc (grown_length (length fields) wanted) ≤ (rule_of areas area).quota
-    → AfterOn m t m' t' k top areas s (with_grown s n (grown_block area code fields (grown_length (length fields) wanted)) area level (suc (length fields))) aim 0 AsBlock at 1 (λ i. n)
-laid_grows m mid m' t c t' here at code wanted area level fields l more few k top areas s aim n on st body fits =
+    → (it : Interpretation) (n : ℕ) → GroundInvariant m t it → StandsThere (ground_image m t) it.map AsBlock here n → (object it.store n).body ≡ Block code fields
+    → account it.top it.store it.aim area + suc (grown_length (length fields) wanted) ≤ (rule_of it.areas area).quota
+    → AfterOn m t m' t' it (with_grown it.store n (grown_block area code fields (grown_length (length fields) wanted)) area level (suc (length fields))) 0 AsBlock at 1 (λ i. n)
+laid_grows m mid m' t c t' here at code wanted area level fields l more few it n on st body fits =
     let size : length fields + 1 ≡ suc (length fields) = omega arith in
-    block_grown_on m mid m' t c t' k top areas s aim here at n code wanted area level fields on st body more few fits (relays m mid m' t c t' here at code (length fields) wanted area level l)
+    block_grown_on m mid m' t c t' it here at n code wanted area level fields on st body more few fits (relays m mid m' t c t' here at code (length fields) wanted area level l)
     (commits m mid m' t c t' here at code (length fields) wanted area level l) (subst (λ (i : ℕ). t' ≡ husked c (live (slot_of t area level)) i) size l.husk) (let e = l.enough in omega arith)
     (makes m mid m' t c t' here at code (length fields) wanted area level l (omega arith))
 
@@ -164,18 +164,18 @@ husked-extends {t} {c} {t'} {slot} {at} {words} class husk is e = subst (λ (u :
 
 module _ (m : Memory.Store) (t : Table) (of : Parts) (wanted : ℕ) (x : CanGrow m t of wanted) (few : wanted ≤ 2047) (head : Place) (is : IsHead m.words of.content head) (m1 : Memory.Store) (reads : StoresNothing m m1)
     (class : TableClass) (there : IsLiveIn t head.at class) (m2 : Memory.Store) (t2 : Table) (region : Option ℕ) (opens : Opens m1 t m2 t2 region class.area class.level) where
-  on1 : GroundInvariant m1 t x.map x.top x.areas x.objects x.aim
-  on1 = kept_on_same m m1 t x.map x.top x.areas x.objects x.aim x.kept reads
+  on1 : GroundInvariant m1 t x.it
+  on1 = kept_on_same m m1 t x.it x.kept reads
 
   -- on a swap error nothing more is stored
   pub grow_stays : (m3 : Memory.Store) → StoresNothing m2 m3 → WordsUnchanged m t m3 t2
-  grow_stays m3 stays = stays-faulted reads (opened_at_most m1 t x.map x.top x.areas x.objects x.aim on1 class.area class.level there.area_in there.level_in m2 t2 region opens m3 stays)
+  grow_stays m3 stays = stays-faulted reads (opened_at_most m1 t x.it on1 class.area class.level there.area_in there.level_in m2 t2 region opens m3 stays)
 
   faulted_live : (m3 : Memory.Store) → StoresNothing m2 m3 → LiveWordsUnchanged m t m3 t2
-  faulted_live m3 stays = live-then (live-read reads) (opened_live m1 t x.map x.top x.areas x.objects x.aim on1 class.area class.level there.area_in there.level_in m2 t2 region opens m3 stays)
+  faulted_live m3 stays = live-then (live-read reads) (opened_live m1 t x.it on1 class.area class.level there.area_in there.level_in m2 t2 region opens m3 stays)
 
   pub room_or_same : OpensOrStays t t2
-  room_or_same = opened_or_same m1 t x.map x.top x.areas x.objects x.aim on1 class.area class.level there.area_in there.level_in m2 t2 region opens
+  room_or_same = opened_or_same m1 t x.it on1 class.area class.level there.area_in there.level_in m2 t2 region opens
 
   pub faulted_preserves : (m3 : Memory.Store) → StoresNothing m2 m3 → PreservesScanned m t m3 t2
   faulted_preserves m3 stays = opened-preserves (faulted_live m3 stays) room_or_same
@@ -212,15 +212,15 @@ module _ (m : Memory.Store) (t : Table) (of : Parts) (wanted : ℕ) (x : CanGrow
 
   module _ (at : ℕ) (end : IsEnd t2 (slot_of t class.area class.level) at (grown_length head.length wanted + 1)) where
     end_here : IsEnd t2 (slot_of t2 class.area class.level) at (grown_length head.length wanted + 1)
-    end_here = end_there m1 t x.map x.top x.areas x.objects x.aim on1 class.area class.level there.area_in there.level_in m2 t2 region opens at (grown_length head.length wanted + 1) end
+    end_here = end_there m1 t x.it on1 class.area class.level there.area_in there.level_in m2 t2 region opens at (grown_length head.length wanted + 1) end
 
     pub wide_inside : at + grown_length head.length wanted + 1 ≤ length m2.words
     wide_inside =
-        let low = words_inside m1 t x.map x.top x.areas x.objects x.aim on1 class.area class.level there.area_in there.level_in m2 t2 region opens at (grown_length head.length wanted + 1) end in
+        let low = words_inside m1 t x.it on1 class.area class.level there.area_in there.level_in m2 t2 region opens at (grown_length head.length wanted + 1) end in
         omega arith
 
     pub wide_low : at < 2 ^ 28
-    wide_low = place_low m1 t x.map x.top x.areas x.objects x.aim on1 class.area class.level there.area_in there.level_in m2 t2 region opens at (grown_length head.length wanted + 1) end (omega arith)
+    wide_low = place_low m1 t x.it on1 class.area class.level there.area_in there.level_in m2 t2 region opens at (grown_length head.length wanted + 1) end (omega arith)
 
     pub wide_apart : (head.at + head.length + 1 ≤ at) ⊎ (at + grown_length head.length wanted + 1 ≤ head.at)
     wide_apart = go (live_apart t2 (slot_of t2 class.area class.level) at (grown_length head.length wanted + 1) head.at (head.length + 1) end_here (omega arith) words_there)
@@ -232,7 +232,7 @@ module _ (m : Memory.Store) (t : Table) (of : Parts) (wanted : ℕ) (x : CanGrow
     pub wide_allowed : (slot : ℕ) → IsEnd t2 slot at (grown_length head.length wanted + 1) → AllowsOrigin t2 slot (grown_length head.length wanted + 1) New
     wide_allowed slot e =
         let fits = wide_fits m t of wanted x few head is class there in
-        new_allowed m2 t2 x.map x.top x.areas x.objects x.aim (here_stays.kept x.map x.top x.areas x.objects x.aim x.kept) class.area class.level at (grown_length head.length wanted + 1) (area_low m t of wanted x few head is class there)
+        new_allowed m2 t2 x.it (here_stays.kept x.it x.kept) class.area class.level at (grown_length head.length wanted + 1) (area_low m t of wanted x few head is class there)
         (let a = there.level_in in let b = form.top in omega arith) end_here (grown_length head.length wanted + 1) (omega arith) slot e
 
     module _ (m3 : Memory.Store) (laid : LaysAnew m2 m3 head at (grown_length head.length wanted)) (c : Table)
@@ -278,28 +278,28 @@ module _ (m : Memory.Store) (t : Table) (of : Parts) (wanted : ℕ) (x : CanGrow
 
         -- the block has grown, whatever objects there are
         pub block_grows : GrowsBlock m t m3 t3 of.content wanted at
-        block_grows k top areas s aim n code level fields on value body level_is =
-            let named = grown_named m t of.content head is k top areas s aim on n value in
-            let same = grown_header m t of.content head is k top areas s aim on n value code fields body in
-            let area = grown_area m t of.content head is k top areas s aim on n value class there in
-            let at_level : level ≡ class.level = sym level_is ∙ grown_level m t of.content head is k top areas s aim on n value class there in
-            let on2 = here_stays.kept k top areas s aim on in
+        block_grows it n code level fields on value body level_is =
+            let named = grown_named m t of.content head is it on n value in
+            let same = grown_header m t of.content head is it on n value code fields body in
+            let area = grown_area m t of.content head is it on n value class there in
+            let at_level : level ≡ class.level = sym level_is ∙ grown_level m t of.content head is it on n value class there in
+            let on2 = here_stays.kept it on in
             let final = subst (λ (ws : List Parts). Final ws is.reference head.at) (sym words_same) is.final in
             let last = subst (λ (ws : List Parts). IsFinal ws head.at) (sym words_same) is.last in
-            let st = stands_there m2 t2 k top areas s aim on2 AsBlock is.reference n named head.at final last in
+            let st = stands_there m2 t2 it on2 AsBlock is.reference n named head.at final last in
             let more : length fields < wanted = (let low = fewer_fields m t of wanted x few head is in let e = same.1 in omega arith) in
             let by_code = subst (λ (i : ℕ). Laid m2 laid.copied m3 t2 c t3 head.at at i head.length wanted class.area class.level) same.0 whole in
             let by_size = subst (λ (i : ℕ). Laid m2 laid.copied m3 t2 c t3 head.at at code i wanted class.area class.level) same.1 by_code in
-            let fits = subst (λ (i : ℕ). account top s aim class.area + suc (grown_length i wanted) ≤ (rule_of areas class.area).quota) same.1 (fits_all m t of wanted x few head is class there k top areas s aim on) in
-            let after = laid_grows m2 laid.copied m3 t2 c t3 head.at at code wanted class.area class.level fields by_size more few k top areas s aim n on2 st body fits in
-            let there_now = subst (λ (a : ℕ). AfterOn m2 t2 m3 t3 k top areas s (with_grown s n (grown_block a code fields (grown_length (length fields) wanted)) a class.level (suc (length fields))) aim 0 AsBlock at 1 (λ i. n)) (sym area) after in
-            let result = subst (λ (l : ℕ). AfterOn m2 t2 m3 t3 k top areas s (with_grown s n (grown_block (object s n).area code fields (grown_length (length fields) wanted)) (object s n).area l (suc (length fields))) aim 0 AsBlock at 1 (λ i. n)) (sym at_level) there_now in
+            let fits = subst (λ (i : ℕ). account it.top it.store it.aim class.area + suc (grown_length i wanted) ≤ (rule_of it.areas class.area).quota) same.1 (fits_all m t of wanted x few head is class there it on) in
+            let after = laid_grows m2 laid.copied m3 t2 c t3 head.at at code wanted class.area class.level fields by_size more few it n on2 st body fits in
+            let there_now = subst (λ (a : ℕ). AfterOn m2 t2 m3 t3 it (with_grown it.store n (grown_block a code fields (grown_length (length fields) wanted)) a class.level (suc (length fields))) 0 AsBlock at 1 (λ i. n)) (sym area) after in
+            let result = subst (λ (l : ℕ). AfterOn m2 t2 m3 t3 it (with_grown it.store n (grown_block (object it.store n).area code fields (grown_length (length fields) wanted)) (object it.store n).area l (suc (length fields))) 0 AsBlock at 1 (λ i. n)) (sym at_level) there_now in
             record {
               map = result.map;
               kept = result.kept;
               refines = result.refines;
               there = ap (λ (a : ℕ). names_as AsBlock (result.map.role a)) (let e : at ≡ at + 0 = omega arith in e) ∙ result.there 0 (omega arith);
-              old = (let old = result.old in let was = here_stays.old k top areas s aim on in omega arith);
+              old = (let old = result.old in let was = here_stays.old it on in omega arith);
               placed = (
                   let a : t3.placed ≡ c.placed = ap (λ (u : Table). u.placed) husk in
                   let b : c.placed ≡ t2.placed + (grown_length head.length wanted + 1) = ap (λ (u : Table). u.placed) commit in

@@ -1,18 +1,18 @@
 -- What is at the address to which a reference to a block leads.
-use Rattle.std.proofs.Common.{◌≡◌, ℕ, suc, ◌+◌, ◌<◌, ◌≤◌, arith, refl, sym, ◌∙◌, ap, subst, List, length, Option, Some, None}
+use Rattle.std.proofs.Common.{◌≡◌, ℕ, suc, ◌+◌, ◌<◌, ◌≤◌, arith, refl, sym, ◌∙◌, ap, subst, length, Option, Some, None}
 use Rattle.store_word.specs.Words.{header_of as parts_of}
 use Rattle.store_word.specs.declared.word.Content.{Content}
 use Rattle.store_word.specs.declared.word.Content.TheVariants.{Null, Nil, List as ListAt, Struct as StructAt, Header, HeaderForward, GcForward, Fixnum}
 use Rattle.area_space.specs.lisp_graph.declared.object.Value.{Value}
 use Rattle.area_space.specs.lisp_graph.declared.object.Value.TheVariants as V
-use Rattle.area_space.specs.lisp_graph.declared.world.AreaRule.{AreaRule}
 use Rattle.mem_port.specs.Store as Memory
 use Rattle.area_space.specs.Table.{Table}
 use Rattle.obj_layout.specs.Forwards.{word_at, Final}
 use Rattle.obj_layout.specs.Shapes.{IsWhole, shape_from, word_count}
-use Rattle.transporter.specs.lisp_meaning.State.{Condemned, Store, object}
+use Rattle.transporter.specs.lisp_meaning.State.{object}
 use Rattle.transporter.specs.lisp_meaning.Roles.{AsBlock, Begins, Head, Kind, RoleMap, as_ref, header_of, names_as, value_of}
 use Rattle.transporter.specs.lisp_ground.GroundInvariant.{GroundInvariant}
+use Rattle.transporter.specs.lisp_meaning.Interpretation.{Interpretation}
 use Rattle.transporter.proofs.lisp_ground.words.FinalAddresses.{final_is_place, has_final, name_in_use, named_as_kind}
 use Rattle.transporter.proofs.lisp_ground.words.Shapes.{head_shape, head_whole}
 use Rattle.block_store.specs.declared.header.Head.{Head as Place}
@@ -59,25 +59,25 @@ header_content (HeaderForward at) code count e = absurd (let x : None ≡ Some (
 header_content (GcForward at) code count e = absurd (let x : None ≡ Some (code, count) = e in cc)
 header_content (Fixnum i) code count e = absurd (let x : None ≡ Some (code, count) = e in cc)
 
-module _ (m : Memory.Store) (t : Table) (k : RoleMap) (top : ℕ) (areas : List AreaRule) (s : Store) (aim : Condemned) (on : GroundInvariant m t k top areas s aim) (at n : ℕ) (named : names_as AsBlock (k.role at) ≡ Some n) where
+module _ (m : Memory.Store) (t : Table) (it : Interpretation) (on : GroundInvariant m t it) (at n : ℕ) (named : names_as AsBlock (it.map.role at) ≡ Some n) where
   -- the block begins at its place
-  pub head_role : k.role (k.at n) ≡ Head n
+  pub head_role : it.map.role (it.map.at n) ≡ Head n
   head_role =
-      subst (λ (x : Kind). Begins x (k.role (k.at n)) n) (named_as_kind m t k top areas s aim on AsBlock at n named)
-      (on.kept.roled.begins n (name_in_use m t k top areas s aim on AsBlock at n named))
+      subst (λ (x : Kind). Begins x (it.map.role (it.map.at n)) n) (named_as_kind m t it on AsBlock at n named)
+      (on.kept.roled.begins n (name_in_use m t it on AsBlock at n named))
 
   -- there is its header, with its code and the number of its fields
-  pub header_there : (to : ℕ) → Final m.words at to → (code : ℕ) × (count : ℕ) × ((word_at m.words to).content ≡ Header code count) × (header_of (object s n).body ≡ Some (code, count))
+  pub header_there : (to : ℕ) → Final m.words at to → (code : ℕ) × (count : ℕ) × ((word_at m.words to).content ≡ Header code count) × (header_of (object it.store n).body ≡ Some (code, count))
   header_there to final =
-      let h = head_shape m t k top areas s aim on (k.at n) n head_role in
-      let place = final_is_place m t k top areas s aim on AsBlock at n named to final in
+      let h = head_shape m t it on (it.map.at n) n head_role in
+      let place = final_is_place m t it on AsBlock at n named to final in
       (h.0, h.1, ap (λ (a : ℕ). (word_at m.words a).content) place ∙ h.3, h.4)
 
   -- all words of the block are in the memory
   pub block_inside : (to code count : ℕ) → Final m.words at to → (word_at m.words to).content ≡ Header code count → to + count < length m.words
   block_inside to code count final is =
-      let whole = head_whole m t k top areas s aim on (k.at n) n head_role in
-      let place = final_is_place m t k top areas s aim on AsBlock at n named to final in
+      let whole = head_whole m t it on (it.map.at n) n head_role in
+      let place = final_is_place m t it on AsBlock at n named to final in
       let there = subst (λ (a : ℕ). IsWhole m.words a) (sym place) whole in
       let few : to + suc count ≤ length m.words = subst (λ (c : Content). to + word_count (shape_from c (word_at m.words to).cdr) ≤ length m.words) is there in
       omega arith
@@ -85,21 +85,21 @@ module _ (m : Memory.Store) (t : Table) (k : RoleMap) (top : ℕ) (areas : List 
 -- a content with a value that refers to a block refers to one that can be found
 pub can_find : (m : Memory.Store) (t : Table) (content : Content) → HasMeaning m t content → CanFind m.words content
 can_find m t content x = record {
-  place = λ at is. has_final m t x.map x.top x.areas x.objects x.aim x.kept AsBlock at (value_named x.map content at x.value is x.value_is).0 (value_named x.map content at x.value is x.value_is).1;
-  header = λ at to is final. (let h = header_there m t x.map x.top x.areas x.objects x.aim x.kept at (value_named x.map content at x.value is x.value_is).0 (value_named x.map content at x.value is x.value_is).1 to final in (h.0, h.1, h.2));
-  inside = λ at to code count is final header. block_inside m t x.map x.top x.areas x.objects x.aim x.kept at (value_named x.map content at x.value is x.value_is).0 (value_named x.map content at x.value is x.value_is).1 to code count final header;
+  place = λ at is. has_final m t x.it x.kept AsBlock at (value_named x.it.map content at x.value is x.value_is).0 (value_named x.it.map content at x.value is x.value_is).1;
+  header = λ at to is final. (let h = header_there m t x.it x.kept at (value_named x.it.map content at x.value is x.value_is).0 (value_named x.it.map content at x.value is x.value_is).1 to final in (h.0, h.1, h.2));
+  inside = λ at to code count is final header. block_inside m t x.it x.kept at (value_named x.it.map content at x.value is x.value_is).0 (value_named x.it.map content at x.value is x.value_is).1 to code count final header;
 }
 
 -- what was found is what it refers to
-pub head_tells : (m : Memory.Store) (t : Table) (content : Content) (head : Place) → IsHead m.words content head → (k : RoleMap) (top : ℕ) (areas : List AreaRule) (s : Store) (aim : Condemned) (n : ℕ) → GroundInvariant m t k top areas s aim
-    → value_of k.role content ≡ Some (V.Ref n) → header_of (object s n).body ≡ Some (head.code, head.length)
-head_tells m t content head x k top areas s aim n on value =
-    let h = header_there m t k top areas s aim on x.reference n (ref_named k content x.reference n x.is value) head.at x.final in
+pub head_tells : (m : Memory.Store) (t : Table) (content : Content) (head : Place) → IsHead m.words content head → (it : Interpretation) (n : ℕ) → GroundInvariant m t it
+    → value_of it.map.role content ≡ Some (V.Ref n) → header_of (object it.store n).body ≡ Some (head.code, head.length)
+head_tells m t content head x it n on value =
+    let h = header_there m t it on x.reference n (ref_named it.map content x.reference n x.is value) head.at x.final in
     let e = same_header head.code head.length h.0 h.1 (sym x.header ∙ h.2) in
     h.3 ∙ sym (ap (λ (c : ℕ). Some (c, h.1)) e.0) ∙ sym (ap (λ (c : ℕ). Some (head.code, c)) e.1)
 
 pub tells_length : (m : Memory.Store) (t : Table) (content : Content) (head : Place) → IsHead m.words content head → TellsLength m t content head.length
-tells_length m t content head x k top areas s aim n on value = (head.code, head_tells m t content head x k top areas s aim n on value)
+tells_length m t content head x it n on value = (head.code, head_tells m t content head x it n on value)
 
 pub tells_code : (m : Memory.Store) (t : Table) (content : Content) (head : Place) → IsHead m.words content head → TellsCode m t content head.code
-tells_code m t content head x k top areas s aim n on value = (head.length, head_tells m t content head x k top areas s aim n on value)
+tells_code m t content head x it n on value = (head.length, head_tells m t content head x it n on value)

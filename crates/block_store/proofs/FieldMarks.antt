@@ -32,12 +32,12 @@ field_marks m n m' t content index at value x p reads w is stores reference to r
     same_reference a b e = cc
 
     meant : (n : ℕ) × (x.value ≡ V.Ref n)
-    meant = ref_value (names_as AsBlock (x.map.role p.is.reference)) x.value (ap (value_of x.map.role) (sym p.is.is) ∙ x.value_is)
+    meant = ref_value (names_as AsBlock (x.it.map.role p.is.reference)) x.value (ap (value_of x.it.map.role) (sym p.is.is) ∙ x.value_is)
 
     plain : IsForward (word_at n.words at) → ⊥
     plain f =
         let low = p.low in
         let place = p.place in
         let there : at ≡ p.head.at + suc index = omega arith in
-        words_plain m t content p.head p.is x.map x.top x.areas x.objects x.aim x.kept meant.0 (x.value_is ∙ ap (λ (v : Value). Some v) meant.1) (suc index) (omega arith)
+        words_plain m t content p.head p.is x.it x.kept meant.0 (x.value_is ∙ ap (λ (v : Value). Some v) meant.1) (suc index) (omega arith)
         (subst (λ (a : ℕ). IsForward (word_at m.words a)) there (subst (λ (ws : List Parts). IsForward (word_at ws at)) reads.words f))

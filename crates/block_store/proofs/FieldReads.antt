@@ -7,22 +7,22 @@ use Rattle.area_space.specs.lisp_graph.declared.object.Value.{Value}
 use Rattle.area_space.specs.lisp_graph.declared.object.Value.TheVariants as V
 use Rattle.area_space.specs.lisp_graph.declared.object.Body.{Body}
 use Rattle.area_space.specs.lisp_graph.declared.object.Body.TheVariants.{Cons, Block}
-use Rattle.area_space.specs.lisp_graph.declared.world.AreaRule.{AreaRule}
 use Rattle.area_space.specs.lisp_graph.Graph.{is_ref, value_at}
 use Rattle.mem_port.specs.Store.{Stores, StoresNothing}
 use Rattle.mem_port.specs.Store as Memory
 use Rattle.area_space.specs.Table.{Table, IsOld}
 use Rattle.obj_layout.specs.Forwards.{word_at, Final}
-use Rattle.transporter.specs.lisp_meaning.State.{Condemned, Store, object}
+use Rattle.transporter.specs.lisp_meaning.State.{object}
 use Rattle.transporter.specs.lisp_meaning.Sound.{is_kept}
-use Rattle.transporter.specs.lisp_meaning.Roles.{AsBlock, RoleMap, as_ref, header_of, names_as, value_of}
+use Rattle.transporter.specs.lisp_meaning.Roles.{AsBlock, as_ref, header_of, names_as, value_of}
 use Rattle.transporter.proofs.lisp_meaning.closure.ClosedSets.{field_inside, is_ref-same}
 use Rattle.transporter.specs.lisp_ground.After.{old_on}
 use Rattle.transporter.specs.lisp_ground.GroundInvariant.{GroundInvariant}
+use Rattle.transporter.specs.lisp_meaning.Interpretation.{Interpretation}
 use Rattle.transporter.proofs.lisp_ground.words.FinalAddresses.{final_is_place, name_in_use, one_final}
 use Rattle.transporter.proofs.lisp_ground.invariant.WordStores.{kept_on_same}
 use Rattle.transporter.specs.LiveWordsUnchanged.{IsLiveWord, LiveWordsUnchangedExcept}
-use Rattle.transporter.specs.Settling.{CanSettle, RefersToOld, IsKeptValue, IsSettleable, Settles, SettlesOn, readdressed, reference_of}
+use Rattle.transporter.specs.Settling.{CanSettle, RefersToOld, IsKeptValue, IsSettleable, Settles, readdressed, reference_of, SettlesAlways, RemainsRepresented}
 use Rattle.transporter.specs.Transports.{RepresentedByLaterMap}
 use Rattle.transporter.proofs.FetchedWords.{later-read, settles-read}
 use Rattle.transporter.proofs.TransportSequences.{moves-after_read, stored-writes, writes-moves}
@@ -38,15 +38,15 @@ use Rattle.block_store.proofs.FieldStores.{place_low}
 -- a word that can be read through has a value, and refers to a block that can be found
 pub read_can_find : (m : Memory.Store) (t : Table) (of : Parts) → IsReadable m t of → CanFind m.words of.content
 read_can_find m t of x =
-    can_find m t of.content (record { map = x.map; top = x.top; areas = x.areas; objects = x.objects; aim = x.aim; kept = x.can.kept; value = x.value; value_is = x.can.value_is })
+    can_find m t of.content (record { it = x.it; kept = x.can.kept; value = x.value; value_is = x.can.value_is })
 
 -- only reads were made
 pub reads_block : (m m1 : Memory.Store) (t : Table) (content : Content) → StoresNothing m m1 → KeepsBlock m t m1 t content
-reads_block m m1 t content stays k top areas registers s aim v can = later-read m m1 t k top areas s aim can.kept stays
+reads_block m m1 t content stays it registers v can = later-read m m1 t it can.kept stays
 
-later_after : (m m1 m2 : Memory.Store) (t t2 : Table) (k : RoleMap) (top : ℕ) (areas : List AreaRule) (s : Store) (aim : Condemned) → StoresNothing m m1 → RepresentedByLaterMap m1 t m2 t2 k top areas s aim → RepresentedByLaterMap m t m2 t2 k top areas s aim
-later_after m m1 m2 t t2 k top areas s aim stays x =
-    let same : old_on m1 t s aim k.at ≡ old_on m t s aim k.at = refl in
+later_after : (m m1 m2 : Memory.Store) (t t2 : Table) (it : Interpretation) → StoresNothing m m1 → RepresentedByLaterMap m1 t m2 t2 it → RepresentedByLaterMap m t m2 t2 it
+later_after m m1 m2 t t2 it stays x =
+    let same : old_on m1 t it.store it.aim it.map.at ≡ old_on m t it.store it.aim it.map.at = refl in
     record { map = x.map; kept = x.kept; refines = x.refines; work = (let w = x.work in omega arith) }
 
 -- the value of a reference to a block
@@ -61,92 +61,88 @@ is_block (Block c fields) code count e = (c, fields, refl)
 
 module _ (m : Memory.Store) (t : Table) (content : Content) (index at : ℕ) (p : IsFieldPlace m.words content index at) where
   -- what the content refers to is a block, by every map
-  refers : (k : RoleMap) (top : ℕ) (areas : List AreaRule) (s : Store) (aim : Condemned) (v : Value) → GroundInvariant m t k top areas s aim → value_of k.role content ≡ Some v
-      → (n : ℕ) × (code : ℕ) × (fields : List Value) × (v ≡ V.Ref n) × ((object s n).body ≡ Block code fields)
-  refers k top areas s aim v on value =
-      let n = ref_value (names_as AsBlock (k.role p.is.reference)) v (ap (value_of k.role) (sym p.is.is) ∙ value) in
-      let named = ref_named k content p.is.reference n.0 p.is.is (value ∙ ap Some n.1) in
-      let h = header_there m t k top areas s aim on p.is.reference n.0 named p.head.at p.is.final in
-      let b = is_block (object s n.0).body h.0 h.1 h.3 in
+  refers : (it : Interpretation) (v : Value) → GroundInvariant m t it → value_of it.map.role content ≡ Some v
+      → (n : ℕ) × (code : ℕ) × (fields : List Value) × (v ≡ V.Ref n) × ((object it.store n).body ≡ Block code fields)
+  refers it v on value =
+      let n = ref_value (names_as AsBlock (it.map.role p.is.reference)) v (ap (value_of it.map.role) (sym p.is.is) ∙ value) in
+      let named = ref_named it.map content p.is.reference n.0 p.is.is (value ∙ ap Some n.1) in
+      let h = header_there m t it on p.is.reference n.0 named p.head.at p.is.final in
+      let b = is_block (object it.store n.0).body h.0 h.1 h.3 in
       (n.0, b.0, b.1, n.1, b.2)
 
   module _ (m1 : Memory.Store) (stays : StoresNothing m m1) where
-    module _ (k : RoleMap) (top : ℕ) (areas : List AreaRule) (registers : List Value) (s : Store) (aim : Condemned) (n code : ℕ) (fields : List Value) (can : CanRead m t k top areas registers s aim content (V.Ref n)) (body : (object s n).body ≡ Block code fields) where
-      named : names_as AsBlock (k.role p.is.reference) ≡ Some n
-      named = ref_named k content p.is.reference n p.is.is can.value_is
+    module _ (it : Interpretation) (registers : List Value) (n code : ℕ) (fields : List Value) (can : CanRead m t it registers content (V.Ref n)) (body : (object it.store n).body ≡ Block code fields) where
+      named : names_as AsBlock (it.map.role p.is.reference) ≡ Some n
+      named = ref_named it.map content p.is.reference n p.is.is can.value_is
 
       low : index < length fields
-      low = place_low m t content index at p k top areas s aim n code fields can.kept can.value_is body
+      low = place_low m t content index at p it n code fields can.kept can.value_is body
 
-      place : suc (k.at n) + index ≡ at
-      place = ap (λ (a : ℕ). suc a + index) (sym (final_is_place m t k top areas s aim can.kept AsBlock p.is.reference n named p.head.at p.is.final)) ∙ sym p.place
+      place : suc (it.map.at n) + index ≡ at
+      place = ap (λ (a : ℕ). suc a + index) (sym (final_is_place m t it can.kept AsBlock p.is.reference n named p.head.at p.is.final)) ∙ sym p.place
 
-      on1 : GroundInvariant m1 t k top areas s aim
-      on1 = kept_on_same m m1 t k top areas s aim can.kept stays
+      on1 : GroundInvariant m1 t it
+      on1 = kept_on_same m m1 t it can.kept stays
 
-      value_there : value_of k.role (word_at m1.words at).content ≡ Some (value_at fields index)
-      value_there = ap (λ (a : ℕ). value_of k.role (word_at m1.words a).content) (sym place) ∙ field_value m1 t k top areas s aim on1 p.is.reference n named code fields body index low
+      value_there : value_of it.map.role (word_at m1.words at).content ≡ Some (value_at fields index)
+      value_there = ap (λ (a : ℕ). value_of it.map.role (word_at m1.words a).content) (sym place) ∙ field_value m1 t it on1 p.is.reference n named code fields body index low
 
       live_there : (IsOld t (p.is.reference / 4096) → ⊥) → IsLiveWord t at
-      live_there fresh = subst (λ (a : ℕ). IsLiveWord t a) place (field_live m t k top areas s aim can.kept p.is.reference n named code fields body index low fresh)
+      live_there fresh = subst (λ (a : ℕ). IsLiveWord t a) place (field_live m t it can.kept p.is.reference n named code fields body index low fresh)
 
       -- which a collection keeps
-      field_kept : (region : ℕ) → IsOld t region → IsKeptValue t registers s aim (value_at fields index)
+      field_kept : (region : ℕ) → IsOld t region → IsKeptValue t registers it.store it.aim (value_at fields index)
       field_kept region old =
           let x = can.survives region old in
-          let below = can.kept.kept.names n (name_in_use m t k top areas s aim can.kept AsBlock p.is.reference n named) in
+          let below = can.kept.kept.names n (name_in_use m t it can.kept AsBlock p.is.reference n named) in
           record {
             running = x.running;
             reaches = x.reaches;
-            name = λ i e. field_inside (record { registers = registers; objects = s.objects }) (is_kept s aim) x.reaches.closed n below (x.name n refl) code fields index body i (ap (is_ref i) e ∙ is_ref-same i);
+            name = λ i e. field_inside (record { registers = registers; objects = it.store.objects }) (is_kept it.store it.aim) x.reaches.closed n below (x.name n refl) code fields index body i (ap (is_ref i) e ∙ is_ref-same i);
           }
 
-      settles_there : CanSettle m1 t k top areas registers s aim (word_at m1.words at) (value_at fields index)
+      settles_there : CanSettle m1 t it registers (word_at m1.words at) (value_at fields index)
       settles_there = record { kept = on1; value = λ a ref. value_there; survives = λ old. field_kept (old.0 / 4096) old.2 }
 
     -- it was settled
     pub field_fetched : (m2 : Memory.Store) (t2 : Table) (new word : Parts)
-        → ((k : RoleMap) (top : ℕ) (areas : List AreaRule) (registers : List Value) (s : Store) (aim : Condemned) (v : Value) → CanSettle m1 t k top areas registers s aim (word_at m1.words at) v → SettlesOn m1 t m2 t2 k top areas s aim (word_at m1.words at) new)
+        → SettlesAlways m1 t m2 t2 (word_at m1.words at) new
         → word.content ≡ new.content → ReadsField m t m2 t2 content index word
-    field_fetched m2 t2 new word settles is k top areas registers s aim n code fields can body =
-        let x = settles k top areas registers s aim (value_at fields index) (settles_there k top areas registers s aim n code fields can body) in
-        let y = settles-read m m1 m2 t t2 k top areas s aim (word_at m1.words at) new stays x in
+    field_fetched m2 t2 new word settles is it registers n code fields can body =
+        let x = settles it registers (value_at fields index) (settles_there it registers n code fields can body) in
+        let y = settles-read m m1 m2 t t2 it (word_at m1.words at) new stays x in
         record {
           later = y.later;
-          value_is = ap (value_of y.later.map.role) is ∙ y.value (value_at fields index) (value_there k top areas registers s aim n code fields can body);
+          value_is = ap (value_of y.later.map.role) is ∙ y.value (value_at fields index) (value_there it registers n code fields can body);
         }
 
     -- or a swap error occurred
-    pub field_faulted : (m2 : Memory.Store) (t2 : Table) → ((k : RoleMap) (top : ℕ) (areas : List AreaRule) (registers : List Value) (s : Store) (aim : Condemned) (v : Value) → CanSettle m1 t k top areas registers s aim (word_at m1.words at) v → RepresentedByLaterMap m1 t m2 t2 k top areas s aim)
+    pub field_faulted : (m2 : Memory.Store) (t2 : Table) → RemainsRepresented m1 t m2 t2 (word_at m1.words at)
         → KeepsBlock m t m2 t2 content
-    field_faulted m2 t2 later k top areas registers s aim v can =
-        let r = refers k top areas s aim v can.kept can.value_is in
-        let there = subst (λ (x : Value). CanRead m t k top areas registers s aim content x) r.3 can in
-        later_after m m1 m2 t t2 k top areas s aim stays (later k top areas registers s aim (value_at r.2 index) (settles_there k top areas registers s aim r.0 r.1 r.2 there r.4))
+    field_faulted m2 t2 later it registers v can =
+        let r = refers it v can.kept can.value_is in
+        let there = subst (λ (x : Value). CanRead m t it registers content x) r.3 can in
+        later_after m m1 m2 t t2 it stays (later it registers (value_at r.2 index) (settles_there it registers r.0 r.1 r.2 there r.4))
 
 -- Before it is settled
 
 module _ (m m1 : Memory.Store) (t : Table) (of : Parts) (index at : ℕ) (x : IsReadable m t of) (p : IsFieldPlace m.words of.content index at) (stays : StoresNothing m m1) where
   pub field_is_live : IsLiveWord t at
   field_is_live =
-      let r = refers m t of.content index at p x.map x.top x.areas x.objects x.aim x.value x.can.kept x.can.value_is in
-      let there = subst (λ (v : Value). CanRead m t x.map x.top x.areas x.registers x.objects x.aim of.content v) r.3 x.can in
-      live_there m t of.content index at p m1 stays x.map x.top x.areas x.registers x.objects x.aim r.0 r.1 r.2 there r.4
+      let r = refers m t of.content index at p x.it x.value x.can.kept x.can.value_is in
+      let there = subst (λ (v : Value). CanRead m t x.it x.registers of.content v) r.3 x.can in
+      live_there m t of.content index at p m1 stays x.it x.registers r.0 r.1 r.2 there r.4
       (λ old. x.fresh (p.is.reference, ap reference_of p.is.is, old))
 
   pub field_is_settleable : IsSettleable m1 t (word_at m1.words at)
   field_is_settleable =
-      let r = refers m t of.content index at p x.map x.top x.areas x.objects x.aim x.value x.can.kept x.can.value_is in
-      let there = subst (λ (v : Value). CanRead m t x.map x.top x.areas x.registers x.objects x.aim of.content v) r.3 x.can in
+      let r = refers m t of.content index at p x.it x.value x.can.kept x.can.value_is in
+      let there = subst (λ (v : Value). CanRead m t x.it x.registers of.content v) r.3 x.can in
       record {
-        map = x.map;
-        top = x.top;
-        areas = x.areas;
+        it = x.it;
         registers = x.registers;
-        store = x.objects;
-        aim = x.aim;
         value = value_at r.2 index;
-        can = settles_there m t of.content index at p m1 stays x.map x.top x.areas x.registers x.objects x.aim r.0 r.1 r.2 there r.4;
+        can = settles_there m t of.content index at p m1 stays x.it x.registers r.0 r.1 r.2 there r.4;
       }
 
 -- After it
@@ -176,12 +172,12 @@ field_settled m m1 m2 t t2 content index at p new word stays settles written oth
 module _ (m : Memory.Store) (t : Table) (content : Content) (index at : ℕ) (written : Parts) (x : CanSet m t content written) (p : IsFieldPlace m.words content index at) (fresh : (a : ℕ) → reference_of content ≡ Some a → IsOld t (a / 4096) → ⊥) where
   written_live : IsLiveWord t at
   written_live =
-      let r = refers m t content index at p x.map x.top x.areas x.objects x.aim x.value x.kept x.value_is in
+      let r = refers m t content index at p x.it x.value x.kept x.value_is in
       let value = x.value_is ∙ ap (λ (v : Value). Some v) r.3 in
-      let named = ref_named x.map content p.is.reference r.0 p.is.is value in
-      let low = place_low m t content index at p x.map x.top x.areas x.objects x.aim r.0 r.1 r.2 x.kept value r.4 in
-      let place : suc (x.map.at r.0) + index ≡ at = ap (λ (a : ℕ). suc a + index) (sym (final_is_place m t x.map x.top x.areas x.objects x.aim x.kept AsBlock p.is.reference r.0 named p.head.at p.is.final)) ∙ sym p.place in
-      subst (λ (a : ℕ). IsLiveWord t a) place (field_live m t x.map x.top x.areas x.objects x.aim x.kept p.is.reference r.0 named r.1 r.2 r.4 index low (fresh p.is.reference (ap reference_of p.is.is)))
+      let named = ref_named x.it.map content p.is.reference r.0 p.is.is value in
+      let low = place_low m t content index at p x.it r.0 r.1 r.2 x.kept value r.4 in
+      let place : suc (x.it.map.at r.0) + index ≡ at = ap (λ (a : ℕ). suc a + index) (sym (final_is_place m t x.it x.kept AsBlock p.is.reference r.0 named p.head.at p.is.final)) ∙ sym p.place in
+      subst (λ (a : ℕ). IsLiveWord t a) place (field_live m t x.it x.kept p.is.reference r.0 named r.1 r.2 r.4 index low (fresh p.is.reference (ap reference_of p.is.is)))
 
   -- nothing moves
   pub field_moves : (n m' : Memory.Store) → StoresNothing m n → (old w : Parts) → slice_get n.words at ≡ Some old → w ≡ record written { cdr = old.cdr } → Stores n m' at w → MovesAtMost m t m' t 0

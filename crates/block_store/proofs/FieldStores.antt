@@ -6,15 +6,15 @@ use Rattle.store_word.specs.declared.word.Content.TheVariants.{Struct as StructA
 use Rattle.area_space.specs.lisp_graph.declared.object.Value.{Value}
 use Rattle.area_space.specs.lisp_graph.declared.object.Value.TheVariants as V
 use Rattle.area_space.specs.lisp_graph.declared.object.Body.TheVariants.{Block}
-use Rattle.area_space.specs.lisp_graph.declared.world.AreaRule.{AreaRule}
 use Rattle.mem_port.specs.Store.{Stores, StoresNothing, level_of_word}
 use Rattle.mem_port.specs.Store as Memory
 use Rattle.area_space.specs.Table.{Table}
 use Rattle.obj_layout.specs.Forwards.{word_at, Final, IsFinal}
 use Rattle.obj_layout.proofs.ForwardChains.{word_at-read}
-use Rattle.transporter.specs.lisp_meaning.State.{Condemned, Store, object}
-use Rattle.transporter.specs.lisp_meaning.Roles.{AsBlock, RoleMap, header_of, value_of}
+use Rattle.transporter.specs.lisp_meaning.State.{object}
+use Rattle.transporter.specs.lisp_meaning.Roles.{AsBlock, header_of, value_of}
 use Rattle.transporter.specs.lisp_ground.GroundInvariant.{GroundInvariant}
+use Rattle.transporter.specs.lisp_meaning.Interpretation.{Interpretation}
 use Rattle.transporter.specs.lisp_ground.After.{old_on}
 use Rattle.transporter.proofs.lisp_ground.words.FinalAddresses.{one_final, stands_there}
 use Rattle.transporter.proofs.lisp_ground.invariant.WordStores.{kept_on_same}
@@ -27,7 +27,7 @@ use Rattle.block_store.proofs.BlockReferences.{head_tells, ref_named, tells_leng
 
 -- a reference that can be written through has a value
 pub set_meaning : (m : Memory.Store) (t : Table) (content : Content) (written : Parts) → CanSet m t content written → HasMeaning m t content
-set_meaning m t content written x = record { map = x.map; top = x.top; areas = x.areas; objects = x.objects; aim = x.aim; kept = x.kept; value = x.value; value_is = x.value_is }
+set_meaning m t content written x = record { it = x.it; kept = x.kept; value = x.value; value_is = x.value_is }
 
 -- the number of fields, whether there is one of this index or not
 pub place_tells : (m : Memory.Store) (t : Table) (content : Content) (index at : ℕ) → IsFieldPlace m.words content index at → (count : ℕ) × TellsLength m t content count × (index < count)
@@ -37,11 +37,11 @@ pub lack_tells : (m : Memory.Store) (t : Table) (content : Content) (index count
 lack_tells m t content index count x = (subst (λ (c : ℕ). TellsLength m t content c) (sym x.count_is) (tells_length m t content x.head x.is), x.past)
 
 -- the index is that of a field of the object
-pub place_low : (m : Memory.Store) (t : Table) (content : Content) (index at : ℕ) → IsFieldPlace m.words content index at → (k : RoleMap) (top : ℕ) (areas : List AreaRule) (s : Store) (aim : Condemned) (n code : ℕ) (fields : List Value)
-    → GroundInvariant m t k top areas s aim → value_of k.role content ≡ Some (V.Ref n) → (object s n).body ≡ Block code fields → index < length fields
-place_low m t content index at p k top areas s aim n code fields on value body =
-    let tells = head_tells m t content p.head p.is k top areas s aim n on value in
-    let size = same_header_size (header_of (object s n).body) (p.head.code, p.head.length) (code, length fields) tells (ap header_of body) in
+pub place_low : (m : Memory.Store) (t : Table) (content : Content) (index at : ℕ) → IsFieldPlace m.words content index at → (it : Interpretation) (n code : ℕ) (fields : List Value)
+    → GroundInvariant m t it → value_of it.map.role content ≡ Some (V.Ref n) → (object it.store n).body ≡ Block code fields → index < length fields
+place_low m t content index at p it n code fields on value body =
+    let tells = head_tells m t content p.head p.is it n on value in
+    let size = same_header_size (header_of (object it.store n).body) (p.head.code, p.head.length) (code, length fields) tells (ap header_of body) in
     let low = p.low in
     omega arith
 
@@ -60,19 +60,19 @@ module _ (m n m' : Memory.Store) (t : Table) (content : Content) (index at : ℕ
   code_is = ap (λ (x : Parts). x.cdr) is ∙ ap (λ (x : Parts). x.cdr) (sym (word_at-read n.words n.words at old refl found))
 
   pub field_set : SetsField m t m' content index value.content
-  field_set k top areas s aim name code fields new on refers body value_is =
-      let named = ref_named k content p.is.reference name p.is.is refers in
-      let there = kept_on_same m n t k top areas s aim on reads in
-      let st = stands_there n t k top areas s aim there AsBlock p.is.reference name named p.head.at (subst (λ (ws : List Parts). Final ws p.is.reference p.head.at) (sym reads.words) p.is.final)
+  field_set it name code fields new on refers body value_is =
+      let named = ref_named it.map content p.is.reference name p.is.is refers in
+      let there = kept_on_same m n t it on reads in
+      let st = stands_there n t it there AsBlock p.is.reference name named p.head.at (subst (λ (ws : List Parts). Final ws p.is.reference p.head.at) (sym reads.words) p.is.final)
       (subst (λ (ws : List Parts). IsFinal ws p.head.at) (sym reads.words) p.is.last) in
-      let low = place_low m t content index at p k top areas s aim name code fields on refers body in
-      let after = field_stored_on n m' t k top areas s aim p.head.at name index code fields new there st body low (record {
+      let low = place_low m t content index at p it name code fields on refers body in
+      let after = field_stored_on n m' t it p.head.at name index code fields new there st body low (record {
         stored = w;
         stores = subst (λ (a : ℕ). Stores n m' a w) p.place stores;
-        value_is = ap (λ (x : Parts). value_of k.role x.content) is ∙ value_is;
+        value_is = ap (λ (x : Parts). value_of it.map.role x.content) is ∙ value_is;
         code = code_is ∙ ap (λ (a : ℕ). (word_at n.words a).cdr) p.place;
       }) in
-      let same : old_on n t s aim k.at ≡ old_on m t s aim k.at = refl in
+      let same : old_on n t it.store it.aim it.map.at ≡ old_on m t it.store it.aim it.map.at = refl in
       record { kept = after.kept; old = after.old ∙ same }
 
   pub field_written : WritesField m m' content index value
@@ -94,5 +94,5 @@ field_preserves m n m' t content index at value x p reads w is stores =
     let within = p.is.inside in
     let place = p.place in
     let size = ap length reads.words in
-    let fresh = fresh-value x.map.role t value.content x.new x.new_is x.young in
+    let fresh = fresh-value x.it.map.role t value.content x.new x.new_is x.young in
     preserves-then (read-preserves t reads) (stored-preserves t at w stores (omega arith) (subst (FreshOn t) (sym is) fresh))

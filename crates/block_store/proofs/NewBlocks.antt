@@ -71,36 +71,36 @@ words_block m m2 t t2 k at area level code count end inside w commit sound = rec
 
 module _ (m : Memory.Store) (t : Table) (area level count : ℕ) (can : CanMake m t area level count) where
   pub area_inside : area < areas_of t
-  area_inside = let a = areas_agree m t can.map can.top can.areas can.objects can.aim can.kept in let b = can.quota.area_in in omega arith
+  area_inside = let a = areas_agree m t can.it can.kept in let b = can.quota.area_in in omega arith
 
   pub level_inside : level < levels_of t
-  level_inside = let a = levels_agree m t can.map can.top can.areas can.objects can.aim can.kept in let b = can.quota.level_in in omega arith
+  level_inside = let a = levels_agree m t can.it can.kept in let b = can.quota.level_in in omega arith
 
   pub room_for_block : words_of_area t area + (count + 1) ≤ 2 * quota_of t area
   room_for_block =
-      let room = new_room m t can.map can.top can.areas can.objects can.aim can.kept area (suc count) (suc count) can.quota.area_in (omega arith) can.quota.fits in
+      let room = new_room m t can.it can.kept area (suc count) (suc count) can.quota.area_in (omega arith) can.quota.fits in
       omega arith
 
   module _ (m1 : Memory.Store) (t1 : Table) (region : Option ℕ) (opens : Opens m t m1 t1 region area level) (at : ℕ) (end : IsEnd t1 (slot_of t area level) at (count + 1)) where
     there : IsEnd t1 (slot_of t1 area level) at (count + 1)
-    there = end_there m t can.map can.top can.areas can.objects can.aim can.kept area level area_inside level_inside m1 t1 region opens at (count + 1) end
+    there = end_there m t can.it can.kept area level area_inside level_inside m1 t1 region opens at (count + 1) end
 
     pub block_inside : at + (count + 1) ≤ length m1.words
-    block_inside = words_inside m t can.map can.top can.areas can.objects can.aim can.kept area level area_inside level_inside m1 t1 region opens at (count + 1) end
+    block_inside = words_inside m t can.it can.kept area level area_inside level_inside m1 t1 region opens at (count + 1) end
 
     pub block_allowed : (slot : ℕ) → IsEnd t1 slot at (count + 1) → AllowsOrigin t1 slot (count + 1) New
     block_allowed slot e =
-        let after = place_kept_on m m1 t t1 region area level can.map can.top can.areas can.objects can.aim can.kept area_inside level_inside opens in
-        let a = levels_agree m1 t1 can.map can.top can.areas can.objects can.aim after in
+        let after = place_kept_on m m1 t t1 region area level can.it can.kept area_inside level_inside opens in
+        let a = levels_agree m1 t1 can.it after in
         let b = can.quota.level_in in
         let fits = can.quota.fits in
-        new_allowed m1 t1 can.map can.top can.areas can.objects can.aim after area level at (count + 1) can.quota.area_in (omega arith) there (count + 1) (omega arith) slot e
+        new_allowed m1 t1 can.it after area level at (count + 1) can.quota.area_in (omega arith) there (count + 1) (omega arith) slot e
 
     module _ (m2 : Memory.Store) (t2 : Table) (code : ℕ) (w : Writes m1 m2 at (count + 1) (block_word code count))
         (commit : t2 ≡ record (committed t1 (slot_of t1 area level) at (count + 1) (count + 1) New) { pages = t2.pages }) (pages : Adds (page_list t1) (page_list t2) (at / 256) ((at + (count + 1) - 1) / 256)) (sound : IsTable t2) where
       pub block_live : LiveWordsUnchanged m t m2 t2
       block_live =
-          live-then (opened_live m t can.map can.top can.areas can.objects can.aim can.kept area level area_inside level_inside m1 t1 region opens m1 (record { words = refl; levels = refl; top = refl; unmarked = λ page e. e }))
+          live-then (opened_live m t can.it can.kept area level area_inside level_inside m1 t1 region opens m1 (record { words = refl; levels = refl; top = refl; unmarked = λ page e. e }))
           (live_laid m1 m2 t1 t2 opens.sound area level at (count + 1) (block_word code count) there w commit pages)
 
       pub block_marks : MarksFollow m t m2 t2
@@ -111,24 +111,24 @@ module _ (m : Memory.Store) (t : Table) (area level count : ℕ) (can : CanMake 
       pub block_placed : PlacesNew t t2 area level at (count + 1) (count + 1)
       block_placed = record {
         room = t1;
-        opens = opened_or_same m t can.map can.top can.areas can.objects can.aim can.kept area level area_inside level_inside m1 t1 region opens;
+        opens = opened_or_same m t can.it can.kept area level area_inside level_inside m1 t1 region opens;
         end = there;
         commit = commit;
         pages = pages;
       }
 
       pub block_made : MakesBlock m t m2 t2 area level code count at
-      block_made k top areas s aim on quota =
-          let stays = opened_stays m t can.map can.top can.areas can.objects can.aim can.kept area level area_inside level_inside m1 t1 region opens m1 (record { words = refl; levels = refl; top = refl; unmarked = λ page e. e }) in
+      block_made it on quota =
+          let stays = opened_stays m t can.it can.kept area level area_inside level_inside m1 t1 region opens m1 (record { words = refl; levels = refl; top = refl; unmarked = λ page e. e }) in
           let same = nils_length count in
-          let fits = subst (λ (c : ℕ). account top s aim area + suc c ≤ (rule_of areas area).quota) (sym same) quota.fits in
-          let made = block_made_on m1 m2 t1 t2 k top areas s aim at area level code (nils count) (stays.kept k top areas s aim on) quota.area_in quota.level_in fits
-          (words_block m1 m2 t1 t2 k at area level code count there block_inside w commit sound) in
-          let after = subst (λ (c : ℕ). AfterOn m1 t1 m2 t2 k top areas s (with_made s (record { area = area; charge = suc c; body = Block code (nils count) } ∷ []) level) aim 0 AsBlock at 1 (λ i. length s.objects)) same made in
+          let fits = subst (λ (c : ℕ). account it.top it.store it.aim area + suc c ≤ (rule_of it.areas area).quota) (sym same) quota.fits in
+          let made = block_made_on m1 m2 t1 t2 it at area level code (nils count) (stays.kept it on) quota.area_in quota.level_in fits
+          (words_block m1 m2 t1 t2 it.map at area level code count there block_inside w commit sound) in
+          let after = subst (λ (c : ℕ). AfterOn m1 t1 m2 t2 it (with_made it.store (record { area = area; charge = suc c; body = Block code (nils count) } ∷ []) level) 0 AsBlock at 1 (λ i. length it.store.objects)) same made in
           record {
             map = after.map;
             kept = after.kept;
             refines = after.refines;
             there = ap (λ (a : ℕ). names_as AsBlock (after.map.role a)) (let e : at ≡ at + 0 = omega arith in e) ∙ after.there 0 (omega arith);
-            old = (let old = after.old in let was = stays.old k top areas s aim on in omega arith);
+            old = (let old = after.old in let was = stays.old it on in omega arith);
           }

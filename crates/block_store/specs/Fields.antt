@@ -6,15 +6,15 @@ use Rattle.store_word.specs.declared.word.Content.TheVariants.{Struct as StructA
 use Rattle.area_space.specs.lisp_graph.declared.object.Value.{Value}
 use Rattle.area_space.specs.lisp_graph.declared.object.Value.TheVariants as V
 use Rattle.area_space.specs.lisp_graph.declared.object.Body.TheVariants.{Block}
-use Rattle.area_space.specs.lisp_graph.declared.world.AreaRule.{AreaRule}
 use Rattle.area_space.specs.lisp_graph.Graph.{value_at}
 use Rattle.mem_port.specs.Store as Memory
 use Rattle.area_space.specs.Table.{Table}
 use Rattle.obj_layout.specs.Forwards.{word_at, Final}
-use Rattle.transporter.specs.lisp_meaning.State.{Condemned, Store, object}
+use Rattle.transporter.specs.lisp_meaning.State.{object}
 use Rattle.transporter.specs.lisp_meaning.Changes.{put_body}
-use Rattle.transporter.specs.lisp_meaning.Roles.{RoleMap, value_of}
+use Rattle.transporter.specs.lisp_meaning.Roles.{value_of}
 use Rattle.transporter.specs.lisp_ground.GroundInvariant.{GroundInvariant}
+use Rattle.transporter.specs.lisp_meaning.Interpretation.{Interpretation}
 use Rattle.transporter.specs.lisp_ground.After.{AfterStore}
 use Rattle.transporter.specs.Marking.{MarksFollowBut}
 use Rattle.transporter.specs.Settled.{MeansOn}
@@ -44,24 +44,20 @@ pub record LacksField (words : List Parts) (content : Content) (index count : �
 
 -- the ground represents some objects, of which the reference has a value, and so has the word that is to be written, which has no old address
 pub record CanSet (m : Memory.Store) (t : Table) (content : Content) (written : Parts) : Type 0 where
-  pub map : RoleMap
-  pub top : ℕ
-  pub areas : List AreaRule
-  pub objects : Store
-  pub aim : Condemned
-  pub kept : GroundInvariant m t map top areas objects aim
+  pub it : Interpretation
+  pub kept : GroundInvariant m t it
   pub value : Value
-  pub value_is : value_of map.role content ≡ Some value
+  pub value_is : value_of it.map.role content ≡ Some value
   pub new : Value
-  pub new_is : value_of map.role written.content ≡ Some new
+  pub new_is : value_of it.map.role written.content ≡ Some new
   pub young : RefersToOld t written → ⊥
 
 -- whatever objects the ground represented, it represents them by the same map, with the value of what was written in the field of this index. (Six parameters: the memory before and after, the table, which stays the same, and a block, an index and a content, which vary independently.)
 abbrev pub SetsField : Memory.Store → Table → Memory.Store → Content → ℕ → Content → Type 0
 SetsField m t m' content index written =
-    (k : RoleMap) (top : ℕ) (areas : List AreaRule) (s : Store) (aim : Condemned) (n code : ℕ) (fields : List Value) (new : Value)
-    → GroundInvariant m t k top areas s aim → value_of k.role content ≡ Some (V.Ref n) → (object s n).body ≡ Block code fields → value_of k.role written ≡ Some new
-    → AfterStore m t m' k top areas s (put_body s n (Block code (slice_set fields index new))) aim
+    (it : Interpretation) (n code : ℕ) (fields : List Value) (new : Value)
+    → GroundInvariant m t it → value_of it.map.role content ≡ Some (V.Ref n) → (object it.store n).body ≡ Block code fields → value_of it.map.role written ≡ Some new
+    → AfterStore m t m' it (put_body it.store n (Block code (slice_set fields index new)))
 
 -- the word is stored in the field of this index, with the cdr code that was there, and no other word is
 abbrev pub WritesField : Memory.Store → Memory.Store → Content → ℕ → Parts → Type 0
@@ -78,11 +74,11 @@ MarksField m t m' t' content index = (at to : ℕ) → content ≡ StructAt at �
 -- whatever objects the ground represented, it represents them, and the word means the field of this index. (Seven parameters: memory and table, each before and after, a field as its block and index, and the word that was read.)
 abbrev pub ReadsField : Memory.Store → Table → Memory.Store → Table → Content → ℕ → Parts → Type 0
 ReadsField m t m' t' content index word =
-    (k : RoleMap) (top : ℕ) (areas : List AreaRule) (registers : List Value) (s : Store) (aim : Condemned) (n code : ℕ) (fields : List Value)
-    → CanRead m t k top areas registers s aim content (V.Ref n) → (object s n).body ≡ Block code fields → MeansOn m t m' t' k top areas s aim word (value_at fields index)
+    (it : Interpretation) (registers : List Value) (n code : ℕ) (fields : List Value)
+    → CanRead m t it registers content (V.Ref n) → (object it.store n).body ≡ Block code fields → MeansOn m t m' t' it word (value_at fields index)
 
 -- whatever objects the ground represented, of which the content had a value, it represents them by a later map
 abbrev pub KeepsBlock : Memory.Store → Table → Memory.Store → Table → Content → Type 0
 KeepsBlock m t m' t' content =
-    (k : RoleMap) (top : ℕ) (areas : List AreaRule) (registers : List Value) (s : Store) (aim : Condemned) (v : Value)
-    → CanRead m t k top areas registers s aim content v → RepresentedByLaterMap m t m' t' k top areas s aim
+    (it : Interpretation) (registers : List Value) (v : Value)
+    → CanRead m t it registers content v → RepresentedByLaterMap m t m' t' it

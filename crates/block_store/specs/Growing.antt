@@ -8,20 +8,20 @@ use Rattle.store_word.specs.declared.sizes.TheConstants.{REGION_WORDS}
 use Rattle.area_space.specs.lisp_graph.declared.object.Value.{Value}
 use Rattle.area_space.specs.lisp_graph.declared.object.Value.TheVariants as V
 use Rattle.area_space.specs.lisp_graph.declared.object.Body.TheVariants.{Block}
-use Rattle.area_space.specs.lisp_graph.declared.world.AreaRule.{AreaRule}
 use Rattle.area_space.specs.lisp_graph.Effect.{grown_block, grown_length}
 use Rattle.mem_port.specs.Store as Memory
 use Rattle.area_space.specs.Table.{Table, areas_of, chain, live, quota_of, slot_of}
 use Rattle.area_space.specs.Charges.{husked}
 use Rattle.area_space.specs.Accounts.{account_of}
 use Rattle.obj_layout.specs.Forwards.{word_at}
-use Rattle.transporter.specs.lisp_meaning.State.{Condemned, Store, object, rule_of}
+use Rattle.transporter.specs.lisp_meaning.State.{Store, object, rule_of}
 use Rattle.transporter.specs.lisp_meaning.Charges.{account}
 use Rattle.transporter.specs.lisp_meaning.Changes.{with_grown}
 use Rattle.transporter.specs.lisp_meaning.Image.{region}
 use Rattle.transporter.specs.lisp_meaning.Roles.{AsBlock, Kind, RoleMap, Refines, names_as, value_of}
 use Rattle.transporter.specs.lisp_ground.Image.{ground_image}
 use Rattle.transporter.specs.lisp_ground.GroundInvariant.{GroundInvariant}
+use Rattle.transporter.specs.lisp_meaning.Interpretation.{Interpretation}
 use Rattle.transporter.specs.lisp_ground.After.{old_on}
 use Rattle.transporter.specs.lisp_ground.Writes.{Within}
 use Rattle.transporter.specs.Making.{PlacesNew}
@@ -81,34 +81,30 @@ pub record PlacesGrown (m : Memory.Store) (t t' : Table) (here at wanted : ℕ) 
 
 -- the ground represents some objects, of which the word has a value; if that refers to a block, it isn't old, has fewer fields than requested, and its new charge fits the quota of its area
 pub record CanGrow (m : Memory.Store) (t : Table) (of : Parts) (wanted : ℕ) : Type 0 where
-  pub map : RoleMap
-  pub top : ℕ
-  pub areas : List AreaRule
-  pub objects : Store
-  pub aim : Condemned
-  pub kept : GroundInvariant m t map top areas objects aim
+  pub it : Interpretation
+  pub kept : GroundInvariant m t it
   pub value : Value
-  pub value_is : value_of map.role of.content ≡ Some value
+  pub value_is : value_of it.map.role of.content ≡ Some value
   pub young : RefersToOld t of → ⊥
-  pub fewer : (n code : ℕ) (fields : List Value) → value ≡ V.Ref n → (object objects n).body ≡ Block code fields → length fields < wanted
-  pub quota : (n code : ℕ) (fields : List Value) → value ≡ V.Ref n → (object objects n).body ≡ Block code fields
-      → account top objects aim (object objects n).area + suc (grown_length (length fields) wanted) ≤ (rule_of areas (object objects n).area).quota
+  pub fewer : (n code : ℕ) (fields : List Value) → value ≡ V.Ref n → (object it.store n).body ≡ Block code fields → length fields < wanted
+  pub quota : (n code : ℕ) (fields : List Value) → value ≡ V.Ref n → (object it.store n).body ≡ Block code fields
+      → account it.top it.store it.aim (object it.store n).area + suc (grown_length (length fields) wanted) ≤ (rule_of it.areas (object it.store n).area).quota
 
 -- The ground represents these objects by a later map, under which what meant a name still means it, and a reference of this kind to an address means a name. The charges in old regions are the same, and `words` words were placed.
-pub record LaidOn (m : Memory.Store) (t : Table) (m' : Memory.Store) (t' : Table) (k : RoleMap) (top : ℕ) (areas : List AreaRule) (s s' : Store) (aim : Condemned) (kind : Kind) (at n words : ℕ) : Type 0 where
+pub record LaidOn (m : Memory.Store) (t : Table) (m' : Memory.Store) (t' : Table) (it : Interpretation) (s' : Store) (kind : Kind) (at n words : ℕ) : Type 0 where
   pub map : RoleMap
-  pub kept : GroundInvariant m' t' map top areas s' aim
-  pub refines : Refines k.role map.role
+  pub kept : GroundInvariant m' t' (record it { map = map; store = s' })
+  pub refines : Refines it.map.role map.role
   pub there : names_as kind (map.role at) ≡ Some n
-  pub old : old_on m' t' s' aim map.at ≡ old_on m t s aim k.at
+  pub old : old_on m' t' s' it.aim map.at ≡ old_on m t it.store it.aim it.map.at
   pub placed : t'.placed ≡ t.placed + words
 
 -- a block grew: whatever objects the ground represented, it represents them with the wider block at an address, and with the husk of the old one in its class. (Seven parameters: memory and table, each before and after, the block, the number of fields that is wanted, and the new address.)
 abbrev pub GrowsBlock : Memory.Store → Table → Memory.Store → Table → Content → ℕ → ℕ → Type 0
 GrowsBlock m t m' t' content wanted at =
-    (k : RoleMap) (top : ℕ) (areas : List AreaRule) (s : Store) (aim : Condemned) (n code level : ℕ) (fields : List Value)
-    → GroundInvariant m t k top areas s aim → value_of k.role content ≡ Some (V.Ref n) → (object s n).body ≡ Block code fields → (region (ground_image m t) (k.at n)).level ≡ level
-    → LaidOn m t m' t' k top areas s (with_grown s n (grown_block (object s n).area code fields (grown_length (length fields) wanted)) (object s n).area level (suc (length fields))) aim AsBlock at n (suc (grown_length (length fields) wanted))
+    (it : Interpretation) (n code level : ℕ) (fields : List Value)
+    → GroundInvariant m t it → value_of it.map.role content ≡ Some (V.Ref n) → (object it.store n).body ≡ Block code fields → (region (ground_image m t) (it.map.at n)).level ≡ level
+    → LaidOn m t m' t' it (with_grown it.store n (grown_block (object it.store n).area code fields (grown_length (length fields) wanted)) (object it.store n).area level (suc (length fields))) AsBlock at n (suc (grown_length (length fields) wanted))
 
 -- the block to which the content refers has fewer fields than requested, and its new charge fits the quota of its area
 pub record GrowsWithin (m : Memory.Store) (t : Table) (content : Content) (wanted : ℕ) : Type 0 where

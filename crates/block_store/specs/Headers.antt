@@ -6,14 +6,14 @@ use Rattle.store_word.specs.declared.word.Content.TheVariants.{Struct as StructA
 use Rattle.store_word.specs.declared.sizes.TheConstants.{REGION_WORDS}
 use Rattle.area_space.specs.lisp_graph.declared.object.Value.{Value}
 use Rattle.area_space.specs.lisp_graph.declared.object.Value.TheVariants as V
-use Rattle.area_space.specs.lisp_graph.declared.world.AreaRule.{AreaRule}
 use Rattle.mem_port.specs.Store as Memory
 use Rattle.area_space.specs.declared.classes.Class.{Class}
 use Rattle.area_space.specs.Table.{Table, areas_of, levels_of, live, chain, slot_of}
 use Rattle.obj_layout.specs.Forwards.{word_at, Final, IsFinal}
-use Rattle.transporter.specs.lisp_meaning.State.{Condemned, Store, object}
-use Rattle.transporter.specs.lisp_meaning.Roles.{RoleMap, header_of, value_of}
+use Rattle.transporter.specs.lisp_meaning.State.{object}
+use Rattle.transporter.specs.lisp_meaning.Roles.{header_of, value_of}
 use Rattle.transporter.specs.lisp_ground.GroundInvariant.{GroundInvariant}
+use Rattle.transporter.specs.lisp_meaning.Interpretation.{Interpretation}
 use Rattle.block_store.specs.declared.header.Head.{Head}
 
 -- Words
@@ -45,28 +45,24 @@ pub record IsLiveIn (t : Table) (at : ℕ) (class : Class) : Type 0 where
 
 -- the ground represents some objects, of which the content has a value
 pub record HasMeaning (m : Memory.Store) (t : Table) (content : Content) : Type 0 where
-  pub map : RoleMap
-  pub top : ℕ
-  pub areas : List AreaRule
-  pub objects : Store
-  pub aim : Condemned
-  pub kept : GroundInvariant m t map top areas objects aim
+  pub it : Interpretation
+  pub kept : GroundInvariant m t it
   pub value : Value
-  pub value_is : value_of map.role content ≡ Some value
+  pub value_is : value_of it.map.role content ≡ Some value
 
 -- whatever objects the ground represents, the one to which the content refers is a block of `count` fields
 abbrev pub TellsLength : Memory.Store → Table → Content → ℕ → Type 0
 TellsLength m t content count =
-    (k : RoleMap) (top : ℕ) (areas : List AreaRule) (s : Store) (aim : Condemned) (n : ℕ) → GroundInvariant m t k top areas s aim → value_of k.role content ≡ Some (V.Ref n)
-    → (code : ℕ) × (header_of (object s n).body ≡ Some (code, count))
+    (it : Interpretation) (n : ℕ) → GroundInvariant m t it → value_of it.map.role content ≡ Some (V.Ref n)
+    → (code : ℕ) × (header_of (object it.store n).body ≡ Some (code, count))
 
 -- or a block of this code
 abbrev pub TellsCode : Memory.Store → Table → Content → ℕ → Type 0
 TellsCode m t content code =
-    (k : RoleMap) (top : ℕ) (areas : List AreaRule) (s : Store) (aim : Condemned) (n : ℕ) → GroundInvariant m t k top areas s aim → value_of k.role content ≡ Some (V.Ref n)
-    → (count : ℕ) × (header_of (object s n).body ≡ Some (code, count))
+    (it : Interpretation) (n : ℕ) → GroundInvariant m t it → value_of it.map.role content ≡ Some (V.Ref n)
+    → (count : ℕ) × (header_of (object it.store n).body ≡ Some (code, count))
 
 -- or a block in this area
 abbrev pub TellsArea : Memory.Store → Table → Content → ℕ → Type 0
 TellsArea m t content area =
-    (k : RoleMap) (top : ℕ) (areas : List AreaRule) (s : Store) (aim : Condemned) (n : ℕ) → GroundInvariant m t k top areas s aim → value_of k.role content ≡ Some (V.Ref n) → (object s n).area ≡ area
+    (it : Interpretation) (n : ℕ) → GroundInvariant m t it → value_of it.map.role content ≡ Some (V.Ref n) → (object it.store n).area ≡ area

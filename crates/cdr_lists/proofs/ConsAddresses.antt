@@ -6,14 +6,14 @@ use Rattle.store_word.specs.declared.word.Content.TheVariants.{List as ListAt}
 use Rattle.lisp_graph.specs.declared.object.Value.{Value}
 use Rattle.lisp_graph.specs.declared.object.Value.TheVariants as V
 use Rattle.lisp_graph.specs.declared.object.Body.TheVariants.{Cons}
-use Rattle.lisp_graph.specs.declared.world.AreaRule.{AreaRule}
 use Rattle.mem_port.specs.Store as Memory
 use Rattle.area_space.specs.Table.{Table, IsOld}
-use Rattle.transporter.specs.lisp_meaning.State.{Condemned, Store, object}
+use Rattle.transporter.specs.lisp_meaning.State.{object}
 use Rattle.transporter.specs.lisp_meaning.Changes.{put_body}
-use Rattle.transporter.specs.lisp_meaning.Roles.{AsCons, RoleMap, as_ref, names_as, value_of}
+use Rattle.transporter.specs.lisp_meaning.Roles.{AsCons, as_ref, names_as, value_of}
 use Rattle.transporter.proofs.lisp_ground.words.References.{references_lead}
 use Rattle.transporter.specs.lisp_ground.GroundInvariant.{GroundInvariant}
+use Rattle.transporter.specs.lisp_meaning.Interpretation.{Interpretation}
 use Rattle.transporter.specs.Settled.{MeansOn}
 use Rattle.transporter.specs.Settling.{RefersToOld, IsKeptValue, reference_of}
 use Rattle.transporter.specs.Transports.{RepresentedByLaterMap}
@@ -22,64 +22,56 @@ use Rattle.cdr_lists.specs.Parts.{CanSet, SetOn, SetsCar, SetsCdr}
 use Rattle.cdr_lists.specs.Words.{plain}
 
 -- the ground represents some objects, of which a reference to this address means a cons; if a region is old, the collection that runs keeps this cons
-pub record CanReadAt (m : Memory.Store) (t : Table) (k : RoleMap) (top : ℕ) (areas : List AreaRule) (registers : List Value) (s : Store) (aim : Condemned) (at n : ℕ) : Type 0 where
-  pub kept : GroundInvariant m t k top areas s aim
-  pub named : names_as AsCons (k.role at) ≡ Some n
-  pub survives : (region : ℕ) → IsOld t region → IsKeptValue t registers s aim (V.Ref n)
+pub record CanReadAt (m : Memory.Store) (t : Table) (it : Interpretation) (registers : List Value) (at n : ℕ) : Type 0 where
+  pub kept : GroundInvariant m t it
+  pub named : names_as AsCons (it.map.role at) ≡ Some n
+  pub survives : (region : ℕ) → IsOld t region → IsKeptValue t registers it.store it.aim (V.Ref n)
 
 -- the same for some map, and the address isn't old
 pub record IsReadableAt (m : Memory.Store) (t : Table) (at : ℕ) : Type 0 where
-  pub map : RoleMap
-  pub top : ℕ
-  pub areas : List AreaRule
+  pub it : Interpretation
   pub registers : List Value
-  pub objects : Store
-  pub aim : Condemned
   pub name : ℕ
-  pub can : CanReadAt m t map top areas registers objects aim at name
+  pub can : CanReadAt m t it registers at name
   pub fresh : IsOld t (at / 4096) → ⊥
 
 -- a part of that cons can become the value of a word
 pub record CanSetAt (m : Memory.Store) (t : Table) (at : ℕ) (word : Parts) : Type 0 where
-  pub map : RoleMap
-  pub top : ℕ
-  pub areas : List AreaRule
+  pub it : Interpretation
   pub registers : List Value
-  pub objects : Store
-  pub aim : Condemned
   pub name : ℕ
-  pub can : CanReadAt m t map top areas registers objects aim at name
+  pub can : CanReadAt m t it registers at name
   pub fresh : IsOld t (at / 4096) → ⊥
   pub value : Value
-  pub value_is : value_of map.role word.content ≡ Some value
+  pub value_is : value_of it.map.role word.content ≡ Some value
   pub young : RefersToOld t word → ⊥
 
 abbrev pub ReadsCarAt : Memory.Store → Table → Memory.Store → Table → ℕ → Parts → Type 0
 ReadsCarAt m t m' t' at word =
-    (k : RoleMap) (top : ℕ) (areas : List AreaRule) (registers : List Value) (s : Store) (aim : Condemned) (n : ℕ) (car cdr : Value)
-    → CanReadAt m t k top areas registers s aim at n → (object s n).body ≡ Cons car cdr → MeansOn m t m' t' k top areas s aim word car
+    (it : Interpretation) (registers : List Value) (n : ℕ) (car cdr : Value)
+    → CanReadAt m t it registers at n → (object it.store n).body ≡ Cons car cdr → MeansOn m t m' t' it word car
 
 abbrev pub ReadsCdrAt : Memory.Store → Table → Memory.Store → Table → ℕ → Parts → Type 0
 ReadsCdrAt m t m' t' at word =
-    (k : RoleMap) (top : ℕ) (areas : List AreaRule) (registers : List Value) (s : Store) (aim : Condemned) (n : ℕ) (car cdr : Value)
-    → CanReadAt m t k top areas registers s aim at n → (object s n).body ≡ Cons car cdr → MeansOn m t m' t' k top areas s aim word cdr
+    (it : Interpretation) (registers : List Value) (n : ℕ) (car cdr : Value)
+    → CanReadAt m t it registers at n → (object it.store n).body ≡ Cons car cdr → MeansOn m t m' t' it word cdr
 
 abbrev pub KeepsConsAt : Memory.Store → Table → Memory.Store → Table → ℕ → Type 0
 KeepsConsAt m t m' t' at =
-    (k : RoleMap) (top : ℕ) (areas : List AreaRule) (registers : List Value) (s : Store) (aim : Condemned) (n : ℕ)
-    → CanReadAt m t k top areas registers s aim at n → RepresentedByLaterMap m t m' t' k top areas s aim
+    (it : Interpretation) (registers : List Value) (n : ℕ)
+    → CanReadAt m t it registers at n → RepresentedByLaterMap m t m' t' it
 
 abbrev pub SetsCarAt : Memory.Store → Table → Memory.Store → Table → ℕ → Content → Type 0
 SetsCarAt m t m' t' at written =
-    (k : RoleMap) (top : ℕ) (areas : List AreaRule) (registers : List Value) (s : Store) (aim : Condemned) (n : ℕ) (car cdr new : Value)
-    → CanReadAt m t k top areas registers s aim at n → (object s n).body ≡ Cons car cdr → value_of k.role written ≡ Some new
-    → SetOn m t m' t' k top areas s (put_body s n (Cons new cdr)) aim 0
+    (it : Interpretation) (registers : List Value) (n : ℕ) (car cdr new : Value)
+    → CanReadAt m t it registers at n → (object it.store n).body ≡ Cons car cdr → value_of it.map.role written ≡ Some new
+    → SetOn m t m' t' it (put_body it.store n (Cons new cdr)) 0
 
 abbrev pub SetsCdrAt : Memory.Store → Table → Memory.Store → Table → ℕ → Content → Type 0
 SetsCdrAt m t m' t' at written =
-    (k : RoleMap) (top : ℕ) (areas : List AreaRule) (registers : List Value) (s : Store) (aim : Condemned) (n : ℕ) (car cdr new : Value)
-    → CanReadAt m t k top areas registers s aim at n → (object s n).body ≡ Cons car cdr → value_of k.role written ≡ Some new
-    → SetOn m t m' t' k top areas s (put_body s n (Cons car new)) aim 2
+    (it : Interpretation) (registers : List Value) (n : ℕ) (car cdr new : Value)
+    → CanReadAt m t it registers at n → (object it.store n).body ≡ Cons car cdr → value_of it.map.role written ≡ Some new
+    → SetOn m t m' t' it (put_body it.store n (Cons car new)) 2
 
 same_name : (n i : ℕ) → V.Ref n ≡ V.Ref i → n ≡ i
 same_name n i e = cc
@@ -87,53 +79,49 @@ same_name n i e = cc
 -- From a word to the address in it
 
 -- the value is that of a cons
-record NamesCons (m : Memory.Store) (t : Table) (k : RoleMap) (top : ℕ) (areas : List AreaRule) (registers : List Value) (s : Store) (aim : Condemned) (at : ℕ) (v : Value) : Type 0 where
+record NamesCons (m : Memory.Store) (t : Table) (it : Interpretation) (registers : List Value) (at : ℕ) (v : Value) : Type 0 where
   name : ℕ
   value : v ≡ V.Ref name
-  can : CanReadAt m t k top areas registers s aim at name
+  can : CanReadAt m t it registers at name
 
 module _ (m : Memory.Store) (t : Table) (content : Content) (at : ℕ) (is : content ≡ ListAt at) where
-  names_cons : (k : RoleMap) (top : ℕ) (areas : List AreaRule) (registers : List Value) (s : Store) (aim : Condemned) (v : Value) → CanRead m t k top areas registers s aim content v → NamesCons m t k top areas registers s aim at v
-  names_cons k top areas registers s aim v can =
-      let r = references_lead.values m t k top areas s aim can.kept AsCons at v (sym (ap (value_of k.role) is) ∙ can.value_is) in
+  names_cons : (it : Interpretation) (registers : List Value) (v : Value) → CanRead m t it registers content v → NamesCons m t it registers at v
+  names_cons it registers v can =
+      let r = references_lead.values m t it can.kept AsCons at v (sym (ap (value_of it.map.role) is) ∙ can.value_is) in
       record {
         name = r.name;
         value = r.value;
-        can = record { kept = can.kept; named = r.named; survives = λ region old. subst (IsKeptValue t registers s aim) r.value (can.survives region old) };
+        can = record { kept = can.kept; named = r.named; survives = λ region old. subst (IsKeptValue t registers it.store it.aim) r.value (can.survives region old) };
       }
 
-  pub read_at : (k : RoleMap) (top : ℕ) (areas : List AreaRule) (registers : List Value) (s : Store) (aim : Condemned) (n : ℕ) → CanRead m t k top areas registers s aim content (V.Ref n) → CanReadAt m t k top areas registers s aim at n
-  read_at k top areas registers s aim n can =
-      let x = names_cons k top areas registers s aim (V.Ref n) can in
-      subst (CanReadAt m t k top areas registers s aim at) (sym (same_name n x.name x.value)) x.can
+  pub read_at : (it : Interpretation) (registers : List Value) (n : ℕ) → CanRead m t it registers content (V.Ref n) → CanReadAt m t it registers at n
+  read_at it registers n can =
+      let x = names_cons it registers (V.Ref n) can in
+      subst (CanReadAt m t it registers at) (sym (same_name n x.name x.value)) x.can
 
   pub reads_car : (m' : Memory.Store) (t' : Table) (word : Parts) → ReadsCarAt m t m' t' at word → ReadsCar m t m' t' content word
-  reads_car m' t' word reads k top areas registers s aim n car cdr can = reads k top areas registers s aim n car cdr (read_at k top areas registers s aim n can)
+  reads_car m' t' word reads it registers n car cdr can = reads it registers n car cdr (read_at it registers n can)
 
   pub reads_cdr_of : (m' : Memory.Store) (t' : Table) (word : Parts) → ReadsCdrAt m t m' t' at word → ReadsCdr m t m' t' content word
-  reads_cdr_of m' t' word reads k top areas registers s aim n car cdr can = reads k top areas registers s aim n car cdr (read_at k top areas registers s aim n can)
+  reads_cdr_of m' t' word reads it registers n car cdr can = reads it registers n car cdr (read_at it registers n can)
 
   pub keeps_cons : (m' : Memory.Store) (t' : Table) → KeepsConsAt m t m' t' at → KeepsCons m t m' t' content
-  keeps_cons m' t' keeps k top areas registers s aim v can =
-      let x = names_cons k top areas registers s aim v can in
-      keeps k top areas registers s aim x.name x.can
+  keeps_cons m' t' keeps it registers v can =
+      let x = names_cons it registers v can in
+      keeps it registers x.name x.can
 
   pub sets_car : (m' : Memory.Store) (t' : Table) (written : Content) → SetsCarAt m t m' t' at written → SetsCar m t m' t' content written
-  sets_car m' t' written sets k top areas registers s aim n car cdr new can = sets k top areas registers s aim n car cdr new (read_at k top areas registers s aim n can)
+  sets_car m' t' written sets it registers n car cdr new can = sets it registers n car cdr new (read_at it registers n can)
 
   pub sets_cdr : (m' : Memory.Store) (t' : Table) (written : Content) → SetsCdrAt m t m' t' at written → SetsCdr m t m' t' content written
-  sets_cdr m' t' written sets k top areas registers s aim n car cdr new can = sets k top areas registers s aim n car cdr new (read_at k top areas registers s aim n can)
+  sets_cdr m' t' written sets it registers n car cdr new can = sets it registers n car cdr new (read_at it registers n can)
 
 pub readable_at : (m : Memory.Store) (t : Table) (word : Parts) (at : ℕ) → word.content ≡ ListAt at → IsReadable m t word → IsReadableAt m t at
 readable_at m t word at is x =
-    let named = names_cons m t word.content at is x.map x.top x.areas x.registers x.objects x.aim x.value x.can in
+    let named = names_cons m t word.content at is x.it x.registers x.value x.can in
     record {
-      map = x.map;
-      top = x.top;
-      areas = x.areas;
+      it = x.it;
       registers = x.registers;
-      objects = x.objects;
-      aim = x.aim;
       name = named.name;
       can = named.can;
       fresh = λ old. x.fresh (at, ap reference_of is, old);
@@ -141,14 +129,10 @@ readable_at m t word at is x =
 
 pub settable_at : (m : Memory.Store) (t : Table) (of word : Parts) (at : ℕ) → of.content ≡ ListAt at → CanSet m t of word → CanSetAt m t at word
 settable_at m t of word at is x =
-    let named = names_cons m t of.content at is x.can.map x.can.top x.can.areas x.can.registers x.can.objects x.can.aim x.can.value x.can.can in
+    let named = names_cons m t of.content at is x.can.it x.can.registers x.can.value x.can.can in
     record {
-      map = x.can.map;
-      top = x.can.top;
-      areas = x.can.areas;
+      it = x.can.it;
       registers = x.can.registers;
-      objects = x.can.objects;
-      aim = x.can.aim;
       name = named.name;
       can = named.can;
       fresh = λ old. x.can.fresh (at, ap reference_of is, old);
@@ -167,20 +151,16 @@ same_address : (a b : ℕ) → Some a ≡ Some b → a ≡ b
 same_address a b e = cc
 
 module _ (m : Memory.Store) (t : Table) (at : ℕ) where
-  read_word : (k : RoleMap) (top : ℕ) (areas : List AreaRule) (registers : List Value) (s : Store) (aim : Condemned) (n : ℕ) → CanReadAt m t k top areas registers s aim at n → CanRead m t k top areas registers s aim (ListAt at) (V.Ref n)
-  read_word k top areas registers s aim n can = record { kept = can.kept; value_is = ap as_ref can.named; survives = can.survives }
+  read_word : (it : Interpretation) (registers : List Value) (n : ℕ) → CanReadAt m t it registers at n → CanRead m t it registers (ListAt at) (V.Ref n)
+  read_word it registers n can = record { kept = can.kept; value_is = ap as_ref can.named; survives = can.survives }
 
   pub settable_word : (word : Parts) → CanSetAt m t at word → CanSet m t (plain (ListAt at)) word
   settable_word word x = record {
     can = record {
-      map = x.map;
-      top = x.top;
-      areas = x.areas;
+      it = x.it;
       registers = x.registers;
-      objects = x.objects;
-      aim = x.aim;
       value = V.Ref x.name;
-      can = read_word x.map x.top x.areas x.registers x.objects x.aim x.name x.can;
+      can = read_word x.it x.registers x.name x.can;
       fresh = λ old. x.fresh (subst (λ (a : ℕ). IsOld t (a / 4096)) (sym (same_address at old.0 old.1)) old.2);
     };
     new = x.value;
@@ -189,7 +169,7 @@ module _ (m : Memory.Store) (t : Table) (at : ℕ) where
   }
 
   pub keeps_at : (m' : Memory.Store) (t' : Table) → KeepsCons m t m' t' (ListAt at) → KeepsConsAt m t m' t' at
-  keeps_at m' t' keeps k top areas registers s aim n can = keeps k top areas registers s aim (V.Ref n) (read_word k top areas registers s aim n can)
+  keeps_at m' t' keeps it registers n can = keeps it registers (V.Ref n) (read_word it registers n can)
 
   pub sets_cdr_at : (m' : Memory.Store) (t' : Table) (written : Content) → SetsCdr m t m' t' (ListAt at) written → SetsCdrAt m t m' t' at written
-  sets_cdr_at m' t' written sets k top areas registers s aim n car cdr new can = sets k top areas registers s aim n car cdr new (read_word k top areas registers s aim n can)
+  sets_cdr_at m' t' written sets it registers n car cdr new can = sets it registers n car cdr new (read_word it registers n can)

@@ -17,11 +17,11 @@ use Rattle.cdr_lists.proofs.ConsAddresses.{readable_at}
 pub can_find : (m : Memory.Store) (t : Table) (word : Parts) → IsReadable m t word → CanFind m.words word.content
 can_find m t word x at is =
     let r = readable_at m t word at is x in
-    has_final m t r.map r.top r.areas r.objects r.aim r.can.kept AsCons at r.name r.can.named
+    has_final m t r.it r.can.kept AsCons at r.name r.can.named
 
 -- only reads were made
 pub reads_keep_cons : {m m1 : Memory.Store} (t : Table) (content : Content) → StoresNothing m m1 → KeepsCons m t m1 t content
-reads_keep_cons {m} {m1} t content stays k top areas registers s aim v can = later-read m m1 t k top areas s aim can.kept stays
+reads_keep_cons {m} {m1} t content stays it registers v can = later-read m m1 t it can.kept stays
 
 -- a word refers to one place
 pub same_place : (words : List Parts) (content : Content) (a b : ℕ) → IsConsPlace words content a → IsConsPlace words content b → a ≡ b

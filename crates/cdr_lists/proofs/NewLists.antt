@@ -52,35 +52,35 @@ cells_fresh t t2 ws at registers items grows cells fresh i low = subst (FreshOn 
 
 module _ (m : Memory.Store) (t : Table) (area level : ℕ) (registers : List Parts) (items : List ℕ) (can : CanList m t area level registers items) where
   pub list_area : area < areas_of t
-  list_area = let a = areas_agree m t can.map can.top can.areas can.objects can.aim can.kept in let b = can.quota.area_in in omega arith
+  list_area = let a = areas_agree m t can.it can.kept in let b = can.quota.area_in in omega arith
 
   pub list_level : level < levels_of t
-  list_level = let a = levels_agree m t can.map can.top can.areas can.objects can.aim can.kept in let b = can.quota.level_in in omega arith
+  list_level = let a = levels_agree m t can.it can.kept in let b = can.quota.level_in in omega arith
 
   pub list_room : words_of_area t area + length items ≤ 2 * quota_of t area
-  list_room = new_room m t can.map can.top can.areas can.objects can.aim can.kept area (length items) (3 * length items) can.quota.area_in (omega arith) can.quota.fits
+  list_room = new_room m t can.it can.kept area (length items) (3 * length items) can.quota.area_in (omega arith) can.quota.fits
 
   module _ (m1 : Memory.Store) (t1 : Table) (region : Option ℕ) (opens : Opens m t m1 t1 region area level) (at : ℕ) (end : IsEnd t1 (slot_of t area level) at (length items)) where
     there : IsEnd t1 (slot_of t1 area level) at (length items)
-    there = end_there m t can.map can.top can.areas can.objects can.aim can.kept area level list_area list_level m1 t1 region opens at end
+    there = end_there m t can.it can.kept area level list_area list_level m1 t1 region opens at end
 
     pub list_allowed : (slot : ℕ) → IsEnd t1 slot at (length items) → AllowsOrigin t1 slot (3 * length items) New
     list_allowed slot e =
-        let after = placed_on m t can.map can.top can.areas can.objects can.aim can.kept area level list_area list_level m1 t1 region opens at end can.map can.top can.areas can.objects can.aim can.kept in
-        let a = levels_agree m1 t1 can.map can.top can.areas can.objects can.aim after in
+        let after = placed_on m t can.it can.kept area level list_area list_level m1 t1 region opens at end can.it can.kept in
+        let a = levels_agree m1 t1 can.it after in
         let b = can.quota.level_in in
-        new_allowed m1 t1 can.map can.top can.areas can.objects can.aim after area level at (length items) can.quota.area_in (omega arith) there (3 * length items) can.quota.fits slot e
+        new_allowed m1 t1 can.it after area level at (length items) can.quota.area_in (omega arith) there (3 * length items) can.quota.fits slot e
 
     pub listed_on : (m2 : Memory.Store) (t2 : Table) → Writes m1 m2 at (length items) (cell_word registers items) → at + length items ≤ length m1.words
         → t2 ≡ record (committed t1 (slot_of t1 area level) at (length items) (3 * length items) New) { pages = t2.pages } → IsTable t2 → ListedOn m t m2 t2 area level registers items at
-    listed_on m2 t2 writes inside commit sound k top areas s aim values on quota means =
-        let placed = placed_on m t can.map can.top can.areas can.objects can.aim can.kept area level list_area list_level m1 t1 region opens at end k top areas s aim on in
+    listed_on m2 t2 writes inside commit sound it values on quota means =
+        let placed = placed_on m t can.it can.kept area level list_area list_level m1 t1 region opens at end it on in
         let size = writes.size in
         let some = can.some in
         let few = can.few in
         let count = means.count in
         let commits : Commits m1 t1 m2 t2 at (length items) area level (3 * length items) = record { end = there; writes = within-written writes; commit = commit; sound = sound } in
-        let made = list_made_on m1 m2 t1 t2 k top areas s aim at area level values placed quota.area_in quota.level_in (let fits = quota.fits in omega arith) (omega arith) (record {
+        let made = list_made_on m1 m2 t1 t2 it at area level values placed quota.area_in quota.level_in (let fits = quota.fits in omega arith) (omega arith) (record {
           commits = subst (λ (n : ℕ). Commits m1 t1 m2 t2 at n area level (3 * n)) (sym count) commits;
           cells_at = λ i low. (
             cell_word registers items i,
@@ -94,9 +94,9 @@ module _ (m : Memory.Store) (t : Table) (area level : ℕ) (registers : List Par
           map = made.map;
           kept = made.kept;
           refines = made.refines;
-          there = ap (λ (a : ℕ). names_as AsCons (made.map.role a)) (let e : at ≡ at + 0 = omega arith in e) ∙ made.there 0 (omega arith) ∙ ap (λ (n : ℕ). Some n) (let e : length s.objects + 0 ≡ length s.objects = omega arith in e);
+          there = ap (λ (a : ℕ). names_as AsCons (made.map.role a)) (let e : at ≡ at + 0 = omega arith in e) ∙ made.there 0 (omega arith) ∙ ap (λ (n : ℕ). Some n) (let e : length it.store.objects + 0 ≡ length it.store.objects = omega arith in e);
           old = (
-              let before = old_placed m t can.map can.top can.areas can.objects can.aim can.kept area level list_area list_level m1 t1 region opens at end k top areas s aim on in
+              let before = old_placed m t can.it can.kept area level list_area list_level m1 t1 region opens at end it on in
               let after = made.old in
               omega arith);
         }
@@ -106,7 +106,7 @@ module _ (m : Memory.Store) (t : Table) (area level : ℕ) (registers : List Par
       pub list_placed : PlacesNew t t2 area level at (length items) (3 * length items)
       list_placed = record {
         room = t1;
-        opens = opened_or_same m t can.map can.top can.areas can.objects can.aim can.kept area level list_area list_level m1 t1 region opens at end;
+        opens = opened_or_same m t can.it can.kept area level list_area list_level m1 t1 region opens at end;
         end = there;
         commit = commit;
         pages = pages;
@@ -114,10 +114,10 @@ module _ (m : Memory.Store) (t : Table) (area level : ℕ) (registers : List Par
 
       pub list_marks : IsTable t2 → MarksFollow m t m2 t2
       list_marks sound =
-          marks-then (opened_marks m t can.map can.top can.areas can.objects can.aim can.kept area level list_area list_level m1 t1 region opens at end)
+          marks-then (opened_marks m t can.it can.kept area level list_area list_level m1 t1 region opens at end)
           (marks-placed sound (committed-extends t1 t2 (slot_of t1 area level) at (length items) (3 * length items) New t2.pages t1.last there commit pages) writes)
 
       pub list_live : LiveWordsUnchanged m t m2 t2
       list_live =
-          live-then (opened_live m t can.map can.top can.areas can.objects can.aim can.kept area level list_area list_level m1 t1 region opens at end m1 (record { words = refl; levels = refl; top = refl; unmarked = λ page e. e }))
+          live-then (opened_live m t can.it can.kept area level list_area list_level m1 t1 region opens at end m1 (record { words = refl; levels = refl; top = refl; unmarked = λ page e. e }))
           (laid_live m1 m2 t1 t2 (slot_of t1 area level) at (length items) (committed-extends t1 t2 (slot_of t1 area level) at (length items) (3 * length items) New t2.pages t1.last there commit pages) (within-written writes))

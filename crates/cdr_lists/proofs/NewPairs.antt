@@ -56,39 +56,39 @@ pair_fresh t t2 ws at charge car cdr grows first second car_fresh cdr_fresh i lo
 
 module _ (m : Memory.Store) (t : Table) (area level charge : ℕ) (car cdr : Parts) (can : CanPair m t area level charge car cdr) where
   pub area_inside : area < areas_of t
-  area_inside = let a = areas_agree m t can.map can.top can.areas can.objects can.aim can.kept in let b = can.quota.area_in in omega arith
+  area_inside = let a = areas_agree m t can.it can.kept in let b = can.quota.area_in in omega arith
 
   pub level_inside : level < levels_of t
-  level_inside = let a = levels_agree m t can.map can.top can.areas can.objects can.aim can.kept in let b = can.quota.level_in in omega arith
+  level_inside = let a = levels_agree m t can.it can.kept in let b = can.quota.level_in in omega arith
 
   pub room_for_pair : words_of_area t area + 2 ≤ 2 * quota_of t area
-  room_for_pair = new_room m t can.map can.top can.areas can.objects can.aim can.kept area 2 charge can.quota.area_in (pair_charge charge can.charges) can.quota.fits
+  room_for_pair = new_room m t can.it can.kept area 2 charge can.quota.area_in (pair_charge charge can.charges) can.quota.fits
 
   module _ (m1 : Memory.Store) (t1 : Table) (region : Option ℕ) (opens : Opens m t m1 t1 region area level) (at : ℕ) (end : IsEnd t1 (slot_of t area level) at 2) where
     there : IsEnd t1 (slot_of t1 area level) at 2
-    there = end_there m t can.map can.top can.areas can.objects can.aim can.kept area level area_inside level_inside m1 t1 region opens at end
+    there = end_there m t can.it can.kept area level area_inside level_inside m1 t1 region opens at end
 
     pub pair_allowed : (slot : ℕ) → IsEnd t1 slot at 2 → AllowsOrigin t1 slot charge New
     pair_allowed slot e =
-        let after = placed_on m t can.map can.top can.areas can.objects can.aim can.kept area level area_inside level_inside m1 t1 region opens at end can.map can.top can.areas can.objects can.aim can.kept in
-        let a = levels_agree m1 t1 can.map can.top can.areas can.objects can.aim after in
+        let after = placed_on m t can.it can.kept area level area_inside level_inside m1 t1 region opens at end can.it can.kept in
+        let a = levels_agree m1 t1 can.it after in
         let b = can.quota.level_in in
-        new_allowed m1 t1 can.map can.top can.areas can.objects can.aim after area level at 2 can.quota.area_in (omega arith) there charge can.quota.fits slot e
+        new_allowed m1 t1 can.it after area level at 2 can.quota.area_in (omega arith) there charge can.quota.fits slot e
 
     pub paired_on : (m2 : Memory.Store) (t2 : Table) (first second : Parts) → first ≡ first_word car → second ≡ second_word charge cdr → WritesWithin m1 m2 at 2 → slice_get m2.words at ≡ Some first → slice_get m2.words (at + 1) ≡ Some second
         → t2 ≡ record (committed t1 (slot_of t1 area level) at 2 charge New) { pages = t2.pages } → IsTable t2 → PairedOn m t m2 t2 area level charge car cdr at
-    paired_on m2 t2 first second is_first is_second writes first_at second_at commit sound k top areas s aim car_value cdr_value on quota car_is cdr_is =
-        let placed = placed_on m t can.map can.top can.areas can.objects can.aim can.kept area level area_inside level_inside m1 t1 region opens at end k top areas s aim on in
-        let made = pair_made_on m1 m2 t1 t2 k top areas s aim at area level charge car_value cdr_value placed quota.area_in quota.level_in quota.fits (record {
+    paired_on m2 t2 first second is_first is_second writes first_at second_at commit sound it car_value cdr_value on quota car_is cdr_is =
+        let placed = placed_on m t can.it can.kept area level area_inside level_inside m1 t1 region opens at end it on in
+        let made = pair_made_on m1 m2 t1 t2 it at area level charge car_value cdr_value placed quota.area_in quota.level_in quota.fits (record {
           commits = record { end = there; writes = writes; commit = commit; sound = sound };
           first = first;
           first_at = first_at;
           first_code = ap (λ (p : Parts). p.cdr) is_first;
-          car_is = ap (λ (p : Parts). value_of k.role p.content) is_first ∙ car_is;
+          car_is = ap (λ (p : Parts). value_of it.map.role p.content) is_first ∙ car_is;
           second = second;
           second_at = ap (slice_get m2.words) (let e : suc at ≡ at + 1 = omega arith in e) ∙ second_at;
           second_code = subst (λ (p : Parts). PairCode charge p.cdr) (sym is_second) (pair_code charge can.charges);
-          cdr_is = ap (λ (p : Parts). value_of k.role p.content) is_second ∙ cdr_is;
+          cdr_is = ap (λ (p : Parts). value_of it.map.role p.content) is_second ∙ cdr_is;
         }) in
         record {
           map = made.map;
@@ -96,7 +96,7 @@ module _ (m : Memory.Store) (t : Table) (area level charge : ℕ) (car cdr : Par
           refines = made.refines;
           there = ap (λ (a : ℕ). names_as AsCons (made.map.role a)) (let e : at ≡ at + 0 = omega arith in e) ∙ made.there 0 (omega arith);
           old = (
-              let before = old_placed m t can.map can.top can.areas can.objects can.aim can.kept area level area_inside level_inside m1 t1 region opens at end k top areas s aim on in
+              let before = old_placed m t can.it can.kept area level area_inside level_inside m1 t1 region opens at end it on in
               let after = made.old in
               omega arith);
         }
@@ -105,7 +105,7 @@ module _ (m : Memory.Store) (t : Table) (area level charge : ℕ) (car cdr : Par
       pub pair_placed : PlacesNew t t2 area level at 2 charge
       pair_placed = record {
         room = t1;
-        opens = opened_or_same m t can.map can.top can.areas can.objects can.aim can.kept area level area_inside level_inside m1 t1 region opens at end;
+        opens = opened_or_same m t can.it can.kept area level area_inside level_inside m1 t1 region opens at end;
         end = there;
         commit = commit;
         pages = pages;
@@ -113,10 +113,10 @@ module _ (m : Memory.Store) (t : Table) (area level charge : ℕ) (car cdr : Par
 
       pub pair_marks : {word : ℕ → Parts} → IsTable t2 → Writes m1 m2 at 2 word → MarksFollow m t m2 t2
       pair_marks sound written =
-          marks-then (opened_marks m t can.map can.top can.areas can.objects can.aim can.kept area level area_inside level_inside m1 t1 region opens at end)
+          marks-then (opened_marks m t can.it can.kept area level area_inside level_inside m1 t1 region opens at end)
           (marks-placed sound (committed-extends t1 t2 (slot_of t1 area level) at 2 charge New t2.pages t1.last there commit pages) written)
 
       pub pair_live : LiveWordsUnchanged m t m2 t2
       pair_live =
-          live-then (opened_live m t can.map can.top can.areas can.objects can.aim can.kept area level area_inside level_inside m1 t1 region opens at end m1 (record { words = refl; levels = refl; top = refl; unmarked = λ page e. e }))
+          live-then (opened_live m t can.it can.kept area level area_inside level_inside m1 t1 region opens at end m1 (record { words = refl; levels = refl; top = refl; unmarked = λ page e. e }))
           (laid_live m1 m2 t1 t2 (slot_of t1 area level) at 2 (committed-extends t1 t2 (slot_of t1 area level) at 2 charge New t2.pages t1.last there commit pages) writes)

@@ -1,7 +1,6 @@
 -- Words are placed in a class.
 use Rattle.std.proofs.Common.{◌≡◌, ℕ, refl, inl, inr, ◌+◌, ◌*◌, ◌/◌, ◌<◌, ◌≤◌, ◌^◌, sym, ◌∙◌, ap, subst, arith, List, length, Option, Some, None}
 use Rattle.std.specs.Prelude.{IfSome, IfNone, Contains}
-use Rattle.lisp_graph.specs.declared.world.AreaRule.{AreaRule}
 use Rattle.store_word.specs.Words.{Parts}
 use Rattle.mem_port.specs.Store.{StoresNothing}
 use Rattle.mem_port.specs.Store as Memory
@@ -9,9 +8,8 @@ use Rattle.area_space.specs.Table.{Table, areas_of, chain, levels_of, live, slot
 use Rattle.area_space.specs.Places.{IsEnd, opened}
 use Rattle.area_space.proofs.NewRegions.{contains_opened, slot_below}
 use Rattle.obj_layout.specs.Forwards.{word_at}
-use Rattle.transporter.specs.lisp_meaning.State.{Condemned, Store}
-use Rattle.transporter.specs.lisp_meaning.Roles.{RoleMap}
 use Rattle.transporter.specs.lisp_ground.GroundInvariant.{GroundInvariant}
+use Rattle.transporter.specs.lisp_meaning.Interpretation.{Interpretation}
 use Rattle.transporter.specs.lisp_ground.Placing.{Opens}
 use Rattle.transporter.specs.lisp_ground.After.{old_on}
 use Rattle.transporter.proofs.lisp_ground.words.Places.{place_kept_on}
@@ -41,15 +39,15 @@ needed_then (inr o) e = inr (record { region = o.region; free = o.free; needed =
 
 -- whatever objects the ground represented, it represents them
 abbrev pub KeepsOn : Memory.Store → Table → Memory.Store → Table → Type 0
-KeepsOn m t m' t' = (k : RoleMap) (top : ℕ) (areas : List AreaRule) (s : Store) (aim : Condemned) → GroundInvariant m t k top areas s aim → GroundInvariant m' t' k top areas s aim
+KeepsOn m t m' t' = (it : Interpretation) → GroundInvariant m t it → GroundInvariant m' t' it
 
-module _ (m : Memory.Store) (t : Table) (k : RoleMap) (top : ℕ) (areas : List AreaRule) (s : Store) (aim : Condemned) (on : GroundInvariant m t k top areas s aim) (area level : ℕ) (area_in : area < areas_of t) (level_in : level < levels_of t)
+module _ (m : Memory.Store) (t : Table) (it : Interpretation) (on : GroundInvariant m t it) (area level : ℕ) (area_in : area < areas_of t) (level_in : level < levels_of t)
     (m1 : Memory.Store) (t1 : Table) (region : Option ℕ) (opens : Opens m t m1 t1 region area level) (at : ℕ) {words : ℕ} (end : IsEnd t1 (slot_of t area level) at words) where
   pub placed_on : KeepsOn m t m1 t1
-  placed_on k2 top2 areas2 s2 aim2 on2 = place_kept_on m m1 t t1 region area level k2 top2 areas2 s2 aim2 on2 area_in level_in opens
+  placed_on other on_other = place_kept_on m m1 t t1 region area level other on_other area_in level_in opens
 
-  after : GroundInvariant m1 t1 k top areas s aim
-  after = placed_on k top areas s aim on
+  after : GroundInvariant m1 t1 it
+  after = placed_on it on
 
   pub same_top : t1.top ≡ t.top
   same_top = after.agrees.levels ∙ sym on.agrees.levels
@@ -64,14 +62,14 @@ module _ (m : Memory.Store) (t : Table) (k : RoleMap) (top : ℕ) (areas : List 
   end_there = subst (λ (slot : ℕ). IsEnd t1 slot at words) same_slot end
 
   pub words_inside : at + words ≤ length m1.words
-  words_inside = Opened.words_inside m t k top areas s aim on area level area_in level_in m1 t1 region opens at words end
+  words_inside = Opened.words_inside m t it on area level area_in level_in m1 t1 region opens at words end
 
   pub words_low : 0 < words → at < 2 ^ 28
-  words_low = Opened.place_low m t k top areas s aim on area level area_in level_in m1 t1 region opens at words end
+  words_low = Opened.place_low m t it on area level area_in level_in m1 t1 region opens at words end
 
   -- the charges in old regions are unchanged
-  pub old_placed : (k2 : RoleMap) (top2 : ℕ) (areas2 : List AreaRule) (s2 : Store) (aim2 : Condemned) → GroundInvariant m t k2 top2 areas2 s2 aim2 → old_on m1 t1 s2 aim2 k2.at ≡ old_on m t s2 aim2 k2.at
-  old_placed k2 top2 areas2 s2 aim2 on2 = old-opened m m1 t t1 region area level k2 top2 areas2 s2 aim2 on2 (placed_on k2 top2 areas2 s2 aim2 on2) area_in level_in opens
+  pub old_placed : (other : Interpretation) → GroundInvariant m t other → old_on m1 t1 other.store other.aim other.map.at ≡ old_on m t other.store other.aim other.map.at
+  old_placed other on_other = old-opened m m1 t t1 region area level other on_other (placed_on other on_other) area_in level_in opens
 
   -- nor are more words placed
   pub none_placed : t1.placed ≡ t.placed
@@ -105,23 +103,23 @@ module _ (m : Memory.Store) (t : Table) (k : RoleMap) (top : ℕ) (areas : List 
   opened_marks = marks-opened region on.table area_in level_in opens
 
   pub opened_stays : (m2 : Memory.Store) → StoresNothing m1 m2 → WordsUnchanged m t m2 t1
-  opened_stays = Opened.opened_stays m t k top areas s aim on area level area_in level_in m1 t1 region opens
+  opened_stays = Opened.opened_stays m t it on area level area_in level_in m1 t1 region opens
 
   -- and nothing is placed
   pub opened_moves : (m2 : Memory.Store) → StoresNothing m1 m2 → MovesAtMost m t m2 t1 0
   opened_moves m2 stays = writes-moves (record {
     room = t1;
-    opens = Opened.opened_or_same m t k top areas s aim on area level area_in level_in m1 t1 region opens;
+    opens = Opened.opened_or_same m t it on area level area_in level_in m1 t1 region opens;
     but = refl;
     words = λ a free. ap (λ (ws : List Parts). word_at ws a) (opened_stays m2 stays).words;
     codes = λ a. ap (λ (ws : List Parts). (word_at ws a).cdr) (opened_stays m2 stays).words;
   })
 
   pub opened_live : (m2 : Memory.Store) → StoresNothing m1 m2 → LiveWordsUnchanged m t m2 t1
-  opened_live = Opened.opened_live m t k top areas s aim on area level area_in level_in m1 t1 region opens
+  opened_live = Opened.opened_live m t it on area level area_in level_in m1 t1 region opens
 
   pub opened_or_same : OpensOrStays t t1
-  opened_or_same = Opened.opened_or_same m t k top areas s aim on area level area_in level_in m1 t1 region opens
+  opened_or_same = Opened.opened_or_same m t it on area level area_in level_in m1 t1 region opens
 
   same_used : OpensOrStays t t1 → (r : ℕ) → used_of t1 r ≡ used_of t r
   same_used (inl same) r = ap (λ (u : Table). used_of u r) same

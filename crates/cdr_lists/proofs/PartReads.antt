@@ -9,21 +9,21 @@ use Rattle.store_word.specs.declared.word.Content.TheVariants.{List as ListAt}
 use Rattle.lisp_graph.specs.declared.object.Value.{Value}
 use Rattle.lisp_graph.specs.declared.object.Body.{Body}
 use Rattle.lisp_graph.specs.declared.object.Body.TheVariants.{Cons}
-use Rattle.lisp_graph.specs.declared.world.AreaRule.{AreaRule}
 use Rattle.lisp_graph.specs.Graph.{is_ref}
 use Rattle.mem_port.specs.Store.{StoresNothing}
 use Rattle.mem_port.specs.Store as Memory
 use Rattle.area_space.specs.Table.{Table, IsOld}
 use Rattle.obj_layout.specs.Forwards.{word_at, Final, IsFinal}
-use Rattle.transporter.specs.lisp_meaning.State.{Condemned, Store, object}
+use Rattle.transporter.specs.lisp_meaning.State.{object}
 use Rattle.transporter.specs.lisp_meaning.Sound.{is_kept}
-use Rattle.transporter.specs.lisp_meaning.Roles.{AsCons, RoleMap, value_of}
+use Rattle.transporter.specs.lisp_meaning.Roles.{AsCons, value_of}
+use Rattle.transporter.specs.lisp_meaning.Interpretation.{Interpretation}
 use Rattle.transporter.proofs.lisp_meaning.closure.ClosedSets.{car_inside, cdr_inside, is_ref-same}
 use Rattle.transporter.specs.lisp_ground.After.{old_on}
 use Rattle.transporter.proofs.lisp_ground.words.FinalAddresses.{final_is_place, name_in_use}
 use Rattle.transporter.proofs.lisp_ground.invariant.WordStores.{kept_on_same}
 use Rattle.transporter.specs.LiveWordsUnchanged.{IsLiveWord, LiveWordsUnchangedExcept}
-use Rattle.transporter.specs.Settling.{CanSettle, RefersToOld, IsKeptValue, IsSettleable, Settles, SettlesOn, readdressed, reference_of}
+use Rattle.transporter.specs.Settling.{CanSettle, RefersToOld, IsKeptValue, IsSettleable, Settles, readdressed, reference_of, SettlesAlways, RemainsRepresented}
 use Rattle.transporter.specs.Transports.{RepresentedByLaterMap}
 use Rattle.transporter.specs.Moving.{FetchMoves, stays as stays_put}
 use Rattle.transporter.proofs.LiveObjects.{live-read}
@@ -44,73 +44,73 @@ same_cdr body a d x y e f = let z = sym e ∙ f in cc
 
 -- Reads precede
 
-pub can_read_after : (m m1 : Memory.Store) (t : Table) (k : RoleMap) (top : ℕ) (areas : List AreaRule) (registers : List Value) (s : Store) (aim : Condemned) (at n : ℕ) → CanReadAt m t k top areas registers s aim at n → StoresNothing m m1 → CanReadAt m1 t k top areas registers s aim at n
-can_read_after m m1 t k top areas registers s aim at n can stays = record { kept = kept_on_same m m1 t k top areas s aim can.kept stays; named = can.named; survives = can.survives }
+pub can_read_after : (m m1 : Memory.Store) (t : Table) (it : Interpretation) (registers : List Value) (at n : ℕ) → CanReadAt m t it registers at n → StoresNothing m m1 → CanReadAt m1 t it registers at n
+can_read_after m m1 t it registers at n can stays = record { kept = kept_on_same m m1 t it can.kept stays; named = can.named; survives = can.survives }
 
-pub later_after : (m m1 m2 : Memory.Store) (t t2 : Table) (k : RoleMap) (top : ℕ) (areas : List AreaRule) (s : Store) (aim : Condemned) → StoresNothing m m1 → RepresentedByLaterMap m1 t m2 t2 k top areas s aim → RepresentedByLaterMap m t m2 t2 k top areas s aim
-later_after m m1 m2 t t2 k top areas s aim stays x =
-    let same : old_on m1 t s aim k.at ≡ old_on m t s aim k.at = refl in
+pub later_after : (m m1 m2 : Memory.Store) (t t2 : Table) (it : Interpretation) → StoresNothing m m1 → RepresentedByLaterMap m1 t m2 t2 it → RepresentedByLaterMap m t m2 t2 it
+later_after m m1 m2 t t2 it stays x =
+    let same : old_on m1 t it.store it.aim it.map.at ≡ old_on m t it.store it.aim it.map.at = refl in
     record { map = x.map; kept = x.kept; refines = x.refines; work = (let w = x.work in omega arith) }
 
-module _ (m : Memory.Store) (t : Table) (k : RoleMap) (top : ℕ) (areas : List AreaRule) (registers : List Value) (s : Store) (aim : Condemned) (at n : ℕ) (can : CanReadAt m t k top areas registers s aim at n) where
+module _ (m : Memory.Store) (t : Table) (it : Interpretation) (registers : List Value) (at n : ℕ) (can : CanReadAt m t it registers at n) where
   -- the cons that the address means
-  pub cons_here : IsConsIn m.words k s n
+  pub cons_here : IsConsIn m.words it.map it.store n
   cons_here =
-      let l = references_lead.names m t k top areas s aim can.kept AsCons at n can.named in
-      references_lead.conses m t k top areas s aim can.kept n l.used l.kind_is
+      let l = references_lead.names m t it can.kept AsCons at n can.named in
+      references_lead.conses m t it can.kept n l.used l.kind_is
 
-  below : n < length s.objects
-  below = can.kept.kept.names n (name_in_use m t k top areas s aim can.kept AsCons at n can.named)
+  below : n < length it.store.objects
+  below = can.kept.kept.names n (name_in_use m t it can.kept AsCons at n can.named)
 
-  module _ (to : ℕ) (final : Final m.words at to) (car cdr : Value) (body : (object s n).body ≡ Cons car cdr) where
-    place : k.at n ≡ to
-    place = sym (final_is_place m t k top areas s aim can.kept AsCons at n can.named to final)
+  module _ (to : ℕ) (final : Final m.words at to) (car cdr : Value) (body : (object it.store n).body ≡ Cons car cdr) where
+    place : it.map.at n ≡ to
+    place = sym (final_is_place m t it can.kept AsCons at n can.named to final)
 
     -- the values of its parts
-    pub car_value : value_of k.role (word_at m.words to).content ≡ Some car
+    pub car_value : value_of it.map.role (word_at m.words to).content ≡ Some car
     car_value =
         let x = cons_here in
-        ap (λ (a : ℕ). value_of k.role (word_at m.words a).content) (sym place) ∙ x.car_value ∙ ap Some (same_car (object s n).body x.car x.cdr car cdr x.body body)
+        ap (λ (a : ℕ). value_of it.map.role (word_at m.words a).content) (sym place) ∙ x.car_value ∙ ap Some (same_car (object it.store n).body x.car x.cdr car cdr x.body body)
 
-    pub cdr_value : value_of k.role (cdr_in m.words to) ≡ Some cdr
+    pub cdr_value : value_of it.map.role (cdr_in m.words to) ≡ Some cdr
     cdr_value =
         let x = cons_here in
-        ap (λ (a : ℕ). value_of k.role (cdr_in m.words a)) (sym place) ∙ x.cdr_value ∙ ap Some (same_cdr (object s n).body x.car x.cdr car cdr x.body body)
+        ap (λ (a : ℕ). value_of it.map.role (cdr_in m.words a)) (sym place) ∙ x.cdr_value ∙ ap Some (same_cdr (object it.store n).body x.car x.cdr car cdr x.body body)
 
-    pub second_value : (word_at m.words to).cdr ≡ Normal → value_of k.role (word_at m.words (suc to)).content ≡ Some cdr
-    second_value code = ap (λ (c : CdrCode). value_of k.role (cdr_by c to (word_at m.words (suc to)).content)) (sym code) ∙ cdr_value
+    pub second_value : (word_at m.words to).cdr ≡ Normal → value_of it.map.role (word_at m.words (suc to)).content ≡ Some cdr
+    second_value code = ap (λ (c : CdrCode). value_of it.map.role (cdr_by c to (word_at m.words (suc to)).content)) (sym code) ∙ cdr_value
 
     -- which a collection keeps
-    car_kept : (region : ℕ) → IsOld t region → IsKeptValue t registers s aim car
+    car_kept : (region : ℕ) → IsOld t region → IsKeptValue t registers it.store it.aim car
     car_kept region old =
         let x = can.survives region old in
         record {
           running = x.running;
           reaches = x.reaches;
-          name = λ i e. car_inside (record { registers = registers; objects = s.objects }) (is_kept s aim) x.reaches.closed n below (x.name n refl) car cdr body i (ap (is_ref i) e ∙ is_ref-same i);
+          name = λ i e. car_inside (record { registers = registers; objects = it.store.objects }) (is_kept it.store it.aim) x.reaches.closed n below (x.name n refl) car cdr body i (ap (is_ref i) e ∙ is_ref-same i);
         }
 
-    pub cdr_kept : (region : ℕ) → IsOld t region → IsKeptValue t registers s aim cdr
+    pub cdr_kept : (region : ℕ) → IsOld t region → IsKeptValue t registers it.store it.aim cdr
     cdr_kept region old =
         let x = can.survives region old in
         record {
           running = x.running;
           reaches = x.reaches;
-          name = λ i e. cdr_inside (record { registers = registers; objects = s.objects }) (is_kept s aim) x.reaches.closed n below (x.name n refl) car cdr body i (ap (is_ref i) e ∙ is_ref-same i);
+          name = λ i e. cdr_inside (record { registers = registers; objects = it.store.objects }) (is_kept it.store it.aim) x.reaches.closed n below (x.name n refl) car cdr body i (ap (is_ref i) e ∙ is_ref-same i);
         }
 
     -- so the words can be settled
-    pub car_settles : CanSettle m t k top areas registers s aim (word_at m.words to) car
+    pub car_settles : CanSettle m t it registers (word_at m.words to) car
     car_settles = record { kept = can.kept; value = λ a ref. car_value; survives = λ old. car_kept (old.0 / 4096) old.2 }
 
-    pub cdr_settles : (word_at m.words to).cdr ≡ Normal → CanSettle m t k top areas registers s aim (word_at m.words (suc to)) cdr
+    pub cdr_settles : (word_at m.words to).cdr ≡ Normal → CanSettle m t it registers (word_at m.words (suc to)) cdr
     cdr_settles code = record { kept = can.kept; value = λ a ref. second_value code; survives = λ old. cdr_kept (old.0 / 4096) old.2 }
 
 -- Before the words are settled
 
 module _ (m m1 : Memory.Store) (t : Table) (at : ℕ) (x : IsReadableAt m t at) (stays : StoresNothing m m1) (to : ℕ) (final : Final m.words at to) (last : IsFinal m.words to) where
-  after : CanReadAt m1 t x.map x.top x.areas x.registers x.objects x.aim at x.name
-  after = can_read_after m m1 t x.map x.top x.areas x.registers x.objects x.aim at x.name x.can stays
+  after : CanReadAt m1 t x.it x.registers at x.name
+  after = can_read_after m m1 t x.it x.registers at x.name x.can stays
 
   final_after : Final m1.words at to
   final_after = subst (λ (ws : List Parts). Final ws at to) (sym stays.words) final
@@ -119,99 +119,91 @@ module _ (m m1 : Memory.Store) (t : Table) (at : ℕ) (x : IsReadableAt m t at) 
   last_after = subst (λ (ws : List Parts). IsFinal ws to) (sym stays.words) last
 
   pub car_live : IsLiveWord t to
-  car_live = first_live m1 t x.map x.top x.areas x.objects x.aim after.kept at x.name after.named x.fresh to final_after
+  car_live = first_live m1 t x.it after.kept at x.name after.named x.fresh to final_after
 
   pub car_settleable : IsSettleable m1 t (word_at m1.words to)
   car_settleable =
-      let c = cons_here m1 t x.map x.top x.areas x.registers x.objects x.aim at x.name after in
+      let c = cons_here m1 t x.it x.registers at x.name after in
       record {
-        map = x.map;
-        top = x.top;
-        areas = x.areas;
+        it = x.it;
         registers = x.registers;
-        store = x.objects;
-        aim = x.aim;
         value = c.car;
-        can = car_settles m1 t x.map x.top x.areas x.registers x.objects x.aim at x.name after to final_after c.car c.cdr c.body;
+        can = car_settles m1 t x.it x.registers at x.name after to final_after c.car c.cdr c.body;
       }
 
   module _ (code : (word_at m1.words to).cdr ≡ Normal) (next : ℕ) (is : next ≡ suc to) where
     pub cdr_live : IsLiveWord t next
-    cdr_live = subst (λ (a : ℕ). IsLiveWord t a) (sym is) (second_live m1 t x.map x.top x.areas x.objects x.aim after.kept at x.name after.named x.fresh to final_after last_after code)
+    cdr_live = subst (λ (a : ℕ). IsLiveWord t a) (sym is) (second_live m1 t x.it after.kept at x.name after.named x.fresh to final_after last_after code)
 
     pub cdr_settleable : IsSettleable m1 t (word_at m1.words next)
     cdr_settleable =
-        let c = cons_here m1 t x.map x.top x.areas x.registers x.objects x.aim at x.name after in
+        let c = cons_here m1 t x.it x.registers at x.name after in
         subst (λ (a : ℕ). IsSettleable m1 t (word_at m1.words a)) (sym is) (record {
-          map = x.map;
-          top = x.top;
-          areas = x.areas;
+          it = x.it;
           registers = x.registers;
-          store = x.objects;
-          aim = x.aim;
           value = c.cdr;
-          can = cdr_settles m1 t x.map x.top x.areas x.registers x.objects x.aim at x.name after to final_after c.car c.cdr c.body code;
+          can = cdr_settles m1 t x.it x.registers at x.name after to final_after c.car c.cdr c.body code;
         })
 
 -- After
 
 pub reads_cdr : (m m1 : Memory.Store) (t : Table) (at to : ℕ) (word : Parts) → StoresNothing m m1 → Final m.words at to → word.content ≡ cdr_in m.words to → ReadsCdrAt m t m1 t at word
-reads_cdr m m1 t at to word stays final is k top areas registers s aim n car cdr can body = record {
-  later = record { map = k; kept = kept_on_same m m1 t k top areas s aim can.kept stays; refines = λ kind a i e. e; work = (let same : old_on m1 t s aim k.at ≡ old_on m t s aim k.at = refl in omega arith) };
-  value_is = ap (value_of k.role) is ∙ cdr_value m t k top areas registers s aim at n can to final car cdr body;
+reads_cdr m m1 t at to word stays final is it registers n car cdr can body = record {
+  later = record { map = it.map; kept = kept_on_same m m1 t it can.kept stays; refines = λ kind a i e. e; work = (let same : old_on m1 t it.store it.aim it.map.at ≡ old_on m t it.store it.aim it.map.at = refl in omega arith) };
+  value_is = ap (value_of it.map.role) is ∙ cdr_value m t it registers at n can to final car cdr body;
 }
 
 module _ (m m1 m2 : Memory.Store) (t t2 : Table) (at to : ℕ) (stays : StoresNothing m m1) (final : Final m.words at to) where
   final_read : Final m1.words at to
   final_read = subst (λ (ws : List Parts). Final ws at to) (sym stays.words) final
 
-  can_read : (k : RoleMap) (top : ℕ) (areas : List AreaRule) (registers : List Value) (s : Store) (aim : Condemned) (n : ℕ) → CanReadAt m t k top areas registers s aim at n → CanReadAt m1 t k top areas registers s aim at n
-  can_read k top areas registers s aim n can = can_read_after m m1 t k top areas registers s aim at n can stays
+  can_read : (it : Interpretation) (registers : List Value) (n : ℕ) → CanReadAt m t it registers at n → CanReadAt m1 t it registers at n
+  can_read it registers n can = can_read_after m m1 t it registers at n can stays
 
   -- the car was settled
   pub car_fetched : (new word : Parts)
-      → ((k : RoleMap) (top : ℕ) (areas : List AreaRule) (registers : List Value) (s : Store) (aim : Condemned) (v : Value) → CanSettle m1 t k top areas registers s aim (word_at m1.words to) v → SettlesOn m1 t m2 t2 k top areas s aim (word_at m1.words to) new)
+      → SettlesAlways m1 t m2 t2 (word_at m1.words to) new
       → word.content ≡ new.content → ReadsCarAt m t m2 t2 at word
-  car_fetched new word settles is k top areas registers s aim n car cdr can body =
-      let can1 = can_read k top areas registers s aim n can in
-      let x = settles k top areas registers s aim car (car_settles m1 t k top areas registers s aim at n can1 to final_read car cdr body) in
-      let y = settles-read m m1 m2 t t2 k top areas s aim (word_at m1.words to) new stays x in
+  car_fetched new word settles is it registers n car cdr can body =
+      let can1 = can_read it registers n can in
+      let x = settles it registers car (car_settles m1 t it registers at n can1 to final_read car cdr body) in
+      let y = settles-read m m1 m2 t t2 it (word_at m1.words to) new stays x in
       record {
         later = y.later;
-        value_is = ap (value_of y.later.map.role) is ∙ y.value car (car_value m1 t k top areas registers s aim at n can1 to final_read car cdr body);
+        value_is = ap (value_of y.later.map.role) is ∙ y.value car (car_value m1 t it registers at n can1 to final_read car cdr body);
       }
 
   -- or a swap error occurred
-  pub car_faulted : ((k : RoleMap) (top : ℕ) (areas : List AreaRule) (registers : List Value) (s : Store) (aim : Condemned) (v : Value) → CanSettle m1 t k top areas registers s aim (word_at m1.words to) v → RepresentedByLaterMap m1 t m2 t2 k top areas s aim) → KeepsConsAt m t m2 t2 at
-  car_faulted later k top areas registers s aim n can =
-      let can1 = can_read k top areas registers s aim n can in
-      let c = cons_here m1 t k top areas registers s aim at n can1 in
-      later_after m m1 m2 t t2 k top areas s aim stays (later k top areas registers s aim c.car (car_settles m1 t k top areas registers s aim at n can1 to final_read c.car c.cdr c.body))
+  pub car_faulted : RemainsRepresented m1 t m2 t2 (word_at m1.words to) → KeepsConsAt m t m2 t2 at
+  car_faulted later it registers n can =
+      let can1 = can_read it registers n can in
+      let c = cons_here m1 t it registers at n can1 in
+      later_after m m1 m2 t t2 it stays (later it registers c.car (car_settles m1 t it registers at n can1 to final_read c.car c.cdr c.body))
 
   module _ (code : (word_at m1.words to).cdr ≡ Normal) (next : ℕ) (place : next ≡ suc to) where
-    settles_next : (k : RoleMap) (top : ℕ) (areas : List AreaRule) (registers : List Value) (s : Store) (aim : Condemned) (n : ℕ) (can : CanReadAt m t k top areas registers s aim at n) (car cdr : Value) → (object s n).body ≡ Cons car cdr
-        → CanSettle m1 t k top areas registers s aim (word_at m1.words next) cdr
-    settles_next k top areas registers s aim n can car cdr body =
-        subst (λ (a : ℕ). CanSettle m1 t k top areas registers s aim (word_at m1.words a) cdr) (sym place)
-        (cdr_settles m1 t k top areas registers s aim at n (can_read k top areas registers s aim n can) to final_read car cdr body code)
+    settles_next : (it : Interpretation) (registers : List Value) (n : ℕ) (can : CanReadAt m t it registers at n) (car cdr : Value) → (object it.store n).body ≡ Cons car cdr
+        → CanSettle m1 t it registers (word_at m1.words next) cdr
+    settles_next it registers n can car cdr body =
+        subst (λ (a : ℕ). CanSettle m1 t it registers (word_at m1.words a) cdr) (sym place)
+        (cdr_settles m1 t it registers at n (can_read it registers n can) to final_read car cdr body code)
 
     -- the second word of a pair was settled
     pub cdr_fetched : (new word : Parts)
-        → ((k : RoleMap) (top : ℕ) (areas : List AreaRule) (registers : List Value) (s : Store) (aim : Condemned) (v : Value) → CanSettle m1 t k top areas registers s aim (word_at m1.words next) v → SettlesOn m1 t m2 t2 k top areas s aim (word_at m1.words next) new)
+        → SettlesAlways m1 t m2 t2 (word_at m1.words next) new
         → word.content ≡ new.content → ReadsCdrAt m t m2 t2 at word
-    cdr_fetched new word settles is k top areas registers s aim n car cdr can body =
-        let x = settles k top areas registers s aim cdr (settles_next k top areas registers s aim n can car cdr body) in
-        let y = settles-read m m1 m2 t t2 k top areas s aim (word_at m1.words next) new stays x in
+    cdr_fetched new word settles is it registers n car cdr can body =
+        let x = settles it registers cdr (settles_next it registers n can car cdr body) in
+        let y = settles-read m m1 m2 t t2 it (word_at m1.words next) new stays x in
         record {
           later = y.later;
           value_is = ap (value_of y.later.map.role) is
-              ∙ y.value cdr (ap (λ (a : ℕ). value_of k.role (word_at m1.words a).content) place ∙ second_value m1 t k top areas registers s aim at n (can_read k top areas registers s aim n can) to final_read car cdr body code);
+              ∙ y.value cdr (ap (λ (a : ℕ). value_of it.map.role (word_at m1.words a).content) place ∙ second_value m1 t it registers at n (can_read it registers n can) to final_read car cdr body code);
         }
 
-    pub cdr_faulted : ((k : RoleMap) (top : ℕ) (areas : List AreaRule) (registers : List Value) (s : Store) (aim : Condemned) (v : Value) → CanSettle m1 t k top areas registers s aim (word_at m1.words next) v → RepresentedByLaterMap m1 t m2 t2 k top areas s aim) → KeepsConsAt m t m2 t2 at
-    cdr_faulted later k top areas registers s aim n can =
-        let c = cons_here m1 t k top areas registers s aim at n (can_read k top areas registers s aim n can) in
-        later_after m m1 m2 t t2 k top areas s aim stays (later k top areas registers s aim c.cdr (settles_next k top areas registers s aim n can c.car c.cdr c.body))
+    pub cdr_faulted : RemainsRepresented m1 t m2 t2 (word_at m1.words next) → KeepsConsAt m t m2 t2 at
+    cdr_faulted later it registers n can =
+        let c = cons_here m1 t it registers at n (can_read it registers n can) in
+        later_after m m1 m2 t t2 it stays (later it registers c.cdr (settles_next it registers n can c.car c.cdr c.body))
 
 -- the word that was settled has its old cdr code
 pub settled_code : {t t' : Table} {old new : Parts} → Settles t t' old new → new.cdr ≡ old.cdr
@@ -245,7 +237,7 @@ module _ (m m1 : Memory.Store) (t : Table) (to : ℕ) (first : Parts) (stays : S
   -- so it is returned unchanged
   pub first_answered : (at : ℕ) (word : Parts) → Final m.words at to → word.content ≡ first.content → ReadsCarAt m t m1 t at word
   first_answered at word final same =
-      car_fetched m m1 m1 t t at to stays final (word_at m1.words to) word (λ k top areas registers s aim v can. settles-same m1 t k top areas s aim (word_at m1.words to) can.kept)
+      car_fetched m m1 m1 t t at to stays final (word_at m1.words to) word (λ it registers v can. settles-same m1 t it (word_at m1.words to) can.kept)
       (same ∙ ap (λ (w : Parts). w.content) first_after)
 
   module _ (young : RefersToOld t first → ⊥) where
@@ -263,8 +255,8 @@ module _ (m m1 : Memory.Store) (t : Table) (to : ℕ) (first : Parts) (stays : S
 pub list_fresh : (m m1 : Memory.Store) (t : Table) (at : ℕ) (x : IsReadableAt m t at) (stays : StoresNothing m m1) (to : ℕ) (final : Final m.words at to) (last : IsFinal m.words to)
     → ((word_at m1.words to).cdr ≡ CdrNil → ⊥) → ((word_at m1.words to).cdr ≡ Normal → ⊥) → (word : Parts) (next : ℕ) → next ≡ suc to → word.content ≡ ListAt next → RefersToOld t word → ⊥
 list_fresh m m1 t at x stays to final last no_nil no_normal word next place is old =
-    let on = kept_on_same m m1 t x.map x.top x.areas x.objects x.aim x.can.kept stays in
+    let on = kept_on_same m m1 t x.it x.can.kept stays in
     let final1 = subst (λ (ws : List Parts). Final ws at to) (sym stays.words) final in
     let last1 = subst (λ (ws : List Parts). IsFinal ws to) (sym stays.words) last in
     let there : next ≡ old.0 = (let z = sym (ap reference_of is) ∙ old.1 in cc) in
-    behind_fresh m1 t x.map x.top x.areas x.objects x.aim on at x.name x.can.named x.fresh to final1 last1 no_nil no_normal (subst (λ (a : ℕ). IsOld t (a / 4096)) (sym there ∙ place) old.2)
+    behind_fresh m1 t x.it on at x.name x.can.named x.fresh to final1 last1 no_nil no_normal (subst (λ (a : ℕ). IsOld t (a / 4096)) (sym there ∙ place) old.2)

@@ -6,13 +6,11 @@ use Rattle.store_word.specs.declared.word.Content.{Content}
 use Rattle.store_word.specs.declared.word.Content.TheVariants.{HeaderForward}
 use Rattle.store_word.specs.declared.word.CdrCode.{CdrCode}
 use Rattle.store_word.specs.declared.word.CdrCode.TheVariants.{Normal}
-use Rattle.lisp_graph.specs.declared.world.AreaRule.{AreaRule}
 use Rattle.mem_port.specs.Store.{Stores, StoresNothing, level_of_word}
 use Rattle.mem_port.specs.Store as Memory
 use Rattle.area_space.specs.Table.{Table}
-use Rattle.transporter.specs.lisp_meaning.State.{Condemned, Store}
 use Rattle.transporter.specs.lisp_meaning.Classes.{classes}
-use Rattle.transporter.specs.lisp_meaning.Roles.{AsCons, RoleMap, names_as, owner, value_of}
+use Rattle.transporter.specs.lisp_meaning.Roles.{AsCons, names_as, owner, value_of}
 use Rattle.transporter.specs.lisp_meaning.Rewriting.{StandsThere}
 use Rattle.transporter.proofs.lisp_meaning.roles.RunNames.{pair_there}
 use Rattle.transporter.proofs.lisp_meaning.reading.ReadRoles.{used_where}
@@ -20,6 +18,7 @@ use Rattle.transporter.proofs.lisp_meaning.layout.ObjectWords.{head_fits, tail_f
 use Rattle.obj_layout.specs.Forwards.{word_at, Final, IsFinal}
 use Rattle.transporter.specs.lisp_ground.Image.{ground_image}
 use Rattle.transporter.specs.lisp_ground.GroundInvariant.{GroundInvariant}
+use Rattle.transporter.specs.lisp_meaning.Interpretation.{Interpretation}
 use Rattle.transporter.proofs.lisp_ground.words.FinalAddresses.{stands_there}
 use Rattle.transporter.proofs.lisp_ground.invariant.Stores.{car_stored_on, cdr_stored_on}
 use Rattle.transporter.proofs.lisp_ground.invariant.WordStores.{kept_on_same, used_inside}
@@ -63,100 +62,96 @@ store_inside {m} {n} {a} reads low = subst (λ (ws : List Parts). a < length ws)
 
 -- what is read keeps the ground
 pub reads_keep : (m n : Memory.Store) (t : Table) → StoresNothing m n → KeepsOn m t n t
-reads_keep m n t reads k top areas s aim on = kept_on_same m n t k top areas s aim on reads
+reads_keep m n t reads it on = kept_on_same m n t it on reads
 
 module _ (m : Memory.Store) (t : Table) (at : ℕ) (word : Parts) (can : CanSetAt m t at word) where
   -- the final address, after the memory was read
   module _ (n : Memory.Store) (reads : StoresNothing m n) (cons : ℕ) (final : Final m.words at cons) (last : IsFinal m.words cons) where
-    stands_after : (k : RoleMap) (top : ℕ) (areas : List AreaRule) (s : Store) (aim : Condemned) (name : ℕ) (on : GroundInvariant m t k top areas s aim) → names_as AsCons (k.role at) ≡ Some name
-        → StandsThere (ground_image n t) k AsCons cons name
-    stands_after k top areas s aim name on named =
-        stands_there n t k top areas s aim (reads_keep m n t reads k top areas s aim on) AsCons at name named cons
+    stands_after : (it : Interpretation) (name : ℕ) (on : GroundInvariant m t it) → names_as AsCons (it.map.role at) ≡ Some name
+        → StandsThere (ground_image n t) it.map AsCons cons name
+    stands_after it name on named =
+        stands_there n t it (reads_keep m n t reads it on) AsCons at name named cons
         (subst (λ (ws : List Parts). Final ws at cons) (sym reads.words) final) (subst (λ (ws : List Parts). IsFinal ws cons) (sym reads.words) last)
 
     -- the name is that of the final address
-    pub named_there : (k : RoleMap) (top : ℕ) (areas : List AreaRule) (s : Store) (aim : Condemned) (name : ℕ) (on : GroundInvariant m t k top areas s aim) → names_as AsCons (k.role at) ≡ Some name → names_as AsCons (k.role cons) ≡ Some name
-    named_there k top areas s aim name on named = (stands_after k top areas s aim name on named).named
+    pub named_there : (it : Interpretation) (name : ℕ) (on : GroundInvariant m t it) → names_as AsCons (it.map.role at) ≡ Some name → names_as AsCons (it.map.role cons) ≡ Some name
+    named_there it name on named = (stands_after it name on named).named
 
     -- so there a part can be set, too
-    pub can_read_there : (k : RoleMap) (top : ℕ) (areas : List AreaRule) (registers : List Value) (s : Store) (aim : Condemned) (name : ℕ) → CanReadAt m t k top areas registers s aim at name → CanReadAt n t k top areas registers s aim cons name
-    can_read_there k top areas registers s aim name x = record { kept = reads_keep m n t reads k top areas s aim x.kept; named = named_there k top areas s aim name x.kept x.named; survives = x.survives }
+    pub can_read_there : (it : Interpretation) (registers : List Value) (name : ℕ) → CanReadAt m t it registers at name → CanReadAt n t it registers cons name
+    can_read_there it registers name x = record { kept = reads_keep m n t reads it x.kept; named = named_there it name x.kept x.named; survives = x.survives }
 
     pub can_set_there : CanSetAt n t cons word
     can_set_there = record {
-      map = can.map;
-      top = can.top;
-      areas = can.areas;
+      it = can.it;
       registers = can.registers;
-      objects = can.objects;
-      aim = can.aim;
       name = can.name;
-      can = can_read_there can.map can.top can.areas can.registers can.objects can.aim can.name can.can;
-      fresh = final_fresh m t can.map can.top can.areas can.objects can.aim can.can.kept at can.name can.can.named can.fresh cons final;
+      can = can_read_there can.it can.registers can.name can.can;
+      fresh = final_fresh m t can.it can.can.kept at can.name can.can.named can.fresh cons final;
       value = can.value;
       value_is = can.value_is;
       young = can.young;
     }
 
     pub sets_cdr_there : (m' : Memory.Store) (t' : Table) (content : Content) → SetsCdrAt n t m' t' cons content → SetsCdrAt m t m' t' at content
-    sets_cdr_there m' t' content sets k top areas registers s aim name car cdr new x body value =
-        let y = sets k top areas registers s aim name car cdr new (can_read_there k top areas registers s aim name x) body value in
-        let same : old_on n t s aim k.at ≡ old_on m t s aim k.at = refl in
+    sets_cdr_there m' t' content sets it registers name car cdr new x body value =
+        let y = sets it registers name car cdr new (can_read_there it registers name x) body value in
+        let same : old_on n t it.store it.aim it.map.at ≡ old_on m t it.store it.aim it.map.at = refl in
         record { map = y.map; kept = y.kept; refines = y.refines; work = (let w = y.work in omega arith) }
 
     -- a swap error there is one here
     pub keeps_cons_there : (m' : Memory.Store) (t' : Table) → KeepsConsAt n t m' t' cons → KeepsConsAt m t m' t' at
-    keeps_cons_there m' t' keeps k top areas registers s aim name x =
-        later_after m n m' t t' k top areas s aim reads (keeps k top areas registers s aim name (can_read_there k top areas registers s aim name x))
+    keeps_cons_there m' t' keeps it registers name x =
+        later_after m n m' t t' it reads (keeps it registers name (can_read_there it registers name x))
 
     -- the second word of a pair is in the memory
     pub second_inside : (word_at n.words cons).cdr ≡ Normal → cons + 1 < length n.words
     second_inside code =
-        let on = reads_keep m n t reads can.map can.top can.areas can.objects can.aim can.can.kept in
-        let st = stands_after can.map can.top can.areas can.objects can.aim can.name can.can.kept can.can.named in
-        let pair = pair_there (word_at n.words) (classes (ground_image n t)) can.map can.objects on.kept.roled cons can.name st.named st.here code in
-        let head = head_fits (word_at n.words) (classes (ground_image n t)) can.map can.objects on.kept.roled can.name cons pair in
-        let inside = used_inside n t (suc cons) on.table on.ground (used_where (ground_image n t) can.map can.objects on.kept.roled on.kept.covered (suc cons) can.name (ap owner head.tail)).0 in
+        let on = reads_keep m n t reads can.it can.can.kept in
+        let st = stands_after can.it can.name can.can.kept can.can.named in
+        let pair = pair_there (word_at n.words) (classes (ground_image n t)) can.it.map can.it.store on.kept.roled cons can.name st.named st.here code in
+        let head = head_fits (word_at n.words) (classes (ground_image n t)) can.it.map can.it.store on.kept.roled can.name cons pair in
+        let inside = used_inside n t (suc cons) on.table on.ground (used_where (ground_image n t) can.it.map can.it.store on.kept.roled on.kept.covered (suc cons) can.name (ap owner head.tail)).0 in
         omega arith
 
     -- and isn't a forward
     pub second_plain : (word_at n.words cons).cdr ≡ Normal → IsForward (word_at n.words (cons + 1)) → ⊥
     second_plain code f =
-        let on = reads_keep m n t reads can.map can.top can.areas can.objects can.aim can.can.kept in
-        let st = stands_after can.map can.top can.areas can.objects can.aim can.name can.can.kept can.can.named in
-        let pair = pair_there (word_at n.words) (classes (ground_image n t)) can.map can.objects on.kept.roled cons can.name st.named st.here code in
-        let tail = tail_fits (word_at n.words) (classes (ground_image n t)) can.map can.objects on.kept.roled can.name cons pair in
+        let on = reads_keep m n t reads can.it can.can.kept in
+        let st = stands_after can.it can.name can.can.kept can.can.named in
+        let pair = pair_there (word_at n.words) (classes (ground_image n t)) can.it.map can.it.store on.kept.roled cons can.name st.named st.here code in
+        let tail = tail_fits (word_at n.words) (classes (ground_image n t)) can.it.map can.it.store on.kept.roled can.name cons pair in
         let next : cons + 1 ≡ suc cons = omega arith in
-        plain-value can.map.role (word_at n.words (suc cons)).content tail.cdr.0 tail.cdr.2 (subst (λ (a : ℕ). IsForward (word_at n.words a)) next f)
+        plain-value can.it.map.role (word_at n.words (suc cons)).content tail.cdr.0 tail.cdr.2 (subst (λ (a : ℕ). IsForward (word_at n.words a)) next f)
 
     -- the car was stored, with the code of the word before it
     pub car_set : (m' : Memory.Store) (content : Content) (w : Parts) → w.cdr ≡ (word_at n.words cons).cdr → w.content ≡ content → Stores n m' cons w → SetsCarAt m t m' t at content
-    car_set m' content w code is stores k top areas registers s aim name car cdr new x body value =
+    car_set m' content w code is stores it registers name car cdr new x body value =
         let on = x.kept in
         let named = x.named in
-        let same : old_on n t s aim k.at ≡ old_on m t s aim k.at = refl in
-        let after = car_stored_on n m' t k top areas s aim cons name car cdr new (reads_keep m n t reads k top areas s aim on) (stands_after k top areas s aim name on named) body (record {
+        let same : old_on n t it.store it.aim it.map.at ≡ old_on m t it.store it.aim it.map.at = refl in
+        let after = car_stored_on n m' t it cons name car cdr new (reads_keep m n t reads it on) (stands_after it name on named) body (record {
           stored = w;
           stores = stores;
-          value_is = ap (value_of k.role) is ∙ value;
+          value_is = ap (value_of it.map.role) is ∙ value;
           code = code;
         }) in
-        record { map = k; kept = after.kept; refines = λ kind a i e. e; work = (let w = after.old in omega arith) }
+        record { map = it.map; kept = after.kept; refines = λ kind a i e. e; work = (let w = after.old in omega arith) }
 
     -- the second word of a pair was
     pub cdr_set : (m' : Memory.Store) (content : Content) (w : Parts) → (word_at n.words cons).cdr ≡ Normal → w.cdr ≡ (word_at n.words (cons + 1)).cdr → w.content ≡ content → Stores n m' (cons + 1) w → SetsCdrAt m t m' t at content
-    cdr_set m' content w normal code is stores k top areas registers s aim name car cdr new x body value =
+    cdr_set m' content w normal code is stores it registers name car cdr new x body value =
         let on = x.kept in
         let named = x.named in
-        let same : old_on n t s aim k.at ≡ old_on m t s aim k.at = refl in
+        let same : old_on n t it.store it.aim it.map.at ≡ old_on m t it.store it.aim it.map.at = refl in
         let next : cons + 1 ≡ suc cons = omega arith in
-        let after = cdr_stored_on n m' t k top areas s aim cons name car cdr new (reads_keep m n t reads k top areas s aim on) (stands_after k top areas s aim name on named) normal body (record {
+        let after = cdr_stored_on n m' t it cons name car cdr new (reads_keep m n t reads it on) (stands_after it name on named) normal body (record {
           stored = w;
           stores = subst (λ (a : ℕ). Stores n m' a w) next stores;
-          value_is = ap (value_of k.role) is ∙ value;
+          value_is = ap (value_of it.map.role) is ∙ value;
           code = code ∙ ap (λ (a : ℕ). (word_at n.words a).cdr) next;
         }) in
-        record { map = k; kept = after.kept; refines = λ kind a i e. e; work = (let w = after.old in omega arith) }
+        record { map = it.map; kept = after.kept; refines = λ kind a i e. e; work = (let w = after.old in omega arith) }
 
 -- The word that was stored
 

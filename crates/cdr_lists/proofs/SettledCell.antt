@@ -5,18 +5,17 @@ use Rattle.store_word.specs.Words.{Parts}
 use Rattle.store_word.specs.declared.word.Content.{Content}
 use Rattle.store_word.specs.declared.word.Content.TheVariants.{List as ListAt, Struct as StructAt}
 use Rattle.lisp_graph.specs.declared.object.Value.{Value}
-use Rattle.lisp_graph.specs.declared.world.AreaRule.{AreaRule}
 use Rattle.mem_port.specs.Store.{StoresNothing}
 use Rattle.mem_port.specs.Store as Memory
 use Rattle.area_space.specs.Table.{Table}
 use Rattle.obj_layout.specs.Forwards.{word_at, forward_of, Final, IsFinal, here}
-use Rattle.transporter.specs.lisp_meaning.State.{Condemned, Store}
-use Rattle.transporter.specs.lisp_meaning.Roles.{RoleMap, value_of}
+use Rattle.transporter.specs.lisp_meaning.Roles.{value_of}
+use Rattle.transporter.specs.lisp_meaning.Interpretation.{Interpretation, by_map}
 use Rattle.transporter.proofs.lisp_meaning.maps.Frames.{refined}
 use Rattle.transporter.specs.Growth.{Grows}
 use Rattle.transporter.specs.LiveWordsUnchanged.{IsLiveWord, LiveWordsUnchanged, LiveWordsUnchangedExcept, OnlyGrows}
 use Rattle.transporter.specs.Moving.{FetchMoves, MovesAtMost}
-use Rattle.transporter.specs.Settling.{CanSettle, RefersToOld, IsSettleable, Settles, SettlesOn, content_to, readdressed}
+use Rattle.transporter.specs.Settling.{RefersToOld, IsSettleable, Settles, content_to, readdressed, SettlesAlways, RemainsRepresented}
 use Rattle.transporter.specs.Preserving.{NoOldAddresses, FreshOn}
 use Rattle.transporter.specs.Transports.{RepresentedByLaterMap, WordsUnchanged}
 use Rattle.transporter.proofs.LiveObjects.{grows-then, old-before, still-live}
@@ -34,31 +33,27 @@ final_itself words a last = (0, omega arith, here last.no_forward)
 
 -- what may be set may be read
 pub readable : (m : Memory.Store) (t : Table) (at : ℕ) (word : Parts) → CanSetAt m t at word → IsReadableAt m t at
-readable m t at word can = record { map = can.map; top = can.top; areas = can.areas; registers = can.registers; objects = can.objects; aim = can.aim; name = can.name; can = can.can; fresh = can.fresh }
+readable m t at word can = record { it = can.it; registers = can.registers; name = can.name; can = can.can; fresh = can.fresh }
 
 -- a cons that can be read can be read by a later map, too
-pub read_later : (m m2 : Memory.Store) (t t2 : Table) (k : RoleMap) (top : ℕ) (areas : List AreaRule) (registers : List Value) (s : Store) (aim : Condemned) (at n : ℕ) → CanReadAt m t k top areas registers s aim at n → OnlyGrows t t2 → (x : RepresentedByLaterMap m t m2 t2 k top areas s aim)
-    → CanReadAt m2 t2 x.map top areas registers s aim at n
-read_later m m2 t t2 k top areas registers s aim at n can grows x = record {
+pub read_later : (m m2 : Memory.Store) (t t2 : Table) (it : Interpretation) (registers : List Value) (at n : ℕ) → CanReadAt m t it registers at n → OnlyGrows t t2 → (x : RepresentedByLaterMap m t m2 t2 it)
+    → CanReadAt m2 t2 (by_map it x.map) registers at n
+read_later m m2 t t2 it registers at n can grows x = record {
   kept = x.kept;
   named = x.refines Rattle.transporter.specs.lisp_meaning.Roles.AsCons at n can.named;
   survives = λ region old. (let h = can.survives region (old-before grows old) in record { running = grows.aim ∙ h.running; reaches = h.reaches; name = h.name });
 }
 
 -- and set
-pub set_later : (m m2 : Memory.Store) (t t2 : Table) (at : ℕ) (word : Parts) (can : CanSetAt m t at word) → OnlyGrows t t2 → (x : RepresentedByLaterMap m t m2 t2 can.map can.top can.areas can.objects can.aim) → CanSetAt m2 t2 at word
+pub set_later : (m m2 : Memory.Store) (t t2 : Table) (at : ℕ) (word : Parts) (can : CanSetAt m t at word) → OnlyGrows t t2 → (x : RepresentedByLaterMap m t m2 t2 can.it) → CanSetAt m2 t2 at word
 set_later m m2 t t2 at word can grows x = record {
-  map = x.map;
-  top = can.top;
-  areas = can.areas;
+  it = by_map can.it x.map;
   registers = can.registers;
-  objects = can.objects;
-  aim = can.aim;
   name = can.name;
-  can = read_later m m2 t t2 can.map can.top can.areas can.registers can.objects can.aim at can.name can.can grows x;
+  can = read_later m m2 t t2 can.it can.registers at can.name can.can grows x;
   fresh = λ old. can.fresh (old-before grows old);
   value = can.value;
-  value_is = refined can.map.role x.map.role x.refines word.content can.value can.value_is;
+  value_is = refined can.it.map.role x.map.role x.refines word.content can.value can.value_is;
   young = λ old. can.young (old.0, old.1, old-before grows old.2);
 }
 
@@ -84,20 +79,20 @@ module _ (m : Memory.Store) (t : Table) (cell : ℕ) (cdr : Parts) (can : CanSet
 
   -- a swap error occurred when the car was settled
   pub cell_faulted : (m2 : Memory.Store) (t2 : Table)
-      → ((k : RoleMap) (top : ℕ) (areas : List AreaRule) (registers : List Value) (s : Store) (aim : Condemned) (v : Value) → CanSettle m t k top areas registers s aim (word_at m.words cell) v → RepresentedByLaterMap m t m2 t2 k top areas s aim) → KeepsConsAt m t m2 t2 cell
+      → RemainsRepresented m t m2 t2 (word_at m.words cell) → KeepsConsAt m t m2 t2 cell
   cell_faulted m2 t2 later = car_faulted m m m2 t t2 cell cell (no_change m) (final_itself m.words cell is.final) later
 
   module _ (m2 : Memory.Store) (t2 : Table) (car : Parts)
-      (settles : (k : RoleMap) (top : ℕ) (areas : List AreaRule) (registers : List Value) (s : Store) (aim : Condemned) (v : Value) → CanSettle m t k top areas registers s aim (word_at m.words cell) v → SettlesOn m t m2 t2 k top areas s aim (word_at m.words cell) car)
+      (settles : SettlesAlways m t m2 t2 (word_at m.words cell) car)
       (word : Settles t t2 (word_at m.words cell) car) (written : word_at m2.words cell ≡ car) (grows : OnlyGrows t t2) where
     -- the same objects by a later map
     pub fetched_later : KeepsConsAt m t m2 t2 cell
-    fetched_later k top areas registers s aim n x =
-        let c = cons_here m t k top areas registers s aim cell n x in
-        (settles k top areas registers s aim c.car (car_settles m t k top areas registers s aim cell n x cell (final_itself m.words cell is.final) c.car c.cdr c.body)).later
+    fetched_later it registers n x =
+        let c = cons_here m t it registers cell n x in
+        (settles it registers c.car (car_settles m t it registers cell n x cell (final_itself m.words cell is.final) c.car c.cdr c.body)).later
 
-    later : RepresentedByLaterMap m t m2 t2 can.map can.top can.areas can.objects can.aim
-    later = fetched_later can.map can.top can.areas can.registers can.objects can.aim can.name can.can
+    later : RepresentedByLaterMap m t m2 t2 can.it
+    later = fetched_later can.it can.registers can.name can.can
 
     pub fetched_set : CanSetAt m2 t2 cell cdr
     fetched_set = set_later m m2 t t2 cell cdr can grows later
@@ -114,9 +109,9 @@ module _ (m : Memory.Store) (t : Table) (cell : ℕ) (cdr : Parts) (can : CanSet
 
     module _ (m3 : Memory.Store) (t3 : Table) where
       pub laid_set : (content : Content) → SetsCdrAt m2 t2 m3 t3 cell content → SetsCdrAt m t m3 t3 cell content
-      laid_set content sets k top areas registers s aim n old_car old_cdr new x body value =
-          let l = fetched_later k top areas registers s aim n x in
-          let y = sets l.map top areas registers s aim n old_car old_cdr new (read_later m m2 t t2 k top areas registers s aim cell n x grows l) body (refined k.role l.map.role l.refines content new value) in
+      laid_set content sets it registers n old_car old_cdr new x body value =
+          let l = fetched_later it registers n x in
+          let y = sets (by_map it l.map) registers n old_car old_cdr new (read_later m m2 t t2 it registers cell n x grows l) body (refined it.map.role l.map.role l.refines content new value) in
           record {
             map = y.map;
             kept = y.kept;
@@ -125,11 +120,11 @@ module _ (m : Memory.Store) (t : Table) (cell : ℕ) (cdr : Parts) (can : CanSet
           }
 
       pub laid_faulted : WordsUnchanged m2 t2 m3 t3 → KeepsConsAt m t m3 t3 cell
-      laid_faulted stays k top areas registers s aim n x =
-          let l = fetched_later k top areas registers s aim n x in
-          let old = stays.old l.map top areas s aim l.kept in
+      laid_faulted stays it registers n x =
+          let l = fetched_later it registers n x in
+          let old = stays.old (by_map it l.map) l.kept in
           let placed = stays.placed in
-          record { map = l.map; kept = stays.kept l.map top areas s aim l.kept; refines = l.refines; work = (let u = l.work in omega arith) }
+          record { map = l.map; kept = stays.kept (by_map it l.map) l.kept; refines = l.refines; work = (let u = l.work in omega arith) }
 
 -- a cell whose car was settled was relocated
 pub cell_relaid : {m m2 m3 : Memory.Store} {t t2 t3 : Table} {cell : ℕ} {car cdr : Parts} → Settles t t2 (word_at m.words cell) car → word_at m2.words cell ≡ car → FetchMoves m t m2 t2 cell → MovesAtMost m t m2 t2 1 → Grows t t2 → LiveWordsUnchangedExcept m t m2 t2 cell

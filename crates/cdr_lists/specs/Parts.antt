@@ -8,17 +8,17 @@ use Rattle.store_word.specs.declared.sizes.TheConstants.{REGION_WORDS}
 use Rattle.lisp_graph.specs.declared.object.Value.{Value}
 use Rattle.lisp_graph.specs.declared.object.Value.TheVariants as V
 use Rattle.lisp_graph.specs.declared.object.Body.TheVariants.{Cons}
-use Rattle.lisp_graph.specs.declared.world.AreaRule.{AreaRule}
 use Rattle.mem_port.specs.Store as Memory
 use Rattle.area_space.specs.declared.classes.Origin.TheVariants.{Reserve}
 use Rattle.area_space.specs.Table.{Table, chain, live, slot_of}
 use Rattle.area_space.specs.Places.{IsEnd}
 use Rattle.area_space.specs.Charges.{committed}
-use Rattle.transporter.specs.lisp_meaning.State.{Condemned, Store, object}
+use Rattle.transporter.specs.lisp_meaning.State.{Store, object}
 use Rattle.transporter.specs.lisp_meaning.Changes.{put_body}
 use Rattle.transporter.specs.lisp_meaning.Roles.{RoleMap, Refines, value_of}
 use Rattle.obj_layout.specs.Forwards.{word_at, IsFinal}
 use Rattle.transporter.specs.lisp_ground.GroundInvariant.{GroundInvariant}
+use Rattle.transporter.specs.lisp_meaning.Interpretation.{Interpretation}
 use Rattle.transporter.specs.lisp_ground.After.{old_on}
 use Rattle.transporter.specs.lisp_ground.Writes.{Within}
 use Rattle.transporter.specs.Growth.{Grows, OpensOrStays}
@@ -36,29 +36,29 @@ use Rattle.cdr_lists.specs.Words.{plain}
 pub record CanSet (m : Memory.Store) (t : Table) (of value : Parts) : Type 0 where
   pub can : IsReadable m t of
   pub new : Value
-  pub new_is : value_of can.map.role value.content ≡ Some new
+  pub new_is : value_of can.it.map.role value.content ≡ Some new
   pub young : RefersToOld t value → ⊥
 
 -- The ground represents other objects by a later map, under which what meant a name still means it. The words placed and the charges in old regions together grow by at most this number.
-pub record SetOn (m : Memory.Store) (t : Table) (m' : Memory.Store) (t' : Table) (k : RoleMap) (top : ℕ) (areas : List AreaRule) (s s' : Store) (aim : Condemned) (more : ℕ) : Type 0 where
+pub record SetOn (m : Memory.Store) (t : Table) (m' : Memory.Store) (t' : Table) (it : Interpretation) (s' : Store) (more : ℕ) : Type 0 where
   pub map : RoleMap
-  pub kept : GroundInvariant m' t' map top areas s' aim
-  pub refines : Refines k.role map.role
-  pub work : t'.placed + old_on m' t' s' aim map.at ≤ t.placed + old_on m t s aim k.at + more
+  pub kept : GroundInvariant m' t' (record it { map = map; store = s' })
+  pub refines : Refines it.map.role map.role
+  pub work : t'.placed + old_on m' t' s' it.aim map.at ≤ t.placed + old_on m t it.store it.aim it.map.at + more
 
 -- whatever objects the ground represented, it represents them, with the value of what was written in the car of the cons to which the content refers
 abbrev pub SetsCar : Memory.Store → Table → Memory.Store → Table → Content → Content → Type 0
 SetsCar m t m' t' content written =
-    (k : RoleMap) (top : ℕ) (areas : List AreaRule) (registers : List Value) (s : Store) (aim : Condemned) (n : ℕ) (car cdr new : Value)
-    → CanRead m t k top areas registers s aim content (V.Ref n) → (object s n).body ≡ Cons car cdr → value_of k.role written ≡ Some new
-    → SetOn m t m' t' k top areas s (put_body s n (Cons new cdr)) aim 0
+    (it : Interpretation) (registers : List Value) (n : ℕ) (car cdr new : Value)
+    → CanRead m t it registers content (V.Ref n) → (object it.store n).body ≡ Cons car cdr → value_of it.map.role written ≡ Some new
+    → SetOn m t m' t' it (put_body it.store n (Cons new cdr)) 0
 
 -- the same for the cdr; a cell gets the two words for which its charge has paid
 abbrev pub SetsCdr : Memory.Store → Table → Memory.Store → Table → Content → Content → Type 0
 SetsCdr m t m' t' content written =
-    (k : RoleMap) (top : ℕ) (areas : List AreaRule) (registers : List Value) (s : Store) (aim : Condemned) (n : ℕ) (car cdr new : Value)
-    → CanRead m t k top areas registers s aim content (V.Ref n) → (object s n).body ≡ Cons car cdr → value_of k.role written ≡ Some new
-    → SetOn m t m' t' k top areas s (put_body s n (Cons car new)) aim 2
+    (it : Interpretation) (registers : List Value) (n : ℕ) (car cdr new : Value)
+    → CanRead m t it registers content (V.Ref n) → (object it.store n).body ≡ Cons car cdr → value_of it.map.role written ≡ Some new
+    → SetOn m t m' t' it (put_body it.store n (Cons car new)) 2
 
 -- the word is stored in the place of the cons to which the content refers, with the cdr code that was there, and no other word is
 abbrev pub WritesCar : Memory.Store → Memory.Store → Content → Parts → Type 0

@@ -17,13 +17,13 @@ use Rattle.why_held.proofs.SameCensus.{same_census}
 use Rattle.word_graph.specs.Shown.{is_reached, objects_in, shown_by, told, value_in}
 use Rattle.word_graph.specs.Placed.{CanWalk}
 use Rattle.word_graph.specs.Laws.{name_of}
-use Rattle.word_graph.specs.lisp_meaning.State.{aim_of}
 use Rattle.word_graph.specs.lisp_meaning.Flip.{graph_of}
 use Rattle.word_graph.proofs.HeldObjects.{same_number, field_shows, register_is, register_shows}
 use Rattle.word_graph.proofs.RenamedGraph.{is_renamed, same_charges}
 use Rattle.lisp_heap.specs.HeapView.{store_of}
 use Rattle.lisp_heap.proofs.HeapWalks.{stands_mean}
 use Rattle.census_laws.specs.Censuses.{OfGround, OfHeap}
+use Rattle.word_graph.specs.lisp_meaning.Interpretation.{interpretation}
 
 -- a value that is shown as it is refers to a key
 shown_has : (graph : KeyedGraph) (value : Seen) (key : ℕ) → Shows graph value → key_of value ≡ Some key → graph.has key ≡ true
@@ -62,7 +62,7 @@ module _ (m : Memory.Store) (t : Table) (registers : List Parts) (can : CanWalk 
 
 pub of_ground : OfGround
 of_ground m t registers k s on means rows census =
-    let can : CanWalk m t registers = record { map = k; top = s.space.levels; areas = s.areas; objects = s.store; aim = aim_of s.phase; kept = on; values = s.registers; means = means } in
+    let can : CanWalk m t registers = record { it = interpretation k s; kept = on; values = s.registers; means = means } in
     let reached : (key : ℕ) → is_numbered census.keys key ≡ true → is_reached m t registers key ≡ true =
     λ key e. (reached_has m t registers can key ((census.reached.each key).0 (Contains-from_any {eq = nat_eq} same_number key census.keys e))) in
     same_census (name_of k s.store) (shown_by m t registers) (keyed (graph_of s)) rows census

@@ -1,13 +1,14 @@
 -- A census of what the words show, and of the states that they represent.
-use Rattle.std.specs.Prelude.{ℕ, List}
+use Rattle.std.specs.Prelude.{List}
 use Rattle.store_word.specs.Words.{Parts}
 use Rattle.lisp_graph.specs.KeyedGraph.{keyed}
 use Rattle.mem_port.specs.Store as Memory
 use Rattle.area_space.specs.Table.{Table}
-use Rattle.word_graph.specs.lisp_meaning.State.{State, aim_of}
+use Rattle.word_graph.specs.lisp_meaning.State.{State}
 use Rattle.word_graph.specs.lisp_meaning.Flip.{graph_of}
 use Rattle.word_graph.specs.lisp_meaning.Roles.{RoleMap}
 use Rattle.word_graph.specs.lisp_ground.GroundInvariant.{GroundInvariant}
+use Rattle.word_graph.specs.lisp_meaning.Interpretation.{interpretation}
 use Rattle.word_graph.specs.Placed.{MeanValues}
 use Rattle.word_graph.specs.Shown.{shown_by}
 use Rattle.why_held.specs.declared.rows.CensusRow.{CensusRow}
@@ -18,7 +19,7 @@ use Rattle.lisp_heap.specs.Walking.{graph_in}
 
 -- a census of what is reached in the graph that the words of a ground show is a census of what the state's registers reach
 abbrev pub OfGround : Type 0
-OfGround = (m : Memory.Store) (t : Table) (registers : List Parts) (k : RoleMap) (s : State) → GroundInvariant m t k s.space.levels s.areas s.store (aim_of s.phase) → MeanValues k registers s.registers
+OfGround = (m : Memory.Store) (t : Table) (registers : List Parts) (k : RoleMap) (s : State) → GroundInvariant m t (interpretation k s) → MeanValues k registers s.registers
     → (rows : List CensusRow) → IsReachedCensus (shown_by m t registers) rows → IsReachedCensus (keyed (graph_of s)) rows
 
 -- and so is a census of what is reached in that of a heap

@@ -11,10 +11,11 @@ use Rattle.lisp_graph.specs.Effect.{Effect, Wanted, effect}
 use Rattle.mem_port.specs.Store.{Store}
 use Rattle.area_space.specs.Accounts.{account_of}
 use Rattle.area_space.specs.Table.{Table, areas_of, quota_of}
-use Rattle.heap_state.specs.lisp_meaning.State.{Idle, Phase, Running, State, aim_of, is_over, rule_of}
+use Rattle.heap_state.specs.lisp_meaning.State.{Idle, Phase, Running, State, is_over, rule_of}
 use Rattle.heap_state.specs.lisp_meaning.Charges.{account_now}
 use Rattle.heap_state.specs.lisp_meaning.Flip.{graph_of}
 use Rattle.heap_state.specs.lisp_meaning.Roles.{RoleMap}
+use Rattle.heap_state.specs.lisp_meaning.Interpretation.{interpretation}
 use Rattle.heap_state.specs.lisp_meaning.Run.{SilentFlip, SilentReclaim, collects_itself}
 use Rattle.heap_state.specs.lisp_meaning.Step.{allocated, counted, Ends, IsOverAfter, Replied, StepsBy, answer_of, answer_wanting, exceeds, exhausted, is_exhausted, is_paid, is_scavenge, may_fault, scans, wanted_by, with_over_phase}
 use Rattle.heap_state.proofs.lisp_ground.sums.Accounts.{account_agrees, areas_agree, quota_agrees}
@@ -36,10 +37,10 @@ use Rattle.heap_collect.proofs.GroundReclaims.{swept_of}
 
 module _ (m : Store) (t : Table) (registers : List Parts) (k : RoleMap) (s : State) (b : Represents m t registers k s) (area : ℕ) (inside : area < areas_of t) where
   pub account_is : account_of t area ≡ account_now s area
-  account_is = account_agrees m t k s.space.levels s.areas s.store (aim_of s.phase) b.kept area
+  account_is = account_agrees m t (interpretation k s) b.kept area
 
   pub quota_is : quota_of t area ≡ (rule_of s.areas area).quota
-  quota_is = quota_agrees m t k s.space.levels s.areas s.store (aim_of s.phase) b.kept area (let e = areas_agree m t k s.space.levels s.areas s.store (aim_of s.phase) b.kept in omega arith)
+  quota_is = quota_agrees m t (interpretation k s) b.kept area (let e = areas_agree m t (interpretation k s) b.kept in omega arith)
 
 -- Refused
 
@@ -99,8 +100,8 @@ module _ (m : Store) (t : Table) (scan : Scan) (registers : List Parts) (k : Rol
 -- the quota allows as much after the scan before it
 pub left_still : (m m' : Store) (t t' : Table) (registers registers' : List Parts) (k k' : RoleMap) (s : State) (area charge : ℕ) → Represents m t registers k s → Represents m' t' registers' k' s → area < areas_of t → account_of t area + charge ≤ quota_of t area → HasLeft t' area charge
 left_still m m' t t' registers registers' k k' s area charge b b' inside left =
-    let n = areas_agree m t k s.space.levels s.areas s.store (aim_of s.phase) b.kept in
-    let n' = areas_agree m' t' k' s.space.levels s.areas s.store (aim_of s.phase) b'.kept in
+    let n = areas_agree m t (interpretation k s) b.kept in
+    let n' = areas_agree m' t' (interpretation k' s) b'.kept in
     let a = account_is m t registers k s b area inside in
     let q = quota_is m t registers k s b area inside in
     let a' = account_is m' t' registers' k' s b' area (omega arith) in

@@ -13,6 +13,7 @@ use Rattle.heap_state.specs.lisp_meaning.Roles.{RoleMap}
 use Rattle.heap_state.specs.lisp_meaning.Sound.{Reach}
 use Rattle.heap_state.specs.lisp_meaning.Step.{Replied, Scavenges, IsOverAfter, counted, counted_phase, is_paid, with_over, with_over_phase}
 use Rattle.heap_state.specs.lisp_ground.GroundInvariant.{GroundInvariant}
+use Rattle.heap_state.specs.lisp_meaning.Interpretation.{interpretation}
 use Rattle.heap_state.specs.lisp_ground.After.{old_on}
 use Rattle.heap_state.specs.transporter.Moving.{none as nothing_moves}
 use Rattle.scavenger.specs.Scan.{Scan}
@@ -103,9 +104,9 @@ module _ (m : Store) (t : Table) (scan : Scan) (registers : List Parts) (k : Rol
   pub sweeps_of : Sweeps m t scan registers k s.store c 0
   sweeps_of = subst (λ (p : Phase). Scans m t scan registers k s.store p 0) running x.scans
 
-  pub collects_of : Collects m t scan registers k s.space.levels s.areas s.registers s.store c.aim
+  pub collects_of : Collects m t scan registers (record (interpretation k s) { aim = c.aim }) s.registers
   collects_of = record {
-    kept = subst (λ (p : Phase). GroundInvariant m t k s.space.levels s.areas s.store (aim_of p)) running x.represents.kept;
+    kept = subst (λ (p : Phase). GroundInvariant m t (record (interpretation k s) { aim = aim_of p })) running x.represents.kept;
     count = x.represents.count;
     means = x.represents.means;
     running = subst (λ (p : Phase). PhaseAgrees t p) running x.represents.aims;
@@ -117,8 +118,8 @@ module _ (m : Store) (t : Table) (scan : Scan) (registers : List Parts) (k : Rol
 
 module _ (m m' : Store) (t t' : Table) (scan scan' : Scan) (registers registers' : List Parts) (fallen : ℕ) (still : StillCollectsOn m t scan registers m' t' scan' registers' fallen) (stays : scan.over ≡ true → scan'.over ≡ true) where
   module _ (k : RoleMap) (s : State) (c : Collection) (x : RepresentsAll m t scan registers k s) (running : s.phase ≡ Running c) where
-    on : CollectsOn m t scan registers m' t' scan' registers' k s.space.levels s.areas s.registers s.store c.aim fallen
-    on = still k s.space.levels s.areas s.registers s.store c.aim (collects_of m t scan registers k s c x running)
+    on : CollectsOn m t scan registers m' t' scan' registers' (record (interpretation k s) { aim = c.aim }) s.registers fallen
+    on = still (record (interpretation k s) { aim = c.aim }) s.registers (collects_of m t scan registers k s c x running)
 
     aim_is : aim_of s.phase ≡ c.aim
     aim_is = ap aim_of running
@@ -131,7 +132,7 @@ module _ (m m' : Store) (t t' : Table) (scan scan' : Scan) (registers registers'
         record {
           map = on.map;
           represents = record {
-            kept = subst (λ (a : Condemned). GroundInvariant m' t' on.map s.space.levels s.areas s.store a) (sym aim_is) on.collects.kept;
+            kept = subst (λ (a : Condemned). GroundInvariant m' t' (record (interpretation on.map s) { aim = a })) (sym aim_is) on.collects.kept;
             count = on.collects.count;
             means = on.collects.means;
             aims = subst (λ (p : Phase). PhaseAgrees t' p) (sym running) on.collects.running;
@@ -169,7 +170,7 @@ module _ (m m' : Store) (t t' : Table) (scan scan' : Scan) (registers registers'
 
 pub phase_represents : (m : Store) (t : Table) (registers : List Parts) (k : RoleMap) (s : State) (q : Phase) → Represents m t registers k s → PhaseAgrees t q → aim_of q ≡ aim_of s.phase → Represents m t registers k (record s { phase = q })
 phase_represents m t registers k s q b aims same = record {
-  kept = subst (λ (a : Condemned). GroundInvariant m t k s.space.levels s.areas s.store a) (sym same) b.kept;
+  kept = subst (λ (a : Condemned). GroundInvariant m t (record (interpretation k s) { aim = a })) (sym same) b.kept;
   count = b.count;
   means = b.means;
   aims = aims;

@@ -22,6 +22,7 @@ use Rattle.heap_state.specs.lisp_meaning.Flip.{Settles, flipped}
 use Rattle.heap_state.specs.lisp_meaning.Roles.{RoleMap}
 use Rattle.heap_state.specs.lisp_meaning.Run.{SilentFlip, SilentReclaim, capacity_of, full_levels, is_full}
 use Rattle.heap_state.specs.lisp_ground.GroundInvariant.{GroundInvariant}
+use Rattle.heap_state.specs.lisp_meaning.Interpretation.{interpretation}
 use Rattle.heap_state.proofs.lisp_ground.sums.Levels.{level_totals_on}
 use Rattle.scavenger.specs.Scan.{Scan}
 use Rattle.heap_state.specs.RepresentsAll.{RepresentsAll}
@@ -120,8 +121,8 @@ low_levels m t scan space x =
     (omega arith, omega arith)
 
 module _ (m : Store) (t : Table) (scan : Scan) (registers : List Parts) (k : RoleMap) (s : State) (x : RepresentsAll m t scan registers k s) (idle : s.phase ≡ Idle) where
-  kept_idle : GroundInvariant m t k s.space.levels s.areas s.store no_aim
-  kept_idle = subst (λ (a : Condemned). GroundInvariant m t k s.space.levels s.areas s.store a) (ap aim_of idle) x.represents.kept
+  kept_idle : GroundInvariant m t (record (interpretation k s) { aim = no_aim })
+  kept_idle = subst (λ (a : Condemned). GroundInvariant m t (record (interpretation k s) { aim = a })) (ap aim_of idle) x.represents.kept
 
   full_same : (i : ℕ) → i < s.space.levels → is_full_on t s.space (suc i) ≡ is_full s (suc i)
   full_same i l = ap (λ (n : ℕ). nat_lt 0 (capacity_of s (suc i)) && nat_le (capacity_of s (suc i)) n) (level_totals_on m t k s kept_idle (suc i) (omega arith))

@@ -12,14 +12,13 @@ use Rattle.lisp_graph.specs.declared.object.Value.TheVariants as V
 use Rattle.lisp_graph.specs.declared.object.Body.TheVariants.{Block}
 use Rattle.lisp_graph.specs.declared.command.Command.TheVariants as C
 use Rattle.lisp_graph.specs.declared.reply.Reply.TheVariants as R
-use Rattle.lisp_graph.specs.declared.world.AreaRule.{AreaRule}
 use Rattle.lisp_graph.specs.Graph.{value_at}
 use Rattle.lisp_graph.specs.Effect.{Effect, answered, effect, grown, grown_block, grown_length, with_object}
 use Rattle.mem_port.specs.Store.{Store, StoresNothing, level_of_word}
 use Rattle.area_space.specs.Table.{Table, areas_of, live, quota_of, slot_of}
 use Rattle.area_space.specs.Accounts.{account_of}
 use Rattle.area_space.proofs.GroundLaws.{ground_same, named_same}
-use Rattle.block_store.specs.lisp_meaning.State.{Condemned, State, aim_of, object, rule_of}
+use Rattle.block_store.specs.lisp_meaning.State.{State, aim_of, object, rule_of}
 use Rattle.block_store.specs.lisp_meaning.State as M
 use Rattle.block_store.specs.lisp_meaning.Charges.{account}
 use Rattle.block_store.specs.lisp_meaning.Changes.{with_grown}
@@ -31,6 +30,7 @@ use Rattle.block_store.specs.lisp_meaning.Step.{allocated, exceeds, level_now, w
 use Rattle.block_store.proofs.lisp_meaning.invariant.Rewrites.{grown_store, live_level_is}
 use Rattle.block_store.specs.lisp_ground.Image.{ground_image, no_rest}
 use Rattle.block_store.specs.lisp_ground.GroundInvariant.{GroundInvariant}
+use Rattle.block_store.specs.lisp_meaning.Interpretation.{Interpretation, interpretation}
 use Rattle.block_store.proofs.lisp_ground.sums.Accounts.{account_agrees, areas_agree, quota_agrees}
 use Rattle.block_store.proofs.lisp_ground.words.FinalAddresses.{final_is_place, final_place, name_in_use}
 use Rattle.block_store.proofs.lisp_ground.regions.OldAndLive.{live_standing}
@@ -71,9 +71,9 @@ use Rattle.heap_commands.proofs.Sizes.{told_length}
 
 -- If nothing was stored at its words, what is represented was represented before
 
-kept_on_words : (m m' : Store) (t : Table) (k : RoleMap) (top : ℕ) (areas : List AreaRule) (s : M.Store) (aim : Condemned) → m'.words ≡ m.words → m'.levels ≡ m.levels → m'.top ≡ m.top → GroundInvariant m t k top areas s aim → GroundInvariant m' t k top areas s aim
-kept_on_words m m' t k top areas s aim words levels greatest on = record {
-  kept = subst (λ (ws : List Parts). MemoryInvariant (ground_image (record m { words = ws }) t) k top areas s aim) (sym words) on.kept;
+kept_on_words : (m m' : Store) (t : Table) (it : Interpretation) → m'.words ≡ m.words → m'.levels ≡ m.levels → m'.top ≡ m.top → GroundInvariant m t it → GroundInvariant m' t it
+kept_on_words m m' t it words levels greatest on = record {
+  kept = subst (λ (ws : List Parts). MemoryInvariant (ground_image (record m { words = ws }) t) it) (sym words) on.kept;
   ground = ground_same m m' t words levels greatest on.ground;
   named = named_same m m' t words on.named;
   table = on.table;
@@ -84,7 +84,7 @@ kept_on_words m m' t k top areas s aim words levels greatest on = record {
 back_represents : (m m' : Store) (t t' : Table) (registers : List Parts) (k : RoleMap) (s : State) → StoresNothing m m' → t' ≡ t → Represents m' t' registers k s → Represents m t registers k s
 back_represents m m' t t' registers k s stays same b =
     let c = subst (λ (u : Table). Represents m' u registers k s) same b in
-    record { kept = kept_on_words m' m t k s.space.levels s.areas s.store (aim_of s.phase) (sym stays.words) (sym stays.levels) (sym stays.top) c.kept; count = c.count; means = c.means; aims = c.aims }
+    record { kept = kept_on_words m' m t (interpretation k s) (sym stays.words) (sym stays.levels) (sym stays.top) c.kept; count = c.count; means = c.means; aims = c.aims }
 
 -- The effect of the command
 
@@ -175,7 +175,7 @@ module _ (m m' : Store) (t t' : Table) (registers : List Parts) (r wanted : ℕ)
           let size = told_length m t registers k s b r count word is low tells x in
           record {
             block = x;
-            area_is = told k s.space.levels s.areas s.store (aim_of s.phase) x.name b.kept (register_means m t k s registers b r word is low ∙ ap (λ (v : Value). Some v) x.value);
+            area_is = told (interpretation k s) x.name b.kept (register_means m t k s registers b r word is low ∙ ap (λ (v : Value). Some v) x.value);
             fewer = omega arith;
             charge_is = charge_is ∙ ap (λ (n : ℕ). suc (grown_length n wanted)) size;
           });
@@ -210,10 +210,10 @@ module _ (m : Store) (t : Table) (registers : List Parts) (r wanted : ℕ) (word
     fits_there : account x.state.space.levels x.state.store (aim_of x.state.phase) x.area + suc (grown_length (length x.growing.block.fields) wanted) ≤ (rule_of x.state.areas x.area).quota
     fits_there =
         let b = x.represents in
-        let a = account_agrees m t x.map x.state.space.levels x.state.areas x.state.store (aim_of x.state.phase) b.kept x.area in
-        let c = areas_agree m t x.map x.state.space.levels x.state.areas x.state.store (aim_of x.state.phase) b.kept in
+        let a = account_agrees m t (interpretation x.map x.state) b.kept x.area in
+        let c = areas_agree m t (interpretation x.map x.state) b.kept in
         let d = x.area_in in
-        let q = quota_agrees m t x.map x.state.space.levels x.state.areas x.state.store (aim_of x.state.phase) b.kept x.area (omega arith) in
+        let q = quota_agrees m t (interpretation x.map x.state) b.kept x.area (omega arith) in
         let charge = x.growing.charge_is in
         let fits = x.fits in
         omega arith
@@ -221,11 +221,7 @@ module _ (m : Store) (t : Table) (registers : List Parts) (r wanted : ℕ) (word
     -- the block can grow
     pub can_grow : CanGrow m t word wanted
     can_grow = record {
-      map = x.map;
-      top = x.state.space.levels;
-      areas = x.state.areas;
-      objects = x.state.store;
-      aim = aim_of x.state.phase;
+      it = interpretation x.map x.state;
       kept = x.represents.kept;
       value = value_at x.state.registers r;
       value_is = register_means m t x.map x.state registers x.represents r word is low;
@@ -264,7 +260,7 @@ module _ (m : Store) (t : Table) (registers : List Parts) (r wanted : ℕ) (word
       more = let e = size in let f = within.fewer in omega arith
 
       area : (object s.store block.name).area ≡ within.area
-      area = within.area_is k s.space.levels s.areas s.store (aim_of s.phase) block.name b.kept named_value
+      area = within.area_is (interpretation k s) block.name b.kept named_value
 
       reference : (a : ℕ) × (word.content ≡ StructAt a)
       reference = struct_at word.content struct
@@ -274,11 +270,11 @@ module _ (m : Store) (t : Table) (registers : List Parts) (r wanted : ℕ) (word
 
       stands_live : (region (ground_image m t) (k.at block.name)).standing ≡ Live
       stands_live = live_standing m t no_rest b.kept.table (k.at block.name)
-          (live_word m t k s.space.levels s.areas s.store (aim_of s.phase) b.kept (k.at block.name) block.name (ap owner (head_role m t k s.space.levels s.areas s.store (aim_of s.phase) b.kept reference.0 block.name named))
-          (place_fresh m t k s.space.levels s.areas s.store (aim_of s.phase) b.kept reference.0 block.name named (λ old. young (reference.0, ap Rattle.block_store.specs.transporter.Settling.reference_of reference.1, old)))).live
+          (live_word m t (interpretation k s) b.kept (k.at block.name) block.name (ap owner (head_role m t (interpretation k s) b.kept reference.0 block.name named))
+          (place_fresh m t (interpretation k s) b.kept reference.0 block.name named (λ old. young (reference.0, ap Rattle.block_store.specs.transporter.Settling.reference_of reference.1, old)))).live
 
       level_is : (region (ground_image m t) (k.at block.name)).level ≡ level_now s block.name
-      level_is = live_level_is (ground_image m t) k s block.name b.kept.kept (name_in_use m t k s.space.levels s.areas s.store (aim_of s.phase) b.kept AsBlock reference.0 block.name named) stands_live
+      level_is = live_level_is (ground_image m t) k s block.name b.kept.kept (name_in_use m t (interpretation k s) b.kept AsBlock reference.0 block.name named) stands_live
 
       -- the objects with the wider block
       abbrev after : M.Store
@@ -291,7 +287,7 @@ module _ (m : Store) (t : Table) (registers : List Parts) (r wanted : ℕ) (word
 
       laid_represented : RepresentsLater m t m' t' registers k s (record s { store = after }) (suc (grown_length (length block.fields) wanted))
       laid_represented =
-          let laid = grows k s.space.levels s.areas s.store (aim_of s.phase) block.name block.code (level_now s block.name) block.fields b.kept named_value block.body level_is in
+          let laid = grows (interpretation k s) block.name block.code (level_now s block.name) block.fields b.kept named_value block.body level_is in
           record {
             map = laid.map;
             represents = record { kept = laid.kept; count = b.count; means = later_means k laid.map registers s.registers laid.refines b.means; aims = aims_grown t t' s.phase preserves.grows b.aims };
@@ -317,7 +313,7 @@ module _ (m : Store) (t : Table) (registers : List Parts) (r wanted : ℕ) (word
     pub grow_places : PlacesGrowth m t registers t' r wanted
     grow_places k s _ charge b g =
         let named = register_means m t k s registers b r word is low ∙ ap (λ (v : Value). Some v) g.block.value in
-        let laid = grows k s.space.levels s.areas s.store (aim_of s.phase) g.block.name g.block.code _ g.block.fields b.kept named g.block.body refl in
+        let laid = grows (interpretation k s) g.block.name g.block.code _ g.block.fields b.kept named g.block.body refl in
         laid.placed ∙ ap (λ (n : ℕ). t.placed + n) (sym g.charge_is)
 
     -- pages get marks by the words of the wider block, and by the forward at its old place
@@ -333,7 +329,7 @@ module _ (m : Store) (t : Table) (registers : List Parts) (r wanted : ℕ) (word
       names_there = ref_named k word.content struct_there.0 g.name struct_there.1 means_there
 
       final_there : Final m.words struct_there.0 (k.at g.name)
-      final_there = final_place m t k s.space.levels s.areas s.store (aim_of s.phase) b.kept AsBlock struct_there.0 g.name names_there
+      final_there = final_place m t (interpretation k s) b.kept AsBlock struct_there.0 g.name names_there
 
       abbrev husk_there : IsHusk m m' (k.at g.name) at wanted
       husk_there = husk struct_there.0 (k.at g.name) struct_there.1 final_there
@@ -344,8 +340,8 @@ module _ (m : Store) (t : Table) (registers : List Parts) (r wanted : ℕ) (word
       abbrev marks_there : MarksGrown m t m' word.content (k.at g.name) at wanted
       marks_there = marked struct_there.0 (k.at g.name) struct_there.1 final_there
 
-      abbrev later : LaidOn m t m' t' k s.space.levels s.areas s.store (with_grown s.store g.name (grown_block (object s.store g.name).area g.code g.fields (grown_length (length g.fields) wanted)) (object s.store g.name).area (region (ground_image m t) (k.at g.name)).level (suc (length g.fields))) (aim_of s.phase) AsBlock at g.name (suc (grown_length (length g.fields) wanted))
-      later = grows k s.space.levels s.areas s.store (aim_of s.phase) g.name g.code (region (ground_image m t) (k.at g.name)).level g.fields b.kept means_there g.body refl
+      abbrev later : LaidOn m t m' t' (interpretation k s) (with_grown s.store g.name (grown_block (object s.store g.name).area g.code g.fields (grown_length (length g.fields) wanted)) (object s.store g.name).area (region (ground_image m t) (k.at g.name)).level (suc (length g.fields))) AsBlock at g.name (suc (grown_length (length g.fields) wanted))
+      later = grows (interpretation k s) g.name g.code (region (ground_image m t) (k.at g.name)).level g.fields b.kept means_there g.body refl
 
       first_word : (word_at m'.words at).content ≡ Header husk_there.code (grown_length husk_there.count wanted)
       first_word = ap (λ (a : ℕ). (word_at m'.words a).content) (let e : at ≡ at + 0 = omega arith in e) ∙ ap (λ (w : Parts). w.content) (husk_there.grown 0 (omega arith))
@@ -354,10 +350,10 @@ module _ (m : Store) (t : Table) (registers : List Parts) (r wanted : ℕ) (word
       final_here = (0, omega arith, F.here (ap forward_of first_word))
 
       place_is : at ≡ later.map.at g.name
-      place_is = final_is_place m' t' later.map s.space.levels s.areas _ (aim_of s.phase) later.kept AsBlock at g.name later.there at final_here
+      place_is = final_is_place m' t' (record (interpretation later.map s) { store = _ }) later.kept AsBlock at g.name later.there at final_here
 
       final_after : Final m'.words struct_there.0 at
-      final_after = subst (λ (a : ℕ). Final m'.words struct_there.0 a) (sym place_is) (final_place m' t' later.map s.space.levels s.areas _ (aim_of s.phase) later.kept AsBlock struct_there.0 g.name (later.refines AsBlock struct_there.0 g.name names_there))
+      final_after = subst (λ (a : ℕ). Final m'.words struct_there.0 a) (sym place_is) (final_place m' t' (record (interpretation later.map s) { store = _ }) later.kept AsBlock struct_there.0 g.name (later.refines AsBlock struct_there.0 g.name names_there))
 
       same_count : (code code' count count' : ℕ) → Header code count ≡ Header code' count' → count ≡ count'
       same_count code code' count count' e = cc

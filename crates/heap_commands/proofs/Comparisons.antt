@@ -10,9 +10,10 @@ use Rattle.lisp_graph.specs.Effect.{answered, with_register}
 use Rattle.lisp_graph.specs.Graph.{same_value, value_at}
 use Rattle.mem_port.specs.Store.{Store, StoresNothing}
 use Rattle.area_space.specs.Table.{Table}
-use Rattle.block_store.specs.lisp_meaning.State.{State, aim_of}
+use Rattle.block_store.specs.lisp_meaning.State.{State}
 use Rattle.block_store.specs.lisp_meaning.Flip.{graph_of}
 use Rattle.block_store.specs.lisp_meaning.Roles.{RoleMap}
+use Rattle.block_store.specs.lisp_meaning.Interpretation.{interpretation}
 use Rattle.block_store.specs.lisp_meaning.Sound.{Reach}
 use Rattle.block_store.specs.transporter.Settling.{RefersToOld}
 use Rattle.block_store.specs.transporter.Preserving.{RegistersPreserved}
@@ -43,7 +44,7 @@ not_fault false e = cc
 module _ (m m' : Store) (t : Table) (registers : List Parts) (left right : ℕ) (left_in : left < length registers) (right_in : right < length registers) (first second : Parts) (first_is : first ≡ get_or registers left first) (second_is : second ≡ get_or registers right second) where
   pub comparable : RepresentsState m t registers → CanCompare m.words first.content second.content
   comparable x =
-      can_compare m t x.map x.state.space.levels x.state.areas x.state.store (aim_of x.state.phase) x.represents.kept first.content second.content (get_or x.state.registers left V.Nil) (get_or x.state.registers right V.Nil)
+      can_compare m t (interpretation x.map x.state) x.represents.kept first.content second.content (get_or x.state.registers left V.Nil) (get_or x.state.registers right V.Nil)
       (value_there m t registers left left_in first first_is x.map x.state x.represents) (value_there m t registers right right_in second second_is x.map x.state x.represents)
 
   pub compared_performs : (same : Bool) (reply : Reply) → SameWord m.words first.content second.content same → reply ≡ (if same then R.True else R.Nil) → StoresNothing m m' → IsSettled t registers left → IsSettled t registers right
@@ -66,7 +67,7 @@ module _ (m m' : Store) (t : Table) (registers : List Parts) (left right : ℕ) 
 
       performed : (k : RoleMap) (s : State) → Represents m t registers k s → Reach s s.phase → FaultsOn m t m' t registers (C.Eq left right) (truth same) k s ⊎ AnswersOn m t m' t registers (C.Eq left right) (truth same) k s
       performed k s b reach =
-          let values = same_words m t k s.space.levels s.areas s.store (aim_of s.phase) b.kept first.content second.content (value_at s.registers left) (value_at s.registers right) same
+          let values = same_words m t (interpretation k s) b.kept first.content second.content (value_at s.registers left) (value_at s.registers right) same
           (value_there m t registers left left_in first first_is k s b) (value_there m t registers right right_in second second_is k s b) is in
           inr (record {
             effect_of = answered (truth (same_value (value_at s.registers left) (value_at s.registers right))) (graph_of s);

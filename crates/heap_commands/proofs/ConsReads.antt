@@ -10,9 +10,10 @@ use Rattle.lisp_graph.specs.Effect.{Effect, answered, fetched, when_cons}
 use Rattle.lisp_graph.specs.Graph.{value_at}
 use Rattle.mem_port.specs.Store.{Store, StoresNothing}
 use Rattle.area_space.specs.Table.{Table}
-use Rattle.block_store.specs.lisp_meaning.State.{State, aim_of}
+use Rattle.block_store.specs.lisp_meaning.State.{State}
 use Rattle.block_store.specs.lisp_meaning.Flip.{graph_of}
 use Rattle.block_store.specs.lisp_meaning.Roles.{RoleMap}
+use Rattle.block_store.specs.lisp_meaning.Interpretation.{interpretation}
 use Rattle.block_store.specs.lisp_meaning.Sound.{Reach}
 use Rattle.block_store.specs.transporter.Marking.{MarksFollow}
 use Rattle.block_store.specs.transporter.Preserving.{NoOldAddresses, PreservesScanned}
@@ -31,17 +32,17 @@ module _ (m m1 : Store) (t t1 : Table) (registers : List Parts) (to from : ℕ) 
   held : (k : RoleMap) (s : State) → Represents m t registers k s → IsConsValue s.store (get_or s.registers from V.Nil)
   held k s b =
       let a = list_tagged of.content list in
-      cons_value m t k s.space.levels s.areas s.store (aim_of s.phase) b.kept of.content (get_or s.registers from V.Nil) a.0 (value_there m t registers from from_in of read k s b) a.1
+      cons_value m t (interpretation k s) b.kept of.content (get_or s.registers from V.Nil) a.0 (value_there m t registers from from_in of read k s b) a.1
 
-  can_here : (k : RoleMap) (s : State) (b : Represents m t registers k s) → Reach s s.phase → CanRead m t k s.space.levels s.areas s.registers s.store (aim_of s.phase) of.content (V.Ref (held k s b).name)
-  can_here k s b reach = read_name m t k s.space.levels s.areas s.registers s.store (aim_of s.phase) of.content (get_or s.registers from V.Nil) (held k s b).name (held k s b).value (can_read m t registers from from_in of read k s b reach)
+  can_here : (k : RoleMap) (s : State) (b : Represents m t registers k s) → Reach s s.phase → CanRead m t (interpretation k s) s.registers of.content (V.Ref (held k s b).name)
+  can_here k s b reach = read_name m t (interpretation k s) s.registers of.content (get_or s.registers from V.Nil) (held k s b).name (held k s b).value (can_read m t registers from from_in of read k s b reach)
 
   pub car_fetches : ReadsCar m t m1 t1 of.content word → FetchesAll m t registers m1 t1 (C.Car to from) to word
   car_fetches reads k s b reach =
       let v = held k s b in
       record {
         value = v.car;
-        means = reads k s.space.levels s.areas s.registers s.store (aim_of s.phase) v.name v.car v.cdr (can_here k s b reach) v.body;
+        means = reads (interpretation k s) s.registers v.name v.car v.cdr (can_here k s b reach) v.body;
         is = ap (λ (e : Effect). Some e) (cons_case s.store.objects (value_at s.registers from) v.name v.car v.cdr (λ name car cdr. fetched (graph_of s) to car) (answered R.WrongType (graph_of s)) v.value v.body);
       }
 
@@ -50,7 +51,7 @@ module _ (m m1 : Store) (t t1 : Table) (registers : List Parts) (to from : ℕ) 
       let v = held k s b in
       record {
         value = v.cdr;
-        means = reads k s.space.levels s.areas s.registers s.store (aim_of s.phase) v.name v.car v.cdr (can_here k s b reach) v.body;
+        means = reads (interpretation k s) s.registers v.name v.car v.cdr (can_here k s b reach) v.body;
         is = ap (λ (e : Effect). Some e) (cons_case s.store.objects (value_at s.registers from) v.name v.car v.cdr (λ name car cdr. fetched (graph_of s) to cdr) (answered R.WrongType (graph_of s)) v.value v.body);
       }
 
@@ -60,12 +61,12 @@ module _ (m m1 : Store) (t t1 : Table) (registers : List Parts) (from : ℕ) (fr
   pub no_cons : (found : State → ℕ → Value → Value → Effect) → tag_of of.content ≢ ListTag → (k : RoleMap) (s : State) → Represents m t registers k s
       → Some (when_cons s.store.objects (value_at s.registers from) (found s) (answered R.WrongType (graph_of s))) ≡ Some (answered R.WrongType (graph_of s))
   no_cons found other k s b =
-      ap (λ (e : Effect). Some e) (not_cons m t k s.space.levels s.areas s.store (aim_of s.phase) b.kept of.content (value_at s.registers from) (found s) (answered R.WrongType (graph_of s)) (value_there m t registers from from_in of read k s b) other)
+      ap (λ (e : Effect). Some e) (not_cons m t (interpretation k s) b.kept of.content (value_at s.registers from) (found s) (answered R.WrongType (graph_of s)) (value_there m t registers from from_in of read k s b) other)
 
   -- it kept what was represented
   pub kept_represented : KeepsCons m t m1 t1 of.content → PreservesScanned m t m1 t1 → RepresentsSame m t registers m1 t1 registers
   kept_represented kept preserves k s b reach =
-      later_represented m m1 t t1 registers k s preserves.grows b (kept k s.space.levels s.areas s.registers s.store (aim_of s.phase) (get_or s.registers from V.Nil) (can_read m t registers from from_in of read k s b reach))
+      later_represented m m1 t t1 registers k s preserves.grows b (kept (interpretation k s) s.registers (get_or s.registers from V.Nil) (can_read m t registers from from_in of read k s b reach))
 
   pub kept_leaves : KeepsCons m t m1 t1 of.content → PreservesScanned m t m1 t1 → (NoOldAddresses m t → NoOldAddresses m1 t1) → MarksFollow m t m1 t1 → Leaves m t registers m1 t1 registers
   kept_leaves kept preserves stays_fresh marks = record {

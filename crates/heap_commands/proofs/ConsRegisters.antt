@@ -11,15 +11,15 @@ use Rattle.lisp_graph.specs.declared.object.Body.{Body}
 use Rattle.lisp_graph.specs.declared.object.Body.TheVariants.{Cons}
 use Rattle.lisp_graph.specs.declared.object.Value.{Value}
 use Rattle.lisp_graph.specs.declared.object.Value.TheVariants as V
-use Rattle.lisp_graph.specs.declared.world.AreaRule.{AreaRule}
 use Rattle.lisp_graph.specs.Effect.{when_cons, when_cons_body}
 use Rattle.lisp_graph.specs.Graph.{object_at}
 use Rattle.mem_port.specs.Store as Memory
 use Rattle.area_space.specs.Table.{Table}
-use Rattle.block_store.specs.lisp_meaning.State.{Condemned, State, Store, aim_of, object}
+use Rattle.block_store.specs.lisp_meaning.State.{State, Store, object}
 use Rattle.block_store.specs.lisp_meaning.Roles.{AsBlock, AsCons, RoleMap, value_of}
 use Rattle.block_store.specs.lisp_meaning.Sound.{Reach}
 use Rattle.block_store.specs.lisp_ground.GroundInvariant.{GroundInvariant}
+use Rattle.block_store.specs.lisp_meaning.Interpretation.{Interpretation, interpretation}
 use Rattle.block_store.proofs.lisp_ground.words.References.{references_lead}
 use Rattle.block_store.specs.transporter.Settling.{RefersToOld}
 use Rattle.heap_state.specs.Consistent.{RepresentsState}
@@ -36,7 +36,7 @@ module _ (m : Memory.Store) (t : Table) (registers : List Parts) (r : ℕ) (low 
   value_there k s b = ap (λ (w : Parts). value_of k.role w.content) (get_or_read registers r of low read null_word) ∙ b.means r (let count = b.count in omega arith)
 
   -- can be read as a cons
-  pub can_read : (k : RoleMap) (s : State) → Represents m t registers k s → Reach s s.phase → CanRead m t k s.space.levels s.areas s.registers s.store (aim_of s.phase) of.content (get_or s.registers r V.Nil)
+  pub can_read : (k : RoleMap) (s : State) → Represents m t registers k s → Reach s s.phase → CanRead m t (interpretation k s) s.registers of.content (get_or s.registers r V.Nil)
   can_read k s b reach = record {
     kept = b.kept;
     value_is = value_there k s b;
@@ -48,12 +48,8 @@ module _ (m : Memory.Store) (t : Table) (registers : List Parts) (r : ℕ) (low 
 
   pub readable : RepresentsState m t registers → IsSettled t registers r → IsReadable m t of
   readable x settled = record {
-    map = x.map;
-    top = x.state.space.levels;
-    areas = x.state.areas;
+    it = interpretation x.map x.state;
     registers = x.state.registers;
-    objects = x.state.store;
-    aim = aim_of x.state.phase;
     value = get_or x.state.registers r V.Nil;
     can = can_read x.map x.state x.represents x.reach;
     fresh = settled_word settled;
@@ -92,28 +88,28 @@ pub record IsConsValue (s : Store) (v : Value) : Type 0 where
   pub body : (object s name).body ≡ Cons car cdr
 
 -- it can be read by its name
-pub read_name : (m : Memory.Store) (t : Table) (k : RoleMap) (top : ℕ) (areas : List AreaRule) (registers : List Value) (s : Store) (aim : Condemned) (c : Content) (v : Value) (n : ℕ) → v ≡ V.Ref n → CanRead m t k top areas registers s aim c v → CanRead m t k top areas registers s aim c (V.Ref n)
-read_name m t k top areas registers s aim c v n is can = subst (CanRead m t k top areas registers s aim c) is can
+pub read_name : (m : Memory.Store) (t : Table) (it : Interpretation) (registers : List Value) (c : Content) (v : Value) (n : ℕ) → v ≡ V.Ref n → CanRead m t it registers c v → CanRead m t it registers c (V.Ref n)
+read_name m t it registers c v n is can = subst (CanRead m t it registers c) is can
 
 value_is : (v w : Value) → Some v ≡ Some w → w ≡ v
 value_is v w e = cc
 
-module _ (m : Memory.Store) (t : Table) (k : RoleMap) (top : ℕ) (areas : List AreaRule) (s : Store) (aim : Condemned) (on : GroundInvariant m t k top areas s aim) where
+module _ (m : Memory.Store) (t : Table) (it : Interpretation) (on : GroundInvariant m t it) where
   -- that of a word tagged LIST is one
-  pub cons_value : (c : Content) (v : Value) (a : ℕ) → value_of k.role c ≡ Some v → c ≡ ListAt a → IsConsValue s v
+  pub cons_value : (c : Content) (v : Value) (a : ℕ) → value_of it.map.role c ≡ Some v → c ≡ ListAt a → IsConsValue it.store v
   cons_value c v a is list =
-      let r = references_lead.values m t k top areas s aim on AsCons a v (sym (ap (value_of k.role) list) ∙ is) in
-      let c = references_lead.conses m t k top areas s aim on r.name r.leads.used r.leads.kind_is in
+      let r = references_lead.values m t it on AsCons a v (sym (ap (value_of it.map.role) list) ∙ is) in
+      let c = references_lead.conses m t it on r.name r.leads.used r.leads.kind_is in
       record { name = r.name; value = r.value; car = c.car; cdr = c.cdr; body = c.body }
 
   -- and that of another word isn't
-  pub not_cons : {A : Type 0} (c : Content) (v : Value) (found : ℕ → Value → Value → A) (other : A) → value_of k.role c ≡ Some v → tag_of c ≢ ListTag → when_cons s.objects v found other ≡ other
-  not_cons {A} NilWord v found other is wrong = ap (λ (x : Value). when_cons s.objects x found other) (value_is V.Nil v is)
-  not_cons {A} (Fixnum i) v found other is wrong = ap (λ (x : Value). when_cons s.objects x found other) (value_is (V.Fix i) v is)
+  pub not_cons : {A : Type 0} (c : Content) (v : Value) (found : ℕ → Value → Value → A) (other : A) → value_of it.map.role c ≡ Some v → tag_of c ≢ ListTag → when_cons it.store.objects v found other ≡ other
+  not_cons {A} NilWord v found other is wrong = ap (λ (x : Value). when_cons it.store.objects x found other) (value_is V.Nil v is)
+  not_cons {A} (Fixnum i) v found other is wrong = ap (λ (x : Value). when_cons it.store.objects x found other) (value_is (V.Fix i) v is)
   not_cons {A} (StructAt a) v found other is wrong =
-      let r = references_lead.values m t k top areas s aim on AsBlock a v is in
-      let b = references_lead.blocks m t k top areas s aim on r.name r.leads.used r.leads.kind_is in
-      ap (λ (x : Value). when_cons s.objects x found other) r.value ∙ ap (λ (body : Body). when_cons_body body (found r.name) other) b.body
+      let r = references_lead.values m t it on AsBlock a v is in
+      let b = references_lead.blocks m t it on r.name r.leads.used r.leads.kind_is in
+      ap (λ (x : Value). when_cons it.store.objects x found other) r.value ∙ ap (λ (body : Body). when_cons_body body (found r.name) other) b.body
   not_cons {A} (ListAt a) v found other is wrong = absurd (wrong refl)
   not_cons {A} Null v found other is wrong = absurd (let x : None ≡ Some v = is in cc)
   not_cons {A} (Header i j) v found other is wrong = absurd (let x : None ≡ Some v = is in cc)

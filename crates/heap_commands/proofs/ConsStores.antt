@@ -12,10 +12,11 @@ use Rattle.lisp_graph.specs.Effect.{Effect, answered, effect, stored}
 use Rattle.lisp_graph.specs.Graph.{value_at}
 use Rattle.mem_port.specs.Store.{Store}
 use Rattle.area_space.specs.Table.{Table}
-use Rattle.block_store.specs.lisp_meaning.State.{State, aim_of}
+use Rattle.block_store.specs.lisp_meaning.State.{State}
 use Rattle.block_store.specs.lisp_meaning.Changes.{put_body}
 use Rattle.block_store.specs.lisp_meaning.Flip.{graph_of}
 use Rattle.block_store.specs.lisp_meaning.Roles.{RoleMap}
+use Rattle.block_store.specs.lisp_meaning.Interpretation.{interpretation}
 use Rattle.block_store.specs.lisp_meaning.Sound.{Reach}
 use Rattle.block_store.specs.lisp_meaning.Step.{may_fault, owed_by}
 use Rattle.block_store.specs.transporter.Preserving.{NoOldAddresses, PreservesScanned}
@@ -36,7 +37,7 @@ use Rattle.heap_commands.proofs.ConsRegisters.{IsConsValue, can_read, cons_case,
 pub record StoresBody (m : Store) (t : Table) (m' : Store) (t' : Table) (k : RoleMap) (s : State) (c : Command) : Type 0 where
   pub name : ℕ
   pub body : Body
-  pub set : SetOn m t m' t' k s.space.levels s.areas s.store (put_body s.store name body) (aim_of s.phase) (owed_by c R.Fine)
+  pub set : SetOn m t m' t' (interpretation k s) (put_body s.store name body) (owed_by c R.Fine)
   pub is : effect (graph_of s) c ≡ Some (stored (graph_of s) name body)
 
 sure : R.Fine ≡ R.Fault → ⊥
@@ -99,10 +100,10 @@ module _ (m m' : Store) (t t' : Table) (registers : List Parts) (target from : �
     held : (k : RoleMap) (s : State) → Represents m t registers k s → IsConsValue s.store (get_or s.registers target V.Nil)
     held k s b =
         let a = list_tagged of.content list in
-        cons_value m t k s.space.levels s.areas s.store (aim_of s.phase) b.kept of.content (get_or s.registers target V.Nil) a.0 (value_there m t registers target target_in of read k s b) a.1
+        cons_value m t (interpretation k s) b.kept of.content (get_or s.registers target V.Nil) a.0 (value_there m t registers target target_in of read k s b) a.1
 
-    can_here : (k : RoleMap) (s : State) (b : Represents m t registers k s) → Reach s s.phase → CanRead m t k s.space.levels s.areas s.registers s.store (aim_of s.phase) of.content (V.Ref (held k s b).name)
-    can_here k s b reach = read_name m t k s.space.levels s.areas s.registers s.store (aim_of s.phase) of.content (get_or s.registers target V.Nil) (held k s b).name (held k s b).value (can_read m t registers target target_in of read k s b reach)
+    can_here : (k : RoleMap) (s : State) (b : Represents m t registers k s) → Reach s s.phase → CanRead m t (interpretation k s) s.registers of.content (V.Ref (held k s b).name)
+    can_here k s b reach = read_name m t (interpretation k s) s.registers of.content (get_or s.registers target V.Nil) (held k s b).name (held k s b).value (can_read m t registers target target_in of read k s b reach)
 
     pub car_stores : SetsCar m t m' t' of.content value.content → (k : RoleMap) (s : State) → Represents m t registers k s → Reach s s.phase → StoresBody m t m' t' k s (C.Rplaca target from)
     car_stores sets k s b reach =
@@ -110,7 +111,7 @@ module _ (m m' : Store) (t t' : Table) (registers : List Parts) (target from : �
         record {
           name = v.name;
           body = B.Cons (value_at s.registers from) v.cdr;
-          set = sets k s.space.levels s.areas s.registers s.store (aim_of s.phase) v.name v.car v.cdr (value_at s.registers from) (can_here k s b reach) v.body (value_there m t registers from from_in value value_read k s b);
+          set = sets (interpretation k s) s.registers v.name v.car v.cdr (value_at s.registers from) (can_here k s b reach) v.body (value_there m t registers from from_in value value_read k s b);
           is = ap (λ (e : Effect). Some e) (cons_case s.store.objects (value_at s.registers target) v.name v.car v.cdr (λ name car cdr. stored (graph_of s) name (B.Cons (value_at s.registers from) cdr)) (answered R.WrongType (graph_of s)) v.value v.body);
         }
 
@@ -120,6 +121,6 @@ module _ (m m' : Store) (t t' : Table) (registers : List Parts) (target from : �
         record {
           name = v.name;
           body = B.Cons v.car (value_at s.registers from);
-          set = sets k s.space.levels s.areas s.registers s.store (aim_of s.phase) v.name v.car v.cdr (value_at s.registers from) (can_here k s b reach) v.body (value_there m t registers from from_in value value_read k s b);
+          set = sets (interpretation k s) s.registers v.name v.car v.cdr (value_at s.registers from) (can_here k s b reach) v.body (value_there m t registers from from_in value value_read k s b);
           is = ap (λ (e : Effect). Some e) (cons_case s.store.objects (value_at s.registers target) v.name v.car v.cdr (λ name car cdr. stored (graph_of s) name (B.Cons car (value_at s.registers from))) (answered R.WrongType (graph_of s)) v.value v.body);
         }

@@ -11,9 +11,10 @@ use Rattle.lisp_graph.specs.Graph.{value_at}
 use Rattle.lisp_graph.specs.Effect.{Effect, answered, effect, fetched, when_field}
 use Rattle.mem_port.specs.Store.{Store}
 use Rattle.area_space.specs.Table.{Table}
-use Rattle.block_store.specs.lisp_meaning.State.{State, aim_of}
+use Rattle.block_store.specs.lisp_meaning.State.{State}
 use Rattle.block_store.specs.lisp_meaning.Flip.{graph_of}
 use Rattle.block_store.specs.lisp_meaning.Roles.{RoleMap}
+use Rattle.block_store.specs.lisp_meaning.Interpretation.{interpretation}
 use Rattle.block_store.specs.lisp_meaning.Sound.{Reach}
 use Rattle.block_store.specs.transporter.Settling.{RefersToOld}
 use Rattle.block_store.specs.transporter.Marking.{MarksFollow}
@@ -39,7 +40,7 @@ use Rattle.heap_commands.proofs.Sizes.{told_length}
 use Rattle.heap_commands.proofs.FieldStores.{field_found, field_lacks}
 
 module _ (m : Store) (t : Table) (registers : List Parts) (from : ℕ) (of : Parts) (is : of ≡ get_or registers from of) (from_in : from < length registers) where
-  can_here : (k : RoleMap) (s : State) → Represents m t registers k s → Reach s s.phase → CanRead m t k s.space.levels s.areas s.registers s.store (aim_of s.phase) of.content (value_at s.registers from)
+  can_here : (k : RoleMap) (s : State) → Represents m t registers k s → Reach s s.phase → CanRead m t (interpretation k s) s.registers of.content (value_at s.registers from)
   can_here k s b reach = record {
     kept = b.kept;
     value_is = register_means m t k s registers b from of is from_in;
@@ -49,12 +50,8 @@ module _ (m : Store) (t : Table) (registers : List Parts) (from : ℕ) (of : Par
   -- the word in a settled register can be read through
   pub field_readable : RepresentsState m t registers → IsSettled t registers from → IsReadable m t of
   field_readable x settled = record {
-    map = x.map;
-    top = x.state.space.levels;
-    areas = x.state.areas;
+    it = interpretation x.map x.state;
     registers = x.state.registers;
-    objects = x.state.store;
-    aim = aim_of x.state.phase;
     value = value_at x.state.registers from;
     can = can_here x.map x.state x.represents x.reach;
     fresh = subst (λ (w : Parts). RefersToOld t w → ⊥) (sym (get_or_read registers from of from_in is null_word)) settled;
@@ -75,7 +72,7 @@ module _ (m : Store) (t : Table) (registers : List Parts) (from : ℕ) (of : Par
         let size = told_length m t registers k s b from count of is from_in tells x in
         record {
           value = value_at x.fields index;
-          means = read k s.space.levels s.areas s.registers s.store (aim_of s.phase) x.name x.code x.fields (subst (λ (v : Value). CanRead m t k s.space.levels s.areas s.registers s.store (aim_of s.phase) of.content v) x.value (can_here k s b reach)) x.body;
+          means = read (interpretation k s) s.registers x.name x.code x.fields (subst (λ (v : Value). CanRead m t (interpretation k s) s.registers of.content v) x.value (can_here k s b reach)) x.body;
           is = effect_there k s x ∙ ap (λ (e : Effect). Some e) (field_found (graph_of s) x.fields index (fetched (graph_of s) to (value_at x.fields index)) (omega arith));
         }
 
@@ -84,7 +81,7 @@ module _ (m : Store) (t : Table) (registers : List Parts) (from : ℕ) (of : Par
     module _ (keeps : KeepsBlock m t m' t' of.content) (preserves : PreservesScanned m t m' t') (stays_fresh : NoOldAddresses m t → NoOldAddresses m' t') (marks : MarksFollow m t m' t') where
       left : Leaves m t registers m' t' registers
       left = record {
-        represented = λ k s b reach. later_represented m m' t t' registers k s preserves.grows b (keeps k s.space.levels s.areas s.registers s.store (aim_of s.phase) (value_at s.registers from) (can_here k s b reach));
+        represented = λ k s b reach. later_represented m m' t t' registers k s preserves.grows b (keeps (interpretation k s) s.registers (value_at s.registers from) (can_here k s b reach));
         preserves = preserves;
         others = registers_same t' registers;
         stays_fresh = λ fresh words. stays_fresh words;

@@ -13,10 +13,11 @@ use Rattle.lisp_graph.specs.Graph.{Graph, value_at}
 use Rattle.lisp_graph.specs.Effect.{Effect, answered, effect, stored, when_field}
 use Rattle.mem_port.specs.Store.{Store, StoresNothing}
 use Rattle.area_space.specs.Table.{Table}
-use Rattle.block_store.specs.lisp_meaning.State.{State, aim_of}
+use Rattle.block_store.specs.lisp_meaning.State.{State}
 use Rattle.block_store.specs.lisp_meaning.Changes.{put_body}
 use Rattle.block_store.specs.lisp_meaning.Flip.{graph_of}
 use Rattle.block_store.specs.lisp_meaning.Roles.{RoleMap}
+use Rattle.block_store.specs.lisp_meaning.Interpretation.{interpretation}
 use Rattle.block_store.specs.transporter.Preserving.{NoOldAddresses, PreservesScanned}
 use Rattle.block_store.specs.Headers.{TellsLength}
 use Rattle.block_store.specs.declared.fault.BlockFault.{BlockFault}
@@ -48,11 +49,7 @@ field_lacks graph fields index found past = rw (le-ltb index (length fields) pas
 -- what can be written
 pub can_set : (m : Store) (t : Table) (registers : List Parts) (target from : ℕ) (block word : Parts) → block ≡ get_or registers target block → word ≡ get_or registers from word → RepresentsState m t registers → target < length registers → from < length registers → IsSettled t registers from → CanSet m t block.content word
 can_set m t registers target from block word block_is word_is x target_low from_low settled = record {
-  map = x.map;
-  top = x.state.space.levels;
-  areas = x.state.areas;
-  objects = x.state.store;
-  aim = aim_of x.state.phase;
+  it = interpretation x.map x.state;
   kept = x.represents.kept;
   value = value_at x.state.registers target;
   value_is = register_means m t x.map x.state registers x.represents target block block_is target_low;
@@ -104,7 +101,7 @@ module _ (m m' : Store) (t t' : Table) (registers : List Parts) (target index fr
         let refers = register_means m t k s registers b target block block_is target_low in
         let x = struct_block m t k s registers b block.content (value_at s.registers target) refers struct in
         let size = told_length m t registers k s b target count block block_is target_low tells x in
-        let after = sets k s.space.levels s.areas s.store (aim_of s.phase) x.name x.code x.fields (value_at s.registers from) b.kept (refers ∙ ap (λ (v : Value). Some v) x.value) x.body (register_means m t k s registers b from word word_is from_low) in
+        let after = sets (interpretation k s) x.name x.code x.fields (value_at s.registers from) b.kept (refers ∙ ap (λ (v : Value). Some v) x.value) x.body (register_means m t k s registers b from word word_is from_low) in
         let s' : State = record s { store = put_body s.store x.name (Block x.code (slice_set x.fields index (value_at s.registers from))) } in
         let represented : RepresentsLater m t m' t registers k s s' 0 = record {
           map = k;

@@ -10,11 +10,12 @@ use Rattle.mem_port.specs.Store.{Store}
 use Rattle.area_space.specs.Accounts.{account_of}
 use Rattle.area_space.specs.Table.{Table, areas_of, levels_of, quota_of}
 use Rattle.area_space.specs.Sound.{IsTable}
-use Rattle.block_store.specs.lisp_meaning.State.{State, aim_of, new_level, rule_of}
+use Rattle.block_store.specs.lisp_meaning.State.{State, new_level, rule_of}
 use Rattle.block_store.specs.lisp_meaning.State as M
 use Rattle.block_store.specs.lisp_meaning.Changes.{with_made}
 use Rattle.block_store.specs.lisp_meaning.Flip.{graph_of}
 use Rattle.block_store.specs.lisp_meaning.Roles.{RoleMap, as_ref, value_of}
+use Rattle.block_store.specs.lisp_meaning.Interpretation.{interpretation}
 use Rattle.block_store.specs.transporter.Making.{PlacesNew}
 use Rattle.block_store.specs.transporter.Marking.{MarksFollow}
 use Rattle.block_store.specs.transporter.Preserving.{NoOldAddresses, PreservesScanned}
@@ -31,11 +32,7 @@ use Rattle.heap_state.proofs.CommandEffects.{performs_fault, set_others}
 -- a block can be made
 pub can_make : (m : Store) (t : Table) (registers : List Parts) (area level count : ℕ) → RepresentsState m t registers → area < areas_of t → level < levels_of t → account_of t area + (count + 1) ≤ quota_of t area → CanMake m t area level count
 can_make m t registers area level count x area_in level_in fits = record {
-  map = x.map;
-  top = x.state.space.levels;
-  areas = x.state.areas;
-  objects = x.state.store;
-  aim = aim_of x.state.phase;
+  it = interpretation x.map x.state;
   kept = x.represents.kept;
   quota = quota_left m t registers x.map x.state area level (suc count) x.represents area_in level_in (omega arith);
 }
@@ -55,7 +52,7 @@ module _ (m m' : Store) (t t' : Table) (registers : List Parts) (to area level c
       (placed : PlacesNew t t' area level at (count + 1) (count + 1)) where
     -- the table is sound afterwards, since some state is represented
     pub table_there : (k : RoleMap) (s : State) → Represents m t registers k s → IsTable t'
-    table_there k s b = (makes k s.space.levels s.areas s.store (aim_of s.phase) b.kept (quota_left m t registers k s area level (suc count) b area_in level_in (omega arith))).kept.table
+    table_there k s b = (makes (interpretation k s) b.kept (quota_left m t registers k s area level (suc count) b area_in level_in (omega arith))).kept.table
 
     module _ (k : RoleMap) (s : State) (b : Represents m t registers k s) (level_is : level ≡ new_level (rule_of s.areas area).kind) where
       -- the objects with the new one
@@ -65,7 +62,7 @@ module _ (m m' : Store) (t t' : Table) (registers : List Parts) (to area level c
       make_represented : RepresentsLater m t m' t' (slice_set registers to word) k s (record s { registers = slice_set s.registers to (V.Ref (length s.store.objects)); store = after }) (suc count)
       make_represented =
           let quota = quota_left m t registers k s area level (suc count) b area_in level_in (omega arith) in
-          let made = makes k s.space.levels s.areas s.store (aim_of s.phase) b.kept quota in
+          let made = makes (interpretation k s) b.kept quota in
           let of_level : RepresentsLater m t m' t' (slice_set registers to word) k s (record s { registers = slice_set s.registers to (V.Ref (length s.store.objects)); store = with_made s.store (block_of area code count ∷ []) level }) (suc count) =
           made_represented m m' t t' registers k made.map s (with_made s.store (block_of area code count ∷ []) level) to word (V.Ref (length s.store.objects)) (count + 1) (suc count) preserves.grows b made.kept made.refines low
           (ap (value_of made.map.role) is ∙ ap as_ref made.there) made.old (placed_more t t' area level at (count + 1) (count + 1) placed) (omega arith) in

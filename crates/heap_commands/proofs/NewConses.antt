@@ -19,10 +19,11 @@ use Rattle.lisp_graph.specs.Graph.{value_at}
 use Rattle.mem_port.specs.Store.{Store}
 use Rattle.area_space.specs.Accounts.{account_of}
 use Rattle.area_space.specs.Table.{Table, areas_of, levels_of, quota_of}
-use Rattle.block_store.specs.lisp_meaning.State.{State, aim_of}
+use Rattle.block_store.specs.lisp_meaning.State.{State}
 use Rattle.block_store.specs.lisp_meaning.Changes.{with_made}
 use Rattle.block_store.specs.lisp_meaning.Flip.{graph_of}
 use Rattle.block_store.specs.lisp_meaning.Roles.{AsCons, RoleMap, as_ref, value_of}
+use Rattle.block_store.specs.lisp_meaning.Interpretation.{interpretation}
 use Rattle.block_store.specs.lisp_meaning.Step.{allocated}
 use Rattle.block_store.specs.transporter.Making.{HasQuota, MadeOn, PlacesNew}
 use Rattle.block_store.specs.transporter.Marking.{MarksFollow}
@@ -49,8 +50,8 @@ stays_leaves_at m m' t t' registers stays preserves stays_fresh marks = record {
 -- objects were made in a class, and a register refers to the first of them
 module _ (m m' : Store) (t t' : Table) (registers : List Parts) (c : Command) (to area level at words charge : ℕ) (word : Parts) (to_in : to < length registers) (word_is : word.content ≡ ListAt at) (preserves : PreservesScanned m t m' t') (placed : PlacesNew t t' area level at words charge) (few : words ≤ charge)
     (stays_fresh : NoOldAddressesInRegisters t registers → NoOldAddresses m t → NoOldAddresses m' t') (marks : MarksOf c R.Fine m t m' t') (settled : (i : ℕ) → IsTrue (reads c i) → (i < length registers) × IsSettled t registers i) where
-  made_performs : (k : RoleMap) (s : State) (objects : List Object) → Represents m t registers k s → HasQuota s.space.levels s.areas s.store (aim_of s.phase) area level charge → effect (graph_of s) c ≡ Some (made (graph_of s) to area charge objects)
-      → MadeOn m t m' t' k s.space.levels s.areas s.store (with_made s.store objects level) (aim_of s.phase) AsCons at
+  made_performs : (k : RoleMap) (s : State) (objects : List Object) → Represents m t registers k s → HasQuota (interpretation k s) area level charge → effect (graph_of s) c ≡ Some (made (graph_of s) to area charge objects)
+      → MadeOn m t m' t' (interpretation k s) (with_made s.store objects level) AsCons at
       → allocated s c area (made (graph_of s) to area charge objects).graph ≡ record s { registers = slice_set s.registers to (V.Ref (length s.store.objects)); store = with_made s.store objects level }
       → PerformsOn m t registers m' t' (slice_set registers to word) c R.Fine k s
   made_performs k s objects b quota is x after = record {
@@ -73,11 +74,7 @@ module _ (m : Store) (t : Table) (registers : List Parts) (area level car cdr : 
     (area_in : area < areas_of t) (level_in : level < levels_of t) (fits : account_of t area + 2 ≤ quota_of t area) where
   pub can_pair : RepresentsState m t registers → CanPair m t area level 2 first second
   can_pair x = record {
-    map = x.map;
-    top = x.state.space.levels;
-    areas = x.state.areas;
-    objects = x.state.store;
-    aim = aim_of x.state.phase;
+    it = interpretation x.map x.state;
     kept = x.represents.kept;
     charges = inl refl;
     quota = quota_left m t registers x.map x.state area level 2 x.represents area_in level_in fits;
@@ -95,7 +92,7 @@ module _ (m : Store) (t : Table) (registers : List Parts) (area level car cdr : 
       let quota = quota_left m t registers k s area level 2 b area_in level_in fits in
       let a = value_at s.registers car in
       let d = value_at s.registers cdr in
-      let x = paired k s.space.levels s.areas s.store (aim_of s.phase) a d b.kept quota (value_there m t registers car car_in first first_is k s b) (value_there m t registers cdr cdr_in second second_is k s b) in
+      let x = paired (interpretation k s) a d b.kept quota (value_there m t registers car car_in first first_is k s b) (value_there m t registers cdr cdr_in second second_is k s b) in
       made_performs m m' t t' registers (C.Cons to area car cdr) to area level at 2 2 word to_in word_is preserves placed (omega arith) (pair_stays_fresh m' t' stays_fresh) marks settled k s (pair_of area a d ∷ []) b quota refl x
       (ap (λ (l : ℕ). record s { registers = slice_set s.registers to (V.Ref (length s.store.objects)); store = with_made s.store (pair_of area a d ∷ []) l }) (sym level_is))
     where
@@ -131,11 +128,7 @@ module _ (m : Store) (t : Table) (registers : List Parts) (area level : ℕ) (it
 
   pub can_list : RepresentsState m t registers → CanList m t area level registers items
   can_list x = record {
-    map = x.map;
-    top = x.state.space.levels;
-    areas = x.state.areas;
-    objects = x.state.store;
-    aim = aim_of x.state.phase;
+    it = interpretation x.map x.state;
     kept = x.represents.kept;
     some = some;
     few = few;
@@ -154,7 +147,7 @@ module _ (m : Store) (t : Table) (registers : List Parts) (area level : ℕ) (it
   list_performs m' t' to at word to_in word_is preserves placed stays_fresh marks all_settled listed k s b reach level_is =
       let quota = quota_left m t registers k s area level (3 * length items) b area_in level_in fits in
       let values = map (value_at s.registers) items in
-      let x = listed k s.space.levels s.areas s.store (aim_of s.phase) values b.kept quota (means k s b) in
+      let x = listed (interpretation k s) values b.kept quota (means k s b) in
       made_performs m m' t t' registers (C.List to area items) to area level at (length items) (3 * length items) word to_in word_is preserves placed (omega arith) (list_stays_fresh m' t' stays_fresh) marks
       (λ i h. (item_among (λ item. item < length registers) items i inside h, item_among (IsSettled t registers) items i all_settled h)) k s (list_from area (length s.store.objects) values) b quota refl x
       (ap (λ (l : ℕ). record s { registers = slice_set s.registers to (V.Ref (length s.store.objects)); store = with_made s.store (list_from area (length s.store.objects) values) l }) (sym level_is))

@@ -104,20 +104,20 @@ none_of (Some n) h = absurd (h refl)
 pub pair_marked : (m m' : Store) (t t' : Table) (area level : ℕ) (first second : Parts) (at : ℕ) (word : Parts) → CanPair m t area level 2 first second → PairedOn m t m' t' area level 2 first second at → PlacesNew t t' area level at 2 2 → word.content ≡ ListAt at
     → word_at m'.words at ≡ first_word first → MarksByWords m m' at 2 → MarksMade m t m' t' word 2
 pair_marked m m' t t' area level first second at word can paired places is first_is marks =
-    let made = paired can.map can.top can.areas can.objects can.aim can.car_value.0 can.cdr_value.0 can.kept can.quota can.car_value.1 can.cdr_value.1 in
+    let made = paired can.it can.car_value.0 can.cdr_value.0 can.kept can.quota can.car_value.1 can.cdr_value.1 in
     made_marks m m' t t' area level at 2 2 word made.kept.table places (ap reference_of is)
-    (ap (λ (w : Parts). forward_of w.content) first_is ∙ none_of (forward_of first.content) (plain-value can.map.role first.content can.car_value.0 can.car_value.1)) marks
+    (ap (λ (w : Parts). forward_of w.content) first_is ∙ none_of (forward_of first.content) (plain-value can.it.map.role first.content can.car_value.0 can.car_value.1)) marks
 
 -- a list
 pub list_marked : (m m' : Store) (t t' : Table) (area level : ℕ) (registers : List Parts) (items : List ℕ) (at : ℕ) (word : Parts) → CanList m t area level registers items → ListedOn m t m' t' area level registers items at
     → PlacesNew t t' area level at (length items) (3 * length items) → word.content ≡ ListAt at → ((i : ℕ) → i < length items → word_at m'.words (at + i) ≡ cell_word registers items i) → MarksByWords m m' at (length items) → MarksMade m t m' t' word (length items)
 list_marked m m' t t' area level registers items at word can listed places is cells marks =
-    let made = listed can.map can.top can.areas can.objects can.aim can.values can.kept can.quota can.means in
+    let made = listed can.it can.values can.kept can.quota can.means in
     let some = can.some in
     let first : at ≡ at + 0 = omega arith in
     made_marks m m' t t' area level at (length items) (3 * length items) word made.kept.table places (ap reference_of is)
     (ap (λ (a : ℕ). forward_of (word_at m'.words a).content) first ∙ ap (λ (w : Parts). forward_of w.content) (cells 0 (omega arith))
-    ∙ none_of (forward_of (item_word registers items 0).content) (plain-value can.map.role (item_word registers items 0).content _ (can.means.each 0 (omega arith)))) marks
+    ∙ none_of (forward_of (item_word registers items 0).content) (plain-value can.it.map.role (item_word registers items 0).content _ (can.means.each 0 (omega arith)))) marks
 
 -- a block
 pub block_marked : (m m' : Store) (t t' : Table) (area level code count at : ℕ) (word : Parts) → IsTable t' → PlacesNew t t' area level at (count + 1) (count + 1) → word.content ≡ StructAt at

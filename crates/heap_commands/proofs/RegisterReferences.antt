@@ -14,8 +14,9 @@ use Rattle.lisp_graph.specs.Graph.{object_at, value_at}
 use Rattle.lisp_graph.specs.Effect.{when_block, when_block_body}
 use Rattle.mem_port.specs.Store.{Store}
 use Rattle.area_space.specs.Table.{Table}
-use Rattle.block_store.specs.lisp_meaning.State.{State, aim_of}
+use Rattle.block_store.specs.lisp_meaning.State.{State}
 use Rattle.block_store.specs.lisp_meaning.Roles.{AsBlock, AsCons, RoleMap, value_of}
+use Rattle.block_store.specs.lisp_meaning.Interpretation.{interpretation}
 use Rattle.block_store.proofs.lisp_ground.words.References.{references_lead}
 use Rattle.block_store.specs.Headers.{HasMeaning}
 use Rattle.heap_state.specs.Represents.{Represents}
@@ -37,8 +38,8 @@ module _ (m : Store) (t : Table) (k : RoleMap) (s : State) (registers : List Par
   -- a word tagged STRUCT that has a value refers to a block
   pub struct_block : (content : Content) (v : Value) → value_of k.role content ≡ Some v → (tag_of content ≢ StructTag → ⊥) → IsBlock s v
   struct_block (StructAt a) v is struct =
-      let r = references_lead.values m t k s.space.levels s.areas s.store (aim_of s.phase) b.kept AsBlock a v is in
-      let x = references_lead.blocks m t k s.space.levels s.areas s.store (aim_of s.phase) b.kept r.name r.leads.used r.leads.kind_is in
+      let r = references_lead.values m t (interpretation k s) b.kept AsBlock a v is in
+      let x = references_lead.blocks m t (interpretation k s) b.kept r.name r.leads.used r.leads.kind_is in
       record { name = r.name; code = x.code; fields = x.fields; value = r.value; body = x.body }
   struct_block Null v is struct = absurd (struct (λ e. cc))
   struct_block NilWord v is struct = absurd (struct (λ e. cc))
@@ -52,8 +53,8 @@ module _ (m : Store) (t : Table) (k : RoleMap) (s : State) (registers : List Par
   pub other_word : {A : Type 0} (content : Content) (v : Value) → value_of k.role content ≡ Some v → tag_of content ≢ StructTag → (found : ℕ → ℕ → List Value → A) (other : A) → when_block s.store.objects v found other ≡ other
   other_word (StructAt a) v is tag found other = absurd (tag refl)
   other_word (ListAt a) v is tag found other =
-      let r = references_lead.values m t k s.space.levels s.areas s.store (aim_of s.phase) b.kept AsCons a v is in
-      let x = references_lead.conses m t k s.space.levels s.areas s.store (aim_of s.phase) b.kept r.name r.leads.used r.leads.kind_is in
+      let r = references_lead.values m t (interpretation k s) b.kept AsCons a v is in
+      let x = references_lead.conses m t (interpretation k s) b.kept r.name r.leads.used r.leads.kind_is in
       with_cons s.store.objects v r.name x.car x.cdr r.value x.body found other
   other_word NilWord v is tag found other = ap (λ (x : Value). when_block s.store.objects x found other) (value_is V.Nil v is)
   other_word (Fixnum i) v is tag found other = ap (λ (x : Value). when_block s.store.objects x found other) (value_is (V.Fix i) v is)
@@ -69,11 +70,7 @@ module _ (m : Store) (t : Table) (k : RoleMap) (s : State) (registers : List Par
 -- a register's word has a value
 pub register_meaning : (m : Store) (t : Table) (registers : List Parts) (r : ℕ) (word : Parts) → word ≡ get_or registers r word → RepresentsState m t registers → r < length registers → HasMeaning m t word.content
 register_meaning m t registers r word is x low = record {
-  map = x.map;
-  top = x.state.space.levels;
-  areas = x.state.areas;
-  objects = x.state.store;
-  aim = aim_of x.state.phase;
+  it = interpretation x.map x.state;
   kept = x.represents.kept;
   value = value_at x.state.registers r;
   value_is = register_means m t x.map x.state registers x.represents r word is low;

@@ -12,9 +12,10 @@ use Rattle.lisp_graph.specs.Graph.{value_at}
 use Rattle.lisp_graph.specs.Effect.{Effect, answered, effect}
 use Rattle.mem_port.specs.Store.{Store, StoresNothing}
 use Rattle.area_space.specs.Table.{Table}
-use Rattle.block_store.specs.lisp_meaning.State.{State, aim_of, object}
+use Rattle.block_store.specs.lisp_meaning.State.{State, object}
 use Rattle.block_store.specs.lisp_meaning.Flip.{graph_of}
 use Rattle.block_store.specs.lisp_meaning.Roles.{RoleMap, header_of}
+use Rattle.block_store.specs.lisp_meaning.Interpretation.{interpretation}
 use Rattle.block_store.proofs.lisp_ground.invariant.Stores.{same_header_size}
 use Rattle.block_store.specs.Headers.{TellsLength}
 use Rattle.block_store.specs.declared.fault.BlockFault.{BlockFault}
@@ -32,7 +33,7 @@ use Rattle.heap_commands.proofs.RegisterReferences.{other_word, register_means, 
 -- the number of fields in the reply is the block's
 pub told_length : (m : Store) (t : Table) (registers : List Parts) (k : RoleMap) (s : State) (b : Represents m t registers k s) (r count : ℕ) (word : Parts) → word ≡ get_or registers r word → r < length registers → TellsLength m t word.content count → (x : IsBlock s (value_at s.registers r)) → count ≡ length x.fields
 told_length m t registers k s b r count word is low tells x =
-    let told = tells k s.space.levels s.areas s.store (aim_of s.phase) x.name b.kept (register_means m t k s registers b r word is low ∙ ap (λ (v : Value). Some v) x.value) in
+    let told = tells (interpretation k s) x.name b.kept (register_means m t k s registers b r word is low ∙ ap (λ (v : Value). Some v) x.value) in
     same_header_size (header_of (object s.store x.name).body) (told.0, count) (x.code, length x.fields) told.1 (ap header_of x.body)
 
 module _ (m m' : Store) (t t' : Table) (registers : List Parts) (r : ℕ) (word : Parts) (is : word ≡ get_or registers r word) (low : r < length registers) (stays : StoresNothing m m') (same : t' ≡ t) where

@@ -17,8 +17,9 @@ use Rattle.area_space.specs.Table.{Table}
 use Rattle.block_store.specs.lisp_ground.Leading.{Refers}
 use Rattle.block_store.proofs.lisp_ground.words.References.{references_lead}
 use Rattle.block_store.proofs.lisp_ground.invariant.Stores.{same_header_size}
-use Rattle.block_store.specs.lisp_meaning.State.{aim_of, object}
+use Rattle.block_store.specs.lisp_meaning.State.{object}
 use Rattle.block_store.specs.lisp_meaning.Roles.{AsBlock, AsCons, header_of, value_of}
+use Rattle.block_store.specs.lisp_meaning.Interpretation.{interpretation}
 use Rattle.block_store.specs.obj_layout.Forwards.{Leads, forward_of, here, on, word_at}
 use Rattle.block_store.specs.transporter.Marking.{MarksFollow, MarksFollowBut}
 use Rattle.block_store.proofs.transporter.PageMarks.{marks-but}
@@ -79,7 +80,7 @@ module _ (m m' : Store) (t t' : Table) (registers : List Parts) (target : ℕ) (
         let a = list_tagged of.content list in
         let value = get_or x.state.registers target V.Nil in
         let is : value_of x.map.role (ListAt a.0) ≡ Some value = sym (ap (value_of x.map.role) a.1) ∙ value_there m t registers target low of read x.map x.state x.represents in
-        references_lead.values m t x.map x.state.space.levels x.state.areas x.state.store (aim_of x.state.phase) x.represents.kept AsCons a.0 value is
+        references_lead.values m t (interpretation x.map x.state) x.represents.kept AsCons a.0 value is
 
     abbrev pub cons_at : ℕ
     cons_at = x.map.at refers.name
@@ -95,7 +96,7 @@ module _ (m m' : Store) (t t' : Table) (registers : List Parts) (target : ℕ) (
         }
 
     second_in : (word_at m.words cons_at).cdr ≡ Normal → suc cons_at < length m.words
-    second_in = (references_lead.conses m t x.map x.state.space.levels x.state.areas x.state.store (aim_of x.state.phase) x.represents.kept refers.name refers.leads.used refers.leads.kind_is).second
+    second_in = (references_lead.conses m t (interpretation x.map x.state) x.represents.kept refers.name refers.leads.used refers.leads.kind_is).second
 
     pub marks_car : (value : Parts) → WritesCar m m' of.content value → MarksCar m t m' t' of.content → MarksByStoring R.Fine m t m' t'
     marks_car value writes marks = stored_marks R.Fine cons_at _ refers.leads.inside (writes cons_at place) (marks cons_at place)
@@ -119,9 +120,9 @@ module _ (m m' : Store) (t t' : Table) (registers : List Parts) (target : ℕ) (
       let v = get_or x.state.registers target V.Nil in
       let means = value_there m t registers target low of read x.map x.state x.represents in
       let is : value_of x.map.role (StructAt a.0) ≡ Some v = sym (ap (value_of x.map.role) a.1) ∙ means in
-      let r = references_lead.values m t x.map x.state.space.levels x.state.areas x.state.store (aim_of x.state.phase) x.represents.kept AsBlock a.0 v is in
-      let b = references_lead.blocks m t x.map x.state.space.levels x.state.areas x.state.store (aim_of x.state.phase) x.represents.kept r.name r.leads.used r.leads.kind_is in
-      let told = tells x.map x.state.space.levels x.state.areas x.state.store (aim_of x.state.phase) r.name x.represents.kept (means ∙ ap (λ (w : Value). Some w) r.value) in
+      let r = references_lead.values m t (interpretation x.map x.state) x.represents.kept AsBlock a.0 v is in
+      let b = references_lead.blocks m t (interpretation x.map x.state) x.represents.kept r.name r.leads.used r.leads.kind_is in
+      let told = tells (interpretation x.map x.state) r.name x.represents.kept (means ∙ ap (λ (w : Value). Some w) r.value) in
       let size = same_header_size (header_of (object x.state.store r.name).body) (told.0, count) (b.code, length b.fields) told.1 (ap header_of b.body) in
       let inside = b.inside in
       stored_marks R.Fine (suc (x.map.at r.name) + index) _ (omega arith) (writes a.0 (x.map.at r.name) a.1 r.leads.final) (marks a.0 (x.map.at r.name) a.1 r.leads.final)

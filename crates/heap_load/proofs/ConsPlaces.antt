@@ -16,7 +16,6 @@ use Rattle.mem_port.specs.Store.{Store, Stores}
 use Rattle.area_space.specs.Sound.{IsTable}
 use Rattle.area_space.specs.Table.{Table}
 use Rattle.block_store.specs.obj_layout.Forwards.{word_at, IsFinal, forward_of}
-use Rattle.block_store.specs.lisp_meaning.State.{no_aim}
 use Rattle.block_store.specs.lisp_meaning.Roles.{AsBlock, AsCons, RoleMap, Role, as_ref, names_as, owner, value_of}
 use Rattle.block_store.proofs.lisp_ground.words.FinalAddresses.{final_is_place}
 use Rattle.block_store.specs.transporter.LiveWordsUnchanged.{IsLiveWord, LiveWordsUnchanged}
@@ -30,7 +29,7 @@ use Rattle.block_store.specs.Making.{block_word}
 use Rattle.block_store.proofs.BlockReferences.{head_role}
 use Rattle.block_store.proofs.LiveFields.{field_live, live_word}
 use Rattle.heap_load.specs.Places.{PlaceView, block_place, cell_place, pair_place, place_at}
-use Rattle.heap_load.specs.Loading.{BlockStandsIn, Drafted, Laid, StandsIn, code_for, group_from}
+use Rattle.heap_load.specs.Loading.{BlockStandsIn, Drafted, Laid, StandsIn, code_for, group_from, loaded}
 use Rattle.heap_load.specs.Drafts.{header_of}
 use Rattle.heap_load.proofs.NewDrafts.{store_with}
 use Rattle.heap_load.proofs.ObjectParts.{draft_block}
@@ -90,7 +89,7 @@ module _ (m m' : Store) (t t' : Table) (world : World) (places places' : List Pl
   laid_before more i low car cdr body =
       let s = laid.each i low car cdr body in
       let named = cons_named x.holds.map (place_at places i).word.content s.at i s.place_is (x.places_are i low).names in
-      let live = first_live m t x.holds.map world.space.levels world.areas (store_with world x.objects) no_aim x.holds.kept s.at i named (λ old. x.holds.aims.1 _ old) s.at (final_itself m.words s.at s.final) in
+      let live = first_live m t (loaded world x.holds.map x.objects) x.holds.kept s.at i named (λ old. x.holds.aims.1 _ old) s.at (final_itself m.words s.at s.final) in
       let word = same.words s.at live in
       record {
         at = s.at;
@@ -106,19 +105,18 @@ module _ (m m' : Store) (t t' : Table) (world : World) (places places' : List Pl
   block_before i low code fields body =
       let s = laid.blocks i low code fields body in
       let map = x.holds.map in
-      let objects = store_with world x.objects in
       let kept = x.holds.kept in
       let named = block_named map (place_at places i).word.content s.at i s.place_is (x.places_are i low).names in
-      let place : s.at ≡ map.at i = final_is_place m t map world.space.levels world.areas objects no_aim kept AsBlock s.at i named s.at (final_itself m.words s.at s.final) in
+      let place : s.at ≡ map.at i = final_is_place m t (loaded world map x.objects) kept AsBlock s.at i named s.at (final_itself m.words s.at s.final) in
       let b = draft_block (object_at x.objects i).body code (length fields) (sym ((x.drafts i low).header ∙ ap header_of body)) in
-      let head = live_word m t map world.space.levels world.areas objects no_aim kept s.at i (ap (λ (a : ℕ). owner (map.role a)) place ∙ ap owner (head_role m t map world.space.levels world.areas objects no_aim kept s.at i named)) (λ old. x.holds.aims.1 _ old) in
+      let head = live_word m t (loaded world map x.objects) kept s.at i (ap (λ (a : ℕ). owner (map.role a)) place ∙ ap owner (head_role m t (loaded world map x.objects) kept s.at i named)) (λ old. x.holds.aims.1 _ old) in
       let word = same.words s.at head in
       record {
         at = s.at;
         place_is = ap (λ (p : PlaceView). p.word.content) (before i low) ∙ s.place_is;
         final = record { inside = live-inside m' table size (still-live same.table head); no_forward = ap (λ (p : Parts). forward_of p.content) word ∙ s.final.no_forward };
         codes = λ j less. (
-            let live = field_live m t map world.space.levels world.areas objects no_aim kept s.at i named code b.0 b.2 j (let count = b.1 in omega arith) (λ old. x.holds.aims.1 _ old) in
+            let live = field_live m t (loaded world map x.objects) kept s.at i named code b.0 b.2 j (let count = b.1 in omega arith) (λ old. x.holds.aims.1 _ old) in
             ap (λ (p : Parts). p.cdr) (same.words (suc s.at + j) (subst (λ (a : ℕ). IsLiveWord t (suc a + j)) (sym place) live)) ∙ s.codes j less
             );
       }

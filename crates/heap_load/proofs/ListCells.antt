@@ -22,7 +22,7 @@ use Rattle.lisp_graph.proofs.GraphInvariant.{length-list_from}
 use Rattle.mem_port.specs.Store as Memory
 use Rattle.area_space.specs.Table.{Table}
 use Rattle.block_store.specs.obj_layout.Forwards.{word_at, Final, forward_of, here}
-use Rattle.block_store.specs.lisp_meaning.State.{no_aim, object}
+use Rattle.block_store.specs.lisp_meaning.State.{object}
 use Rattle.block_store.specs.lisp_meaning.Changes.{with_made}
 use Rattle.block_store.specs.lisp_meaning.Roles.{AsCons, Role, as_ref, value_of}
 use Rattle.heap_load.specs.Drafts.{IsDraft, car_of, charge_in}
@@ -33,7 +33,7 @@ use Rattle.block_store.specs.transporter.LiveWordsUnchanged.{OnlyGrows}
 use Rattle.block_store.specs.transporter.Making.{HasQuota, MadeOn}
 use Rattle.cdr_lists.specs.Lists.{CanList, ListedOn, MeansValues, cell_code, cell_word, item_word}
 use Rattle.heap_load.specs.Places.{PlaceView, cell_place, place_at}
-use Rattle.heap_load.specs.Loading.{Drafted, IsLoadable, IsPlace, tag_for}
+use Rattle.heap_load.specs.Loading.{Drafted, IsLoadable, IsPlace, tag_for, loaded}
 use Rattle.heap_load.proofs.NewDrafts.{drafted_more, nil_word, quota_for, store_with}
 
 -- Lists
@@ -167,7 +167,7 @@ module _ (m : Memory.Store) (t : Table) (world : World) (places : List PlaceView
       let size = length-drop number world.objects in
       omega arith
 
-  group_quota : HasQuota world.space.levels world.areas (store_with world x.objects) no_aim (group_area world number count group) 0 (3 * length (zeros count))
+  group_quota : HasQuota (loaded world x.holds.map x.objects) (group_area world number count group) 0 (3 * length (zeros count))
   group_quota =
       let size = nils_count world number count group in
       quota_for m t world places number w x (list_from (group_area world number count group) number (nils world number count group)) (group_area world number count group)
@@ -177,11 +177,7 @@ module _ (m : Memory.Store) (t : Table) (world : World) (places : List PlaceView
 
   pub can_list : (nil : Parts) → nil ≡ nil_word → count ≤ 1024 → CanList m t (group_area world number count group) 0 (nil ∷ []) (zeros count)
   can_list nil is few = record {
-    map = x.holds.map;
-    top = world.space.levels;
-    areas = world.areas;
-    objects = store_with world x.objects;
-    aim = no_aim;
+    it = loaded world x.holds.map x.objects;
     kept = x.holds.kept;
     some = (let size = zeros_count count in let some = group_some world number count group in omega arith);
     few = (let size = zeros_count count in omega arith);
@@ -198,9 +194,9 @@ module _ (m : Memory.Store) (t : Table) (world : World) (places : List PlaceView
     abbrev list : List Object
     list = list_from (group_area world number count group) number (nils world number count group)
 
-    y : MadeOn m t m' t' x.holds.map world.space.levels world.areas (store_with world x.objects) (with_made (store_with world x.objects) list 0) no_aim AsCons at
-    y = subst (λ (n : ℕ). MadeOn m t m' t' x.holds.map world.space.levels world.areas (store_with world x.objects) (with_made (store_with world x.objects) (list_from (group_area world number count group) n (nils world number count group)) 0) no_aim AsCons at) x.count_is
-        (made x.holds.map world.space.levels world.areas (store_with world x.objects) no_aim (replicate count V.Nil) x.holds.kept group_quota (nils_mean x.holds.map.role nil nil_is count))
+    y : MadeOn m t m' t' (loaded world x.holds.map x.objects) (with_made (store_with world x.objects) list 0) AsCons at
+    y = subst (λ (n : ℕ). MadeOn m t m' t' (loaded world x.holds.map x.objects) (with_made (store_with world x.objects) (list_from (group_area world number count group) n (nils world number count group)) 0) AsCons at) x.count_is
+        (made (loaded world x.holds.map x.objects) (replicate count V.Nil) x.holds.kept group_quota (nils_mean x.holds.map.role nil nil_is count))
 
     pub word_here : (i : ℕ) → i < count → word_at m'.words (at + i) ≡ record { cdr = cell_code count i; content = NilWord }
     word_here i here_low =
@@ -241,10 +237,10 @@ module _ (m : Memory.Store) (t : Table) (world : World) (places : List PlaceView
         ap (λ (b : ℕ). value_of y.map.role (ListAt b)) a ∙ ap as_ref y.there ∙ ap (λ (k : ℕ). Some (V.Ref k)) n
     cells_named (suc i) l =
         let before = cells_named i (omega arith) in
-        let r = references_lead.values m' t' y.map world.space.levels world.areas (with_made (store_with world x.objects) list 0) no_aim y.kept AsCons (at + i) (V.Ref (number + i)) before in
+        let r = references_lead.values m' t' (record (loaded world y.map x.objects) { store = with_made (store_with world x.objects) list 0 }) y.kept AsCons (at + i) (V.Ref (number + i)) before in
         let name : number + i ≡ r.name = cc (r.value) in
         let place : at + i ≡ y.map.at r.name = r.leads.only (at + i) (final_here i (omega arith)) in
-        let c = references_lead.conses m' t' y.map world.space.levels world.areas (with_made (store_with world x.objects) list 0) no_aim y.kept r.name r.leads.used r.leads.kind_is in
+        let c = references_lead.conses m' t' (record (loaded world y.map x.objects) { store = with_made (store_with world x.objects) list 0 }) y.kept r.name r.leads.used r.leads.kind_is in
         let b = body_here i l in
         let body : Cons c.car c.cdr ≡ Cons b.0 (V.Ref (suc (number + i))) = sym c.body ∙ ap (λ (n : ℕ). (object (with_made (store_with world x.objects) list 0) n).body) (sym name) ∙ b.1 in
         let cdr : c.cdr ≡ V.Ref (suc (number + i)) = cc (body) in

@@ -12,7 +12,6 @@ use Rattle.lisp_graph.specs.declared.object.Body.TheVariants.{Cons}
 use Rattle.lisp_graph.specs.Graph.{RefersBelow, no_object, object_at}
 use Rattle.mem_port.specs.Store.{Store}
 use Rattle.area_space.specs.Table.{Table}
-use Rattle.block_store.specs.lisp_meaning.State.{no_aim}
 use Rattle.block_store.specs.lisp_meaning.Opening.{opening}
 use Rattle.block_store.specs.lisp_meaning.Roles.{AsCons, AsBlock, Role, as_ref, names_as, value_of}
 use Rattle.heap_load.specs.Drafts.{with_objects}
@@ -22,7 +21,7 @@ use Rattle.block_store.proofs.lisp_ground.words.FinalAddresses.{final_is_place}
 use Rattle.cdr_lists.specs.Lists.{cell_code}
 use Rattle.cdr_lists.proofs.SettledCell.{final_itself}
 use Rattle.heap_load.specs.Places.{PlaceView, place_at, word_of}
-use Rattle.heap_load.specs.Loading.{RepresentsGroups, RepresentsSome, RepresentsWorld, Filled, HoldsSome, IsLoadable, Laid, code_for, emptied, group_from}
+use Rattle.heap_load.specs.Loading.{RepresentsGroups, RepresentsSome, RepresentsWorld, Filled, HoldsSome, IsLoadable, Laid, code_for, emptied, group_from, loaded}
 use Rattle.heap_load.proofs.NewDrafts.{store_with}
 use Rattle.heap_load.proofs.ConsPlaces.{cons_named}
 use Rattle.heap_load.proofs.GroupSequences.{code_left, group_after, group_along, group_begins, group_cons}
@@ -84,7 +83,7 @@ represents_loaded m t registers world places w x size roots =
     record {
       map = x.holds.map;
       represents = record {
-        kept = subst (λ (objects : List Object). GroundInvariant m t x.holds.map world.space.levels world.areas (opening (with_objects world objects)).store no_aim) same x.holds.kept;
+        kept = subst (λ (objects : List Object). GroundInvariant m t (loaded world x.holds.map objects)) same x.holds.kept;
         count = size;
         means = λ r low. ap (λ (p : Parts). value_of x.holds.map.role p.content) (roots r low) ∙ root_means m t world places (length world.objects) x (get_or world.roots r V.Nil) (w.is.graph.registers r V.Nil low);
         aims = x.holds.aims;
@@ -99,7 +98,7 @@ module _ (m : Store) (t : Table) (world : World) (places : List PlaceView) (x : 
   cons_at i low car cdr body =
       let s = laid.each i low car cdr body in
       let named = cons_named x.holds.map (place_at places i).word.content s.at i s.place_is (x.places_are i low).names in
-      final_is_place m t x.holds.map world.space.levels world.areas (store_with world x.objects) no_aim x.holds.kept AsCons s.at i named s.at (final_itself m.words s.at s.final)
+      final_is_place m t (loaded world x.holds.map x.objects) x.holds.kept AsCons s.at i named s.at (final_itself m.words s.at s.final)
 
   code_at : (i : ℕ) (low : i < length world.objects) (car cdr : Value) (body : (object_at world.objects i).body ≡ Cons car cdr) → (word_at m.words (x.holds.map.at i)).cdr ≡ code_for (group_from world.objects i)
   code_at i low car cdr body = ap (λ (a : ℕ). (word_at m.words a).cdr) (sym (cons_at i low car cdr body)) ∙ (laid.each i low car cdr body).code

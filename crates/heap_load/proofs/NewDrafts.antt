@@ -20,7 +20,7 @@ use Rattle.lisp_graph.specs.Effect.{block_of}
 use Rattle.mem_port.specs.Store.{Store}
 use Rattle.area_space.specs.Table.{Table}
 use Rattle.block_store.specs.lisp_meaning.State as M
-use Rattle.block_store.specs.lisp_meaning.State.{Idle, no_aim}
+use Rattle.block_store.specs.lisp_meaning.State.{Idle}
 use Rattle.block_store.specs.lisp_meaning.Changes.{with_made}
 use Rattle.block_store.specs.lisp_meaning.Opening.{opening}
 use Rattle.block_store.specs.lisp_meaning.Roles.{Kind, AsCons, AsBlock, as_ref, names_as, value_of}
@@ -37,7 +37,7 @@ use Rattle.cdr_lists.specs.Pairs.{CanPair, PairedOn}
 use Rattle.block_store.specs.Making.{CanMake, MakesBlock}
 use Rattle.heap_state.proofs.SettledRegister.{aims_grown}
 use Rattle.heap_load.specs.Places.{PlaceView, block_place, no_place, pair_place, place_at, word_of}
-use Rattle.heap_load.specs.Loading.{Drafted, Holds, HoldsSome, IsLoadable, IsPlace, tag_for}
+use Rattle.heap_load.specs.Loading.{Drafted, Holds, HoldsSome, IsLoadable, IsPlace, tag_for, loaded}
 
 -- the store of these objects
 abbrev pub store_with : World → List Object → M.Store
@@ -45,15 +45,15 @@ store_with world objects = (opening (with_objects world objects)).store
 
 -- the ground represents more objects
 holds_more : (m m' : Store) (t t' : Table) (world : World) (objects made : List Object) (x : Holds m t world objects) (kind : Kind) (at : ℕ)
-    → MadeOn m t m' t' x.map world.space.levels world.areas (store_with world objects) (with_made (store_with world objects) made 0) no_aim kind at → OnlyGrows t t' → Holds m' t' world (objects ++ made)
+    → MadeOn m t m' t' (loaded world x.map objects) (with_made (store_with world objects) made 0) kind at → OnlyGrows t t' → Holds m' t' world (objects ++ made)
 holds_more m m' t t' world objects made x kind at y g = record {
   map = y.map;
-  kept = subst (λ (s : M.Store). GroundInvariant m' t' y.map world.space.levels world.areas s no_aim) (sym (opening_more (with_objects world objects) made)) y.kept;
+  kept = subst (λ (s : M.Store). GroundInvariant m' t' (record (loaded world y.map objects) { store = s })) (sym (opening_more (with_objects world objects) made)) y.kept;
   aims = aims_grown t t' Idle g x.aims;
 }
 
 module _ (m m' : Store) (t t' : Table) (world : World) (places places' : List PlaceView) (n : ℕ) (x : Drafted m t world places n) (made : List Object) (kind : Kind) (at : ℕ)
-    (y : MadeOn m t m' t' x.holds.map world.space.levels world.areas (store_with world x.objects) (with_made (store_with world x.objects) made 0) no_aim kind at)
+    (y : MadeOn m t m' t' (loaded world x.holds.map x.objects) (with_made (store_with world x.objects) made 0) kind at)
     (g : OnlyGrows t t') (before : (i : ℕ) → i < n → place_at places' i ≡ place_at places i)
     (placed : (j : ℕ) → j < length made → IsPlace y.map (place_at places' (n + j)) (n + j) (object_at world.objects (n + j)).body)
     (drafts : (j : ℕ) → j < length made → IsDraft (n + j) (object_at world.objects (n + j)) (object_at made j) (place_at places' (n + j)).cell) where
@@ -123,7 +123,7 @@ module _ (m : Store) (t : Table) (world : World) (places : List PlaceView) (n : 
           subst (λ (k : ℕ). ((object_at (x.objects ++ made) k).area ≡ (object_at world.objects k).area) × ((object_at (x.objects ++ made) k).charge ≡ (object_at world.objects k).charge)) e
           (ap (λ (o : Object). o.area) is ∙ s.0, ap (λ (o : Object). o.charge) is ∙ s.1)
 
-  pub quota_for : (charge : ℕ) → charge_in area made ≡ charge → HasQuota world.space.levels world.areas (store_with world x.objects) no_aim area 0 charge
+  pub quota_for : (charge : ℕ) → charge_in area made ≡ charge → HasQuota (loaded world x.holds.map x.objects) area 0 charge
   quota_for charge is =
       let more = account_more (with_objects world x.objects) made area in
       let size = length-append x.objects made in
@@ -136,7 +136,7 @@ module _ (m : Store) (t : Table) (world : World) (places : List PlaceView) (n : 
 pub drafted_left : (m m' : Store) (t t' : Table) (world : World) (places : List PlaceView) (n : ℕ) → Drafted m t world places n → WordsUnchanged m t m' t' → OnlyGrows t t' → HoldsSome m' t' world
 drafted_left m m' t t' world places n x stays g = record {
   objects = x.objects;
-  holds = record { map = x.holds.map; kept = stays.kept x.holds.map world.space.levels world.areas (store_with world x.objects) no_aim x.holds.kept; aims = aims_grown t t' Idle g x.holds.aims };
+  holds = record { map = x.holds.map; kept = stays.kept (loaded world x.holds.map x.objects) x.holds.kept; aims = aims_grown t t' Idle g x.holds.aims };
 }
 
 -- One object alone
@@ -162,13 +162,13 @@ module _ (m : Store) (t : Table) (world : World) (places : List PlaceView) (n : 
   area_low : made.area < length world.areas
   area_low = let placed = w.is.placed n no_object low in let is = draft.area in omega arith
 
-  pub quota_alone : HasQuota world.space.levels world.areas (store_with world x.objects) no_aim made.area 0 made.charge
+  pub quota_alone : HasQuota (loaded world x.holds.map x.objects) made.area 0 made.charge
   quota_alone = quota_for m t world places n w x (made ∷ []) made.area (omega arith) area_low
       (below_one (λ j. ((object_at (made ∷ []) j).area ≡ (object_at world.objects (n + j)).area) × ((object_at (made ∷ []) j).charge ≡ (object_at world.objects (n + j)).charge))
       (draft.area ∙ ap (λ (k : ℕ). (object_at world.objects k).area) (sym here_is), draft.charge ∙ ap (λ (k : ℕ). (object_at world.objects k).charge) (sym here_is)))
       made.charge (charge_alone made)
 
-  pub drafted_alone : (m' : Store) (t' : Table) (kind : Kind) (at : ℕ) → MadeOn m t m' t' x.holds.map world.space.levels world.areas (store_with world x.objects) (with_made (store_with world x.objects) (made ∷ []) 0) no_aim kind at
+  pub drafted_alone : (m' : Store) (t' : Table) (kind : Kind) (at : ℕ) → MadeOn m t m' t' (loaded world x.holds.map x.objects) (with_made (store_with world x.objects) (made ∷ []) 0) kind at
       → OnlyGrows t t' → length places ≡ length world.objects → (word : Parts) → word.content ≡ reference kind at → tag_of word.content ≡ tag_for (object_at world.objects n).body
       → Drafted m' t' world (slice_set places n (record { word = word; cell = false })) (n + 1)
   drafted_alone m' t' kind at y g size word is tag = drafted_more m m' t t' world places (slice_set places n place) n x (made ∷ []) kind at y g
@@ -239,11 +239,7 @@ module _ (m : Store) (t : Table) (world : World) (places : List PlaceView) (n : 
 
     pub can_pair : (first second : Parts) → first ≡ word_of places (known_part n car) → second ≡ word_of places (known_part n cdr) → CanPair m t o.area 0 o.charge first second
     can_pair first second first_is second_is = record {
-      map = x.holds.map;
-      top = world.space.levels;
-      areas = world.areas;
-      objects = store_with world x.objects;
-      aim = no_aim;
+      it = loaded world x.holds.map x.objects;
       kept = x.holds.kept;
       charges = pair_charge;
       quota = quota_alone m t world places n w x low pair_made pair_draft;
@@ -254,7 +250,7 @@ module _ (m : Store) (t : Table) (world : World) (places : List PlaceView) (n : 
     pub pair_drafted : (m' : Store) (t' : Table) (first second : Parts) → first ≡ word_of places (known_part n car) → second ≡ word_of places (known_part n cdr) → (at : ℕ) → PairedOn m t m' t' o.area 0 o.charge first second at → OnlyGrows t t' → length places ≡ length world.objects
         → Drafted m' t' world (slice_set places n (pair_place at)) (n + 1)
     pair_drafted m' t' first second first_is second_is at made g size = drafted_alone m t world places n w x low pair_made pair_draft m' t' AsCons at
-        (made x.holds.map world.space.levels world.areas (store_with world x.objects) no_aim (known_part n car) (known_part n cdr) x.holds.kept (quota_alone m t world places n w x low pair_made pair_draft) (part_means car first first_is) (part_means cdr second second_is))
+        (made (loaded world x.holds.map x.objects) (known_part n car) (known_part n cdr) x.holds.kept (quota_alone m t world places n w x low pair_made pair_draft) (part_means car first first_is) (part_means cdr second second_is))
         g size (pair_place at).word refl (sym (ap tag_for whole_cons))
 
   -- A block
@@ -281,11 +277,7 @@ module _ (m : Store) (t : Table) (world : World) (places : List PlaceView) (n : 
 
     pub can_make : CanMake m t o.area 0 (length fields)
     can_make = record {
-      map = x.holds.map;
-      top = world.space.levels;
-      areas = world.areas;
-      objects = store_with world x.objects;
-      aim = no_aim;
+      it = loaded world x.holds.map x.objects;
       kept = x.holds.kept;
       quota = quota_alone m t world places n w x low (block_of o.area code (length fields)) block_draft;
     }
@@ -293,5 +285,5 @@ module _ (m : Store) (t : Table) (world : World) (places : List PlaceView) (n : 
     pub block_drafted : (m' : Store) (t' : Table) (at : ℕ) → MakesBlock m t m' t' o.area 0 code (length fields) at → OnlyGrows t t' → length places ≡ length world.objects
         → Drafted m' t' world (slice_set places n (block_place at)) (n + 1)
     block_drafted m' t' at made g size = drafted_alone m t world places n w x low (block_of o.area code (length fields)) block_draft m' t' AsBlock at
-        (made x.holds.map world.space.levels world.areas (store_with world x.objects) no_aim x.holds.kept (quota_alone m t world places n w x low (block_of o.area code (length fields)) block_draft))
+        (made (loaded world x.holds.map x.objects) x.holds.kept (quota_alone m t world places n w x low (block_of o.area code (length fields)) block_draft))
         g size (block_place at).word refl (sym (ap tag_for whole_block))

@@ -15,7 +15,7 @@ use Rattle.lisp_graph.specs.Graph.{PartsReferBelow, RefersBelow, no_object, obje
 use Rattle.mem_port.specs.Store.{Store, StoresNothing}
 use Rattle.area_space.specs.Table.{Table}
 use Rattle.block_store.specs.lisp_meaning.State as M
-use Rattle.block_store.specs.lisp_meaning.State.{Idle, no_aim}
+use Rattle.block_store.specs.lisp_meaning.State.{Idle}
 use Rattle.block_store.specs.lisp_meaning.Changes.{put_body}
 use Rattle.block_store.specs.lisp_meaning.Roles.{RoleMap, Refines, value_of}
 use Rattle.block_store.proofs.lisp_meaning.maps.Frames.{refined}
@@ -28,7 +28,7 @@ use Rattle.cdr_lists.specs.Reading.{CanRead}
 use Rattle.heap_state.specs.PhaseAgrees.{PhaseAgrees}
 use Rattle.heap_state.proofs.SettledRegister.{aims_grown}
 use Rattle.heap_load.specs.Places.{PlaceView, no_place, place_at, word_of}
-use Rattle.heap_load.specs.Loading.{Drafted, Filled, Filling, Holds, HoldsSome, IsLoadable}
+use Rattle.heap_load.specs.Loading.{Drafted, Filled, Filling, Holds, HoldsSome, IsLoadable, loaded}
 use Rattle.heap_load.proofs.NewDrafts.{store_with}
 
 -- all drafts are made
@@ -102,10 +102,10 @@ module _ (m : Store) (t : Table) (world : World) (places : List PlaceView) (n : 
     set_other : (i : ℕ) → (i ≡ n → ⊥) → object_at (slice_set x.objects n next_object) i ≡ object_at x.objects i
     set_other i ne = get_or-set_other x.objects n i next_object no_object ne
 
-    pub refilled : (map : RoleMap) → GroundInvariant m' t' map world.space.levels world.areas (put_body (store_with world x.objects) n new) no_aim → Refines x.holds.map.role map.role → PhaseAgrees t' Idle → Filling m' t' world places n new
+    pub refilled : (map : RoleMap) → GroundInvariant m' t' (record (loaded world map x.objects) { store = put_body (store_with world x.objects) n new }) → Refines x.holds.map.role map.role → PhaseAgrees t' Idle → Filling m' t' world places n new
     refilled map kept refines aims = record {
       objects = slice_set x.objects n next_object;
-      holds = record { map = map; kept = subst (λ (s : M.Store). GroundInvariant m' t' map world.space.levels world.areas s no_aim) (put_store x.objects new) kept; aims = aims };
+      holds = record { map = map; kept = subst (λ (s : M.Store). GroundInvariant m' t' (record (loaded world map x.objects) { store = s })) (put_store x.objects new) kept; aims = aims };
       count_is = length-set x.objects n next_object ∙ x.count_is;
       places_are = λ i inside. let was = x.places_are i inside in record { names = refined x.holds.map.role map.role refines (place_at places i).word.content (V.Ref i) was.names; tag = was.tag };
       filled = λ i before. set_other i (λ e. omega arith) ∙ x.filled i before;
@@ -125,18 +125,14 @@ word_means m t world places n body x same (V.Ref name) below = (x.places_are nam
 -- A cons
 
 module _ (m : Store) (t : Table) (world : World) (places : List PlaceView) (n : ℕ) (body : Body) (x : Filling m t world places n body) (low : n < length world.objects) where
-  can_read : CanRead m t x.holds.map world.space.levels world.areas [] (store_with world x.objects) no_aim (place_at places n).word.content (V.Ref n)
+  can_read : CanRead m t (loaded world x.holds.map x.objects) [] (place_at places n).word.content (V.Ref n)
   can_read = record { kept = x.holds.kept; value_is = (x.places_are n low).names; survives = λ region old. absurd (x.holds.aims.1 region old) }
 
   pub can_set : (written : Parts) (v : Value) → value_of x.holds.map.role written.content ≡ Some v → CanSet m t (place_at places n).word written
   can_set written v is = record {
     can = record {
-      map = x.holds.map;
-      top = world.space.levels;
-      areas = world.areas;
+      it = loaded world x.holds.map x.objects;
       registers = [];
-      objects = store_with world x.objects;
-      aim = no_aim;
       value = V.Ref n;
       can = can_read;
       fresh = λ old. x.holds.aims.1 _ old.2;
@@ -152,12 +148,12 @@ module _ (m : Store) (t : Table) (world : World) (places : List PlaceView) (n : 
   module _ (m' : Store) (t' : Table) where
     pub car_filled : (old cdr new : Value) (written : Content) → body ≡ Cons old cdr → value_of x.holds.map.role written ≡ Some new → t' ≡ t → SetsCar m t m' t' (place_at places n).word.content written → Filling m' t' world places n (Cons new cdr)
     car_filled old cdr new written is value same sets =
-        let s = sets x.holds.map world.space.levels world.areas [] (store_with world x.objects) no_aim n old cdr new can_read (body_here ∙ is) value in
+        let s = sets (loaded world x.holds.map x.objects) [] n old cdr new can_read (body_here ∙ is) value in
         refilled m t world places n m' t' body (Cons new cdr) x low s.map s.kept s.refines (subst (λ (u : Table). PhaseAgrees u Idle) (sym same) x.holds.aims)
 
     pub cdr_filled : (car old new : Value) (written : Content) → body ≡ Cons car old → value_of x.holds.map.role written ≡ Some new → OnlyGrows t t' → SetsCdr m t m' t' (place_at places n).word.content written → Filling m' t' world places n (Cons car new)
     cdr_filled car old new written is value g sets =
-        let s = sets x.holds.map world.space.levels world.areas [] (store_with world x.objects) no_aim n car old new can_read (body_here ∙ is) value in
+        let s = sets (loaded world x.holds.map x.objects) [] n car old new can_read (body_here ∙ is) value in
         refilled m t world places n m' t' body (Cons car new) x low s.map s.kept s.refines (aims_grown t t' Idle g x.holds.aims)
 
     -- nothing was stored
@@ -165,11 +161,11 @@ module _ (m : Store) (t : Table) (world : World) (places : List PlaceView) (n : 
     filling_read same nothing = record {
       objects = x.objects;
       holds = subst (λ (u : Table). Holds m' u world x.objects) (sym same)
-          (record { map = x.holds.map; kept = kept_on_same m m' t x.holds.map world.space.levels world.areas (store_with world x.objects) no_aim x.holds.kept nothing; aims = x.holds.aims });
+          (record { map = x.holds.map; kept = kept_on_same m m' t (loaded world x.holds.map x.objects) x.holds.kept nothing; aims = x.holds.aims });
     }
 
   -- a field of the block was stored
-  pub field_filled : (m' : Store) (code : ℕ) (fields : List Value) (index : ℕ) (new : Value) → GroundInvariant m' t x.holds.map world.space.levels world.areas (put_body (store_with world x.objects) n (Block code (slice_set fields index new))) no_aim
+  pub field_filled : (m' : Store) (code : ℕ) (fields : List Value) (index : ℕ) (new : Value) → GroundInvariant m' t (record (loaded world x.holds.map x.objects) { store = put_body (store_with world x.objects) n (Block code (slice_set fields index new)) })
       → Filling m' t world places n (Block code (slice_set fields index new))
   field_filled m' code fields index new kept = refilled m t world places n m' t body (Block code (slice_set fields index new)) x low x.holds.map kept (λ kind a k e. e) x.holds.aims
 

@@ -13,7 +13,6 @@ use Rattle.lisp_graph.specs.Graph.{object_at}
 use Rattle.mem_port.specs.Store.{Store, Stores, StoresNothing}
 use Rattle.area_space.specs.Table.{Table}
 use Rattle.block_store.specs.obj_layout.Forwards.{word_at, IsFinal}
-use Rattle.block_store.specs.lisp_meaning.State.{no_aim}
 use Rattle.block_store.specs.lisp_meaning.Classes.{classes}
 use Rattle.block_store.specs.lisp_meaning.Fits.{PairCode}
 use Rattle.block_store.specs.lisp_meaning.Roles.{AsBlock, AsCons, names_as, value_of}
@@ -33,7 +32,7 @@ use Rattle.cdr_lists.proofs.PartStores.{car_set, cdr_set, second_inside}
 use Rattle.cdr_lists.proofs.SettledCell.{final_itself, no_change}
 use Rattle.heap_load.specs.Drafts.{is_known}
 use Rattle.heap_load.specs.Places.{PlaceView, cell_code_of, place_at, word_of}
-use Rattle.heap_load.specs.Loading.{BlockStandsIn, CarFilled, Filled, Filling, HoldsSome, IsLoadable, Laid, StandsIn, code_for}
+use Rattle.heap_load.specs.Loading.{BlockStandsIn, CarFilled, Filled, Filling, HoldsSome, IsLoadable, Laid, StandsIn, code_for, loaded}
 use Rattle.heap_load.proofs.NewDrafts.{store_with}
 use Rattle.heap_load.proofs.ObjectParts.{ConsFilling, FieldsFilled, body_here, can_set, car_filled, cdr_filled, cons_start, field_filled, fields_more, filled_next, filling_read, parts_below, word_means}
 use Rattle.heap_load.proofs.ConsPlaces.{block_named, cons_named, laid_stored, value_stays}
@@ -85,7 +84,7 @@ module _ (m : Store) (t : Table) (world : World) (places : List PlaceView) (n : 
 
     module _ (pair : (place_at places n).cell ≡ false) where
       there : StandsThere (ground_image m t) x.holds.map AsCons at n
-      there = stands_there m t x.holds.map world.space.levels world.areas (store_with world x.objects) no_aim x.holds.kept AsCons at n
+      there = stands_there m t (loaded world x.holds.map x.objects) x.holds.kept AsCons at n
           (cons_named x.holds.map (place_at places n).word.content at n is (x.places_are n low).names) at (final_itself m.words at final) final
 
       -- the second word has the cdr code of the charge
@@ -217,8 +216,8 @@ module _ (m : Store) (t : Table) (world : World) (places : List PlaceView) (n : 
 
   pub field_inside : at + 1 + i < length m.words
   field_inside =
-      let place = final_is_place m t x.filling.holds.map world.space.levels world.areas (store_with world x.filling.objects) no_aim x.filling.holds.kept AsBlock at n block_name at (final_itself m.words at block_final) in
-      let live = field_live m t x.filling.holds.map world.space.levels world.areas (store_with world x.filling.objects) no_aim x.filling.holds.kept at n block_name x.code x.so_far block_body i field_low (λ old. x.filling.holds.aims.1 _ old) in
+      let place = final_is_place m t (loaded world x.filling.holds.map x.filling.objects) x.filling.holds.kept AsBlock at n block_name at (final_itself m.words at block_final) in
+      let live = field_live m t (loaded world x.filling.holds.map x.filling.objects) x.filling.holds.kept at n block_name x.code x.so_far block_body i field_low (λ old. x.filling.holds.aims.1 _ old) in
       let inside = live-inside m x.filling.holds.kept.table x.filling.holds.kept.ground.size (subst (λ (a : ℕ). IsLiveWord t (suc a + i)) (sym place) live) in
       omega arith
 
@@ -236,8 +235,8 @@ module _ (m : Store) (t : Table) (world : World) (places : List PlaceView) (n : 
 
     pub field_done : (t' : Table) → t' ≡ t → FieldsFilled m' t' world places n fields (i + 1)
     field_done t' same = subst (λ (u : Table). FieldsFilled m' u world places n fields (i + 1)) (sym same) (
-        let st = stands_there m t x.filling.holds.map world.space.levels world.areas (store_with world x.filling.objects) no_aim x.filling.holds.kept AsBlock at n block_name at (final_itself m.words at block_final) block_final in
-        let after = field_stored_on m m' t x.filling.holds.map world.space.levels world.areas (store_with world x.filling.objects) no_aim at n i x.code x.so_far (get_or fields i V.Nil) x.filling.holds.kept st block_body field_low (record {
+        let st = stands_there m t (loaded world x.filling.holds.map x.filling.objects) x.filling.holds.kept AsBlock at n block_name at (final_itself m.words at block_final) block_final in
+        let after = field_stored_on m m' t (loaded world x.filling.holds.map x.filling.objects) at n i x.code x.so_far (get_or fields i V.Nil) x.filling.holds.kept st block_body field_low (record {
           stored = word;
           stores = subst (λ (a : ℕ). Stores m m' a word) field_next stores;
           value_is = field_value;

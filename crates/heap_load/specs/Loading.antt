@@ -19,12 +19,13 @@ use Rattle.lisp_graph.specs.World.{IsWorld}
 use Rattle.mem_port.specs.Store.{Store}
 use Rattle.area_space.specs.Table.{Table}
 use Rattle.block_store.specs.obj_layout.Forwards.{word_at, IsFinal}
-use Rattle.block_store.specs.lisp_meaning.State.{Idle, no_aim, rule_of}
+use Rattle.block_store.specs.lisp_meaning.State.{Idle, rule_of}
 use Rattle.block_store.specs.lisp_meaning.Charges.{account_now}
 use Rattle.block_store.specs.lisp_meaning.Opening.{opening}
 use Rattle.block_store.specs.lisp_meaning.Roles.{RoleMap, value_of}
 use Rattle.heap_load.specs.Drafts.{IsDraft, is_known, with_objects}
 use Rattle.block_store.specs.lisp_ground.GroundInvariant.{GroundInvariant}
+use Rattle.block_store.specs.lisp_meaning.Interpretation.{Interpretation, interpretation}
 use Rattle.heap_state.specs.PhaseAgrees.{PhaseAgrees}
 use Rattle.heap_state.specs.Represents.{Represents}
 use Rattle.cdr_lists.specs.Lists.{cell_code}
@@ -68,10 +69,14 @@ pub record RepresentsSome (m : Store) (t : Table) (registers : List Parts) (worl
 
 -- The ground
 
--- the ground represents these objects in a world's areas, and no collection runs
+-- these objects in a world's areas, by a map, while no collection runs
+abbrev pub loaded : World → RoleMap → List Object → Interpretation
+loaded world map objects = interpretation map (opening (with_objects world objects))
+
+-- the ground represents them
 pub record Holds (m : Store) (t : Table) (world : World) (objects : List Object) : Type 0 where
   pub map : RoleMap
-  pub kept : GroundInvariant m t map world.space.levels world.areas (opening (with_objects world objects)).store no_aim
+  pub kept : GroundInvariant m t (loaded world map objects)
   pub aims : PhaseAgrees t Idle
 
 -- it does for some objects

@@ -16,6 +16,7 @@ use Rattle.transporter.specs.lisp_meaning.Sound.{Reach}
 use Rattle.transporter.specs.lisp_meaning.Step.{Replied, Step, StepsBy, Ends, IsOverAfter, answer_of, answer_wanting, exhausted, allocated, counted, counted_phase, with_over, with_over_phase, is_paid, is_exhausted, is_scavenge, scans, wanted_by, may_fault}
 use Rattle.transporter.proofs.lisp_meaning.closure.Effects.{effect_sizes}
 use Rattle.transporter.specs.lisp_ground.GroundInvariant.{GroundInvariant}
+use Rattle.transporter.specs.lisp_meaning.Interpretation.{interpretation}
 use Rattle.transporter.specs.lisp_ground.After.{old_on}
 use Rattle.scavenger.specs.Scan.{Scan}
 use Rattle.scavenger.specs.Left.{units_of}
@@ -46,7 +47,7 @@ over_aim over (Running c) = refl
 
 pub over_represents : (m : Store) (t : Table) (registers : List Parts) (k : RoleMap) (s : State) (over : Bool) → Represents m t registers k s → Represents m t registers k (with_over over s)
 over_represents m t registers k s over b = record {
-  kept = subst (λ (a : Condemned). GroundInvariant m t k s.space.levels s.areas s.store a) (sym (over_aim over s.phase)) b.kept;
+  kept = subst (λ (a : Condemned). GroundInvariant m t (record (interpretation k s) { aim = a })) (sym (over_aim over s.phase)) b.kept;
   count = b.count;
   means = b.means;
   aims = over_aims t over s.phase b.aims;

@@ -12,7 +12,7 @@ use Rattle.mem_port.specs.Store.{Store}
 use Rattle.area_space.specs.Accounts.{account_of}
 use Rattle.area_space.specs.Table.{Table, areas_of, levels_of, quota_of}
 use Rattle.area_space.specs.Sound.{IsTable}
-use Rattle.transporter.specs.lisp_meaning.State.{State, Condemned, aim_of, new_level, rule_of}
+use Rattle.transporter.specs.lisp_meaning.State.{State, aim_of, new_level, rule_of}
 use Rattle.transporter.specs.lisp_meaning.State as M
 use Rattle.transporter.specs.lisp_meaning.Charges.{account_now}
 use Rattle.transporter.specs.lisp_meaning.Flip.{graph_of}
@@ -20,6 +20,7 @@ use Rattle.transporter.specs.lisp_meaning.Roles.{RoleMap, value_of}
 use Rattle.transporter.specs.lisp_meaning.Step.{allocated, answer_of, answer_wanting, counted, exceeds, exhausted}
 use Rattle.transporter.specs.lisp_ground.After.{old_on}
 use Rattle.transporter.specs.lisp_ground.GroundInvariant.{GroundInvariant}
+use Rattle.transporter.specs.lisp_meaning.Interpretation.{interpretation}
 use Rattle.transporter.proofs.lisp_ground.sums.Accounts.{account_agrees, areas_agree, levels_agree, quota_agrees}
 use Rattle.transporter.specs.Growth.{OpensOrStays}
 use Rattle.transporter.specs.LiveWordsUnchanged.{OnlyGrows}
@@ -41,27 +42,27 @@ use Rattle.heap_state.proofs.CommandEffects.{Leaves, counted_represented, no_mor
 
 -- what the table's quota allows, the state's quota allows
 pub quota_left : (m : Store) (t : Table) (registers : List Parts) (k : RoleMap) (s : State) (area level charge : ℕ) → Represents m t registers k s → area < areas_of t → level < levels_of t → account_of t area + charge ≤ quota_of t area
-    → HasQuota s.space.levels s.areas s.store (aim_of s.phase) area level charge
+    → HasQuota (interpretation k s) area level charge
 quota_left m t registers k s area level charge b area_in level_in fits =
-    let areas = areas_agree m t k s.space.levels s.areas s.store (aim_of s.phase) b.kept in
-    let levels = levels_agree m t k s.space.levels s.areas s.store (aim_of s.phase) b.kept in
+    let areas = areas_agree m t (interpretation k s) b.kept in
+    let levels = levels_agree m t (interpretation k s) b.kept in
     let low : area < length s.areas = omega arith in
-    let account = account_agrees m t k s.space.levels s.areas s.store (aim_of s.phase) b.kept area in
-    let quota = quota_agrees m t k s.space.levels s.areas s.store (aim_of s.phase) b.kept area low in
+    let account = account_agrees m t (interpretation k s) b.kept area in
+    let quota = quota_agrees m t (interpretation k s) b.kept area low in
     record { area_in = low; level_in = omega arith; fits = omega arith }
 
 over_false : (a b : ℕ) → b ≤ a → nat_lt a b ≡ false
 over_false a b low = le-ltb a b low
 
-pub fits_quota : (s : State) (area level charge : ℕ) → HasQuota s.space.levels s.areas s.store (aim_of s.phase) area level charge → exceeds s (record { area = area; charge = charge }) ≡ false
+pub fits_quota : {k : RoleMap} (s : State) (area level charge : ℕ) → HasQuota (interpretation k s) area level charge → exceeds s (record { area = area; charge = charge }) ≡ false
 fits_quota s area level charge q = over_false (rule_of s.areas area).quota (account_now s area + charge) q.fits
 
 -- it allows as much after registers were settled
 pub account_same : (m m' : Store) (t t' : Table) (registers registers' : List Parts) (area : ℕ) → RepresentsState m t registers → RepresentsSame m t registers m' t' registers' → account_of t' area ≡ account_of t area
 account_same m m' t t' registers registers' area x represented =
     let y = represented x.map x.state x.represents x.reach in
-    account_agrees m' t' y.map x.state.space.levels x.state.areas x.state.store (aim_of x.state.phase) y.represents.kept area
-    ∙ sym (account_agrees m t x.map x.state.space.levels x.state.areas x.state.store (aim_of x.state.phase) x.represents.kept area)
+    account_agrees m' t' (interpretation y.map x.state) y.represents.kept area
+    ∙ sym (account_agrees m t (interpretation x.map x.state) x.represents.kept area)
 
 -- What is placed
 
@@ -85,7 +86,7 @@ block_fresh t t' area level at words charge v p = live-fresh (StructAt at) at v 
 -- The state after
 
 -- objects were made, and a register refers to the first of them
-pub made_represented : (m m' : Store) (t t' : Table) (registers : List Parts) (k map : RoleMap) (s : State) (store : M.Store) (to : ℕ) (word : Parts) (v : Value) (words charge : ℕ) → OnlyGrows t t' → Represents m t registers k s → GroundInvariant m' t' map s.space.levels s.areas store (aim_of s.phase)
+pub made_represented : (m m' : Store) (t t' : Table) (registers : List Parts) (k map : RoleMap) (s : State) (store : M.Store) (to : ℕ) (word : Parts) (v : Value) (words charge : ℕ) → OnlyGrows t t' → Represents m t registers k s → GroundInvariant m' t' (record (interpretation map s) { store = store })
     → Rattle.transporter.specs.lisp_meaning.Roles.Refines k.role map.role → to < length registers → value_of map.role word.content ≡ Some v → old_on m' t' store (aim_of s.phase) map.at ≡ old_on m t s.store (aim_of s.phase) k.at → t'.placed ≡ t.placed + words → words ≤ charge
     → RepresentsLater m t m' t' (slice_set registers to word) k s (record s { registers = slice_set s.registers to v; store = store }) charge
 made_represented m m' t t' registers k map s store to word v words charge grows b kept refines low is old placed few =

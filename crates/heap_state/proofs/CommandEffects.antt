@@ -15,6 +15,7 @@ use Rattle.transporter.specs.lisp_meaning.Roles.{RoleMap}
 use Rattle.transporter.specs.lisp_meaning.Sound.{Reach}
 use Rattle.transporter.specs.lisp_meaning.Step.{counted, counted_phase, may_fault, owed_by}
 use Rattle.transporter.specs.lisp_ground.GroundInvariant.{GroundInvariant}
+use Rattle.transporter.specs.lisp_meaning.Interpretation.{interpretation}
 use Rattle.transporter.specs.lisp_ground.After.{old_on}
 use Rattle.transporter.proofs.lisp_ground.invariant.WordStores.{kept_on_same}
 use Rattle.transporter.specs.LiveWordsUnchanged.{OnlyGrows}
@@ -44,7 +45,7 @@ aims_counted t owed paid (Running c) aims = aims
 
 counted_represents : (m : Store) (t : Table) (registers : List Parts) (k : RoleMap) (s : State) (owed paid : ℕ) → Represents m t registers k s → Represents m t registers k (counted owed paid s)
 counted_represents m t registers k s owed paid b = record {
-  kept = subst (λ (aim : Condemned). GroundInvariant m t k s.space.levels s.areas s.store aim) (sym (aim_counted owed paid s.phase)) b.kept;
+  kept = subst (λ (aim : Condemned). GroundInvariant m t (record (interpretation k s) { aim = aim })) (sym (aim_counted owed paid s.phase)) b.kept;
   count = b.count;
   means = b.means;
   aims = aims_counted t owed paid s.phase b.aims;
@@ -68,16 +69,16 @@ no_more m m' t t' registers' k s s' n x = record { map = x.map; represents = x.r
 -- What is represented is unchanged
 
 -- the same objects by a later map
-pub later_represents : (m m' : Store) (t t' : Table) (registers : List Parts) (k : RoleMap) (s : State) → OnlyGrows t t' → Represents m t registers k s → (x : RepresentedByLaterMap m t m' t' k s.space.levels s.areas s.store (aim_of s.phase)) → Represents m' t' registers x.map s
+pub later_represents : (m m' : Store) (t t' : Table) (registers : List Parts) (k : RoleMap) (s : State) → OnlyGrows t t' → Represents m t registers k s → (x : RepresentedByLaterMap m t m' t' (interpretation k s)) → Represents m' t' registers x.map s
 later_represents m m' t t' registers k s g b x = record { kept = x.kept; count = b.count; means = later_means k x.map registers s.registers x.refines b.means; aims = aims_grown t t' s.phase g b.aims }
 
-pub later_represented : (m m' : Store) (t t' : Table) (registers : List Parts) (k : RoleMap) (s : State) → OnlyGrows t t' → Represents m t registers k s → RepresentedByLaterMap m t m' t' k s.space.levels s.areas s.store (aim_of s.phase)
+pub later_represented : (m m' : Store) (t t' : Table) (registers : List Parts) (k : RoleMap) (s : State) → OnlyGrows t t' → Represents m t registers k s → RepresentedByLaterMap m t m' t' (interpretation k s)
     → RepresentsLater m t m' t' registers k s s 0
 later_represented m m' t t' registers k s g b x = record { map = x.map; represents = later_represents m m' t t' registers k s g b x; refines = x.refines; work = (let w = x.work in omega arith) }
 
 -- nothing was stored
 pub read_represents : (m m' : Store) (t : Table) (registers : List Parts) (k : RoleMap) (s : State) → Represents m t registers k s → StoresNothing m m' → Represents m' t registers k s
-read_represents m m' t registers k s b stays = record { kept = kept_on_same m m' t k s.space.levels s.areas s.store (aim_of s.phase) b.kept stays; count = b.count; means = b.means; aims = b.aims }
+read_represents m m' t registers k s b stays = record { kept = kept_on_same m m' t (interpretation k s) b.kept stays; count = b.count; means = b.means; aims = b.aims }
 
 -- after a call the same states are represented, and scanned words and registers are unchanged or fresh
 pub record Leaves (m : Store) (t : Table) (registers : List Parts) (m' : Store) (t' : Table) (registers' : List Parts) : Type 0 where

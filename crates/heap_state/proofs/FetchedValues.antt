@@ -13,6 +13,7 @@ use Rattle.area_space.specs.Table.{Table}
 use Rattle.transporter.specs.lisp_meaning.State.{State, aim_of}
 use Rattle.transporter.specs.lisp_meaning.Flip.{graph_of}
 use Rattle.transporter.specs.lisp_meaning.Roles.{RoleMap}
+use Rattle.transporter.specs.lisp_meaning.Interpretation.{interpretation}
 use Rattle.transporter.specs.lisp_meaning.Sound.{Reach}
 use Rattle.transporter.specs.lisp_meaning.Step.{may_fault}
 use Rattle.transporter.specs.lisp_ground.After.{old_on}
@@ -47,7 +48,7 @@ none_owed n = omega arith
 -- what a command fetches is the value of a word
 pub record Fetches (m : Store) (t : Table) (m' : Store) (t' : Table) (k : RoleMap) (s : State) (c : Command) (to : ℕ) (word : Parts) : Type 0 where
   pub value : Value
-  pub means : MeansOn m t m' t' k s.space.levels s.areas s.store (aim_of s.phase) word value
+  pub means : MeansOn m t m' t' (interpretation k s) word value
   pub is : effect (graph_of s) c ≡ Some (fetched (graph_of s) to value)
 
 abbrev pub FetchesAll : Store → Table → List Parts → Store → Table → Command → ℕ → Parts → Type 0
@@ -56,14 +57,14 @@ FetchesAll m t registers m' t' c to word = (k : RoleMap) (s : State) → Represe
 module _ (m m1 m2 : Store) (t t1 : Table) (registers : List Parts) (c : Command) (to from : ℕ) (word : Parts) (reply : Reply) (consistent : RepresentsState m t registers) (to_in : to < length registers) (from_in : from < length registers) (settled : IsSettled t registers from)
     (only : (i : ℕ) → IsTrue (reads c i) → i ≡ from) (fetches : FetchesAll m t registers m1 t1 c to word) (young : RefersToOld t1 word → ⊥) (preserves : PreservesScanned m t m1 t1) (stays_fresh : NoOldAddresses m t → NoOldAddresses m1 t1) (marks : MarksFollow m t m1 t1) where
   -- the word has a value
-  means_here : MeansOn m t m1 t1 consistent.map consistent.state.space.levels consistent.state.areas consistent.state.store (aim_of consistent.state.phase) word (fetches consistent.map consistent.state consistent.represents consistent.reach).value
+  means_here : MeansOn m t m1 t1 (interpretation consistent.map consistent.state) word (fetches consistent.map consistent.state consistent.represents consistent.reach).value
   means_here = (fetches consistent.map consistent.state consistent.represents consistent.reach).means
 
   -- so it can be shown
   pub fetched_shows : CanShow m1.words word.content
   fetched_shows =
       let f = means_here in
-      can_show m1 t1 f.later.map consistent.state.space.levels consistent.state.areas consistent.state.store (aim_of consistent.state.phase) f.later.kept word.content (fetches consistent.map consistent.state consistent.represents consistent.reach).value f.value_is
+      can_show m1 t1 (interpretation f.later.map consistent.state) f.later.kept word.content (fetches consistent.map consistent.state consistent.represents consistent.reach).value f.value_is
 
   -- it wasn't stored in a register
   pub fetched_leaves : Leaves m t registers m1 t1 registers
@@ -88,7 +89,7 @@ module _ (m m1 m2 : Store) (t t1 : Table) (registers : List Parts) (c : Command)
         inr (record {
           effect_of = fetched (graph_of s) to f.value;
           is = f.is;
-          reply = sym (shows_value m1 t1 f.means.later.map s.space.levels s.areas s.store (aim_of s.phase) f.means.later.kept word.content f.value reply f.means.value_is shows);
+          reply = sym (shows_value m1 t1 (interpretation f.means.later.map s) f.means.later.kept word.content f.value reply f.means.value_is shows);
           sure = sure;
           represented = counted_represented m m2 t t1 (slice_set registers to word) k s (record s { registers = slice_set s.registers to f.value }) _ 0 _
               (wider_represented m m2 t t1 (slice_set registers to word) k s (record s { registers = slice_set s.registers to f.value }) 0 _ (none_owed _) represented);

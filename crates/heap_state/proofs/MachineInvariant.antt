@@ -4,12 +4,13 @@ use Rattle.std.proofs.lemmas.Bool.{cases_Bool}
 use Rattle.store_word.specs.Words.{Parts}
 use Rattle.mem_port.specs.Store.{Store, MarksHold}
 use Rattle.area_space.specs.Table.{Table, IsOld}
-use Rattle.transporter.specs.lisp_meaning.State.{State, Phase, Idle, Running, aim_of}
+use Rattle.transporter.specs.lisp_meaning.State.{State, Phase, Idle, Running}
 use Rattle.transporter.specs.lisp_meaning.Image.{old_at}
 use Rattle.transporter.specs.lisp_meaning.Roles.{RoleMap}
 use Rattle.transporter.specs.lisp_meaning.Sound.{Reach}
 use Rattle.transporter.specs.lisp_meaning.Stands.{PhaseOf, IsScanned, Work}
 use Rattle.transporter.specs.lisp_meaning.Invariant.{MachineInvariant}
+use Rattle.transporter.specs.lisp_meaning.Interpretation.{interpretation}
 use Rattle.transporter.specs.lisp_ground.Image.{image_of}
 use Rattle.transporter.proofs.lisp_ground.invariant.OfImage.{kept_image}
 use Rattle.transporter.proofs.lisp_ground.regions.OldAndLive.{old_region}
@@ -40,7 +41,7 @@ module _ (m : Store) (t : Table) (scan : Scan) (registers : List Parts) (k : Rol
 
   pub strong : Scans m t scan registers k s.store s.phase 0 → Reach s s.phase → MarksHold m → MachineInvariant (image_of m t (rest_of scan t registers)) k s
   strong x reach marks = record {
-    kept = kept_image m t (rest_of scan t registers) k s.space.levels s.areas s.store (aim_of s.phase) b.kept marks;
+    kept = kept_image m t (rest_of scan t registers) (interpretation k s) b.kept marks;
     count = b.count;
     registers = b.means;
     phase = phase_of s.phase b.aims x;

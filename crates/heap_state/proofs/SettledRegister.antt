@@ -6,17 +6,15 @@ use Rattle.std.proofs.lemmas.List.{get_or_default, get_or-set_same, get_or-set_o
 use Rattle.store_word.specs.Words.{Parts, null_word, address_of}
 use Rattle.store_word.specs.declared.word.Content.{Content}
 use Rattle.store_word.specs.declared.word.Content.TheVariants.{Null, Nil as NilWord, List as ListAt, Struct as StructAt, Header, HeaderForward, GcForward, Fixnum}
-use Rattle.lisp_graph.specs.declared.object.Value.{Value}
 use Rattle.lisp_graph.specs.declared.object.Value.TheVariants as V
-use Rattle.lisp_graph.specs.declared.world.AreaRule.{AreaRule}
 use Rattle.mem_port.specs.Store.{Store}
 use Rattle.area_space.specs.Table.{Table}
-use Rattle.transporter.specs.lisp_meaning.State.{State, Phase, Idle, Running, Condemned, aim_of}
-use Rattle.transporter.specs.lisp_meaning.State as M
+use Rattle.transporter.specs.lisp_meaning.State.{State, Phase, Idle, Running}
 use Rattle.transporter.specs.lisp_meaning.Roles.{RoleMap, value_of}
+use Rattle.transporter.specs.lisp_meaning.Interpretation.{interpretation}
 use Rattle.transporter.specs.lisp_meaning.Sound.{Reach}
 use Rattle.transporter.specs.LiveWordsUnchanged.{OnlyGrows}
-use Rattle.transporter.specs.Settling.{reference_of, RefersToOld, CanSettle, IsSettleable, Settles, SettlesOn}
+use Rattle.transporter.specs.Settling.{reference_of, RefersToOld, CanSettle, IsSettleable, Settles, SettlesOn, SettlesAlways}
 use Rattle.transporter.specs.Preserving.{FreshOn, RegistersPreserved, PreservesScanned}
 use Rattle.transporter.specs.Transports.{WordsUnchanged}
 use Rattle.transporter.proofs.LiveObjects.{old-before}
@@ -97,7 +95,7 @@ represented_then m m1 m2 t t1 t2 r0 r1 r2 x y k s b reach =
 -- One register
 
 register_can : (m : Store) (t : Table) (registers : List Parts) (k : RoleMap) (s : State) (r : ℕ) → Represents m t registers k s → Reach s s.phase → r < length registers
-    → CanSettle m t k s.space.levels s.areas s.registers s.store (aim_of s.phase) (get_or registers r null_word) (get_or s.registers r V.Nil)
+    → CanSettle m t (interpretation k s) s.registers (get_or registers r null_word) (get_or s.registers r V.Nil)
 register_can m t registers k s r b reach low =
     let count = b.count in
     let here : r < length s.registers = omega arith in
@@ -109,12 +107,8 @@ register_can m t registers k s r b reach low =
 
 pub register_settleable : (m : Store) (t : Table) (registers : List Parts) (r : ℕ) → RepresentsState m t registers → r < length registers → IsSettleable m t (get_or registers r null_word)
 register_settleable m t registers r x low = record {
-  map = x.map;
-  top = x.state.space.levels;
-  areas = x.state.areas;
+  it = interpretation x.map x.state;
   registers = x.state.registers;
-  store = x.state.store;
-  aim = aim_of x.state.phase;
   value = get_or x.state.registers r V.Nil;
   can = register_can m t registers x.map x.state r x.represents x.reach low;
 }
@@ -122,25 +116,21 @@ register_settleable m t registers r x low = record {
 pub stays_represented : (m m' : Store) (t t' : Table) (registers : List Parts) → OnlyGrows t t' → WordsUnchanged m t m' t' → RepresentsSame m t registers m' t' registers
 stays_represented m m' t t' registers g x k s b reach =
     let placed = x.placed in
-    let old = x.old k s.space.levels s.areas s.store (aim_of s.phase) b.kept in
+    let old = x.old (interpretation k s) b.kept in
     record {
       map = k;
-      represents = record { kept = x.kept k s.space.levels s.areas s.store (aim_of s.phase) b.kept; count = b.count; means = b.means; aims = aims_grown t t' s.phase g b.aims };
+      represents = record { kept = x.kept (interpretation k s) b.kept; count = b.count; means = b.means; aims = aims_grown t t' s.phase g b.aims };
       refines = λ kind a n e. e;
       work = omega arith;
     }
 
--- whatever a word meant, the new one means
-abbrev pub SettlesTo : Store → Table → Store → Table → Parts → Parts → Type 0
-SettlesTo m t m' t' old new = (k : RoleMap) (top : ℕ) (areas : List AreaRule) (values : List Value) (s : M.Store) (aim : Condemned) (v : Value) → CanSettle m t k top areas values s aim old v → SettlesOn m t m' t' k top areas s aim old new
-
-pub settles_here : (m m' : Store) (t t' : Table) (read old new : Parts) → old ≡ read → SettlesTo m t m' t' old new → SettlesTo m t m' t' read new
-settles_here m m' t t' read old new e x = subst (λ (w : Parts). SettlesTo m t m' t' w new) e x
+pub settles_here : (m m' : Store) (t t' : Table) (read old new : Parts) → old ≡ read → SettlesAlways m t m' t' old new → SettlesAlways m t m' t' read new
+settles_here m m' t t' read old new e x = subst (λ (w : Parts). SettlesAlways m t m' t' w new) e x
 
 module _ (m m' : Store) (t t' : Table) (registers : List Parts) (r : ℕ) (new : Parts) (low : r < length registers) (preserves : PreservesScanned m t m' t') (word : Settles t t' (get_or registers r null_word) new)
-    (settles : SettlesTo m t m' t' (get_or registers r null_word) new) where
-  settles_as : (k : RoleMap) (s : State) → Represents m t registers k s → Reach s s.phase → SettlesOn m t m' t' k s.space.levels s.areas s.store (aim_of s.phase) (get_or registers r null_word) new
-  settles_as k s b reach = settles k s.space.levels s.areas s.registers s.store (aim_of s.phase) (get_or s.registers r V.Nil) (register_can m t registers k s r b reach low)
+    (settles : SettlesAlways m t m' t' (get_or registers r null_word) new) where
+  settles_as : (k : RoleMap) (s : State) → Represents m t registers k s → Reach s s.phase → SettlesOn m t m' t' (interpretation k s) (get_or registers r null_word) new
+  settles_as k s b reach = settles (interpretation k s) s.registers (get_or s.registers r V.Nil) (register_can m t registers k s r b reach low)
 
   pub settled_represented : RepresentsSame m t registers m' t' (slice_set registers r new)
   settled_represented k s b reach =

@@ -9,6 +9,7 @@ use Rattle.lisp_graph.specs.Graph.{is_ref}
 use Rattle.area_space.specs.Table.{Table, IsOld}
 use Rattle.transporter.specs.lisp_meaning.State.{State, Phase, Idle, Running, aim_of}
 use Rattle.transporter.specs.lisp_meaning.Roles.{RoleMap, Refines, value_of}
+use Rattle.transporter.specs.lisp_meaning.Interpretation.{interpretation}
 use Rattle.transporter.specs.lisp_meaning.Sound.{Reach}
 use Rattle.transporter.proofs.lisp_meaning.closure.ClosedSets.{refers_at, is_ref-same}
 use Rattle.transporter.proofs.lisp_meaning.maps.Frames.{refined}
@@ -49,7 +50,7 @@ read_on m m' t registers k s b n =
     let same : old_on m' t s.store (aim_of s.phase) k.at ≡ old_on m t s.store (aim_of s.phase) k.at = refl in
     record {
       map = k;
-      represents = record { kept = kept_on_same m m' t k s.space.levels s.areas s.store (aim_of s.phase) b.kept n; count = b.count; means = b.means; aims = b.aims };
+      represents = record { kept = kept_on_same m m' t (interpretation k s) b.kept n; count = b.count; means = b.means; aims = b.aims };
       refines = λ kind a n e. e;
       work = omega arith;
     }

@@ -8,7 +8,7 @@ use Rattle.area_space.specs.Flips.{Condemns}
 use Rattle.area_space.specs.Frees.{Frees}
 use Rattle.area_space.specs.Sound.{IsTable}
 use Rattle.area_space.specs.Ground.{IsGround, NamesNoFree, NamesNoOld, ClearsOld}
-use Rattle.lisp_meaning.specs.State.{Collection, Idle, Running, State, aim_of}
+use Rattle.lisp_meaning.specs.State.{Collection, Idle, Running, State}
 use Rattle.lisp_meaning.specs.Flip.{flipped, Settles}
 use Rattle.lisp_meaning.specs.Roles.{RoleMap}
 use Rattle.lisp_meaning.specs.Units.{units_left}
@@ -16,11 +16,12 @@ use Rattle.lisp_meaning.specs.Stands.{IsScanned}
 use Rattle.lisp_meaning.specs.Invariant.{MachineInvariant}
 use Rattle.lisp_ground.specs.Image.{Rest, image_of}
 use Rattle.lisp_ground.specs.GroundInvariant.{GroundInvariant}
+use Rattle.lisp_meaning.specs.Interpretation.{interpretation}
 
 -- a machine with this memory, this table and this rest represents the state, and its ground the state's objects
 pub record StandsOn (m : Store) (t : Table) (rest : Rest) (k : RoleMap) (s : State) : Type 0 where
   pub strong : MachineInvariant (image_of m t rest) k s
-  pub ground : GroundInvariant m t k s.space.levels s.areas s.store (aim_of s.phase)
+  pub ground : GroundInvariant m t (interpretation k s)
 
 -- a memory and a table that fit each other
 pub record FitsOn (m : Store) (t : Table) : Type 0 where

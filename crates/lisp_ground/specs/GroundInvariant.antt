@@ -10,10 +10,8 @@ use Rattle.area_space.specs.Sound.{IsTable}
 use Rattle.area_space.specs.Room.{RoomRule}
 use Rattle.area_space.specs.Fresh.{kinds_in, quotas_in}
 use Rattle.area_space.specs.Ground.{IsGround, NamesNoFree}
-use Rattle.lisp_meaning.specs.State.{Condemned}
-use Rattle.lisp_meaning.specs.State as M
-use Rattle.lisp_meaning.specs.Roles.{RoleMap}
 use Rattle.lisp_meaning.specs.Invariant.{MemoryInvariant}
+use Rattle.lisp_meaning.specs.Interpretation.{Interpretation}
 use Rattle.lisp_ground.specs.Image.{ground_image}
 
 -- the table is one of these areas, with levels up to the greatest
@@ -30,13 +28,13 @@ pub record SameForm (old new : Table) : Type 0 where
   pub kinds : new.kinds ≡ old.kinds
 
 -- the ground represents the objects, by a role map; the memory and the table fit each other and have room
-pub record GroundInvariant (memory : Store) (t : Table) (k : RoleMap) (top : ℕ) (areas : List AreaRule) (s : M.Store) (aim : Condemned) : Type 0 where
-  pub kept : MemoryInvariant (ground_image memory t) k top areas s aim
+pub record GroundInvariant (memory : Store) (t : Table) (it : Interpretation) : Type 0 where
+  pub kept : MemoryInvariant (ground_image memory t) it
   pub ground : IsGround memory t
   pub named : NamesNoFree memory t
   pub table : IsTable t
   pub room : RoomRule t
-  pub agrees : Agrees t top areas
+  pub agrees : Agrees t it.top it.areas
 
 -- a word has no address in a free region
 abbrev pub NamesUsed : Table → Content → Type 0

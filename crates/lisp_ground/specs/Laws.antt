@@ -28,7 +28,7 @@ use Rattle.obj_layout.specs.Forwards.{Final, HasFinal, IsFinal}
 use Rattle.obj_layout.specs.Shapes.{shape_of, word_count, charge_at, IsWhole}
 use Rattle.obj_layout.specs.declared.run.RunEnd.TheVariants.{Nil, Pair, Forwarded}
 use Rattle.obj_layout.specs.Runs.{IsRun, HasRun}
-use Rattle.lisp_meaning.specs.State.{rule_of, Condemned, no_aim, State, object}
+use Rattle.lisp_meaning.specs.State.{rule_of, no_aim, State, object}
 use Rattle.lisp_meaning.specs.State as M
 use Rattle.lisp_meaning.specs.Charges.{account}
 use Rattle.lisp_meaning.specs.Charges as C
@@ -50,6 +50,7 @@ use Rattle.lisp_meaning.specs.Transport.{CellsStand}
 use Rattle.lisp_meaning.specs.Rewriting.{StandsThere, StoresAt}
 use Rattle.lisp_ground.specs.Image.{Rest, image_of, ground_image}
 use Rattle.lisp_ground.specs.GroundInvariant.{Agrees, GroundInvariant, NamesUsed}
+use Rattle.lisp_meaning.specs.Interpretation.{Interpretation, interpretation}
 use Rattle.lisp_ground.specs.Placing.{Opens}
 use Rattle.lisp_ground.specs.After.{AfterStore}
 
@@ -76,13 +77,13 @@ MarksAreKept = (m : Store) (t : Table) (rest : Rest) → IsTable t → IsGround 
 
 -- what always holds of a ground is the invariant of each machine with that ground
 abbrev pub GroundIsMachine : Type 0
-GroundIsMachine = (m : Store) (t : Table) (rest : Rest) (k : RoleMap) (top : ℕ) (areas : List AreaRule) (s : M.Store) (aim : Condemned)
-    → GroundInvariant m t k top areas s aim → MarksHold m → MemoryInvariant (image_of m t rest) k top areas s aim
+GroundIsMachine = (m : Store) (t : Table) (rest : Rest) (it : Interpretation)
+    → GroundInvariant m t it → MarksHold m → MemoryInvariant (image_of m t rest) it
 
 -- a new memory and a new table represent a world without objects
 abbrev pub FreshStands : Type 0
 FreshStands = (m : Store) (w : World) (regions : ℕ) → IsFresh m regions w.space.levels → IsTable (fresh regions w.space.levels w.areas) → RoomRule (fresh regions w.space.levels w.areas) → IsBare w
-    → GroundInvariant m (fresh regions w.space.levels w.areas) blank_map w.space.levels w.areas (opening w).store no_aim
+    → GroundInvariant m (fresh regions w.space.levels w.areas) (interpretation blank_map (opening w))
 
 -- the page of the latest transport is the table's
 abbrev pub LatestPageIs : Type 0
@@ -112,24 +113,24 @@ pub record CollectionsAgree : Type 0 where
 
 -- a place keeps the objects that the ground represents
 abbrev pub PlaceKeeps : Type 0
-PlaceKeeps = (m m' : Store) (t t' : Table) (opened : Option ℕ) (area level : ℕ) (k : RoleMap) (top : ℕ) (areas : List AreaRule) (s : M.Store) (aim : Condemned)
-    → GroundInvariant m t k top areas s aim → area < areas_of t → level < levels_of t → Opens m t m' t' opened area level → GroundInvariant m' t' k top areas s aim
+PlaceKeeps = (m m' : Store) (t t' : Table) (opened : Option ℕ) (area level : ℕ) (it : Interpretation)
+    → GroundInvariant m t it → area < areas_of t → level < levels_of t → Opens m t m' t' opened area level → GroundInvariant m' t' it
 
 -- The used words of an area and those to be placed are at most twice its quota:
 -- those of a new object that fits the quota,
 abbrev pub RoomForNew : Type 0
-RoomForNew = (m : Store) (t : Table) (k : RoleMap) (top : ℕ) (areas : List AreaRule) (s : M.Store) (aim : Condemned) → GroundInvariant m t k top areas s aim
-    → (area words charge : ℕ) → area < length areas → words ≤ charge → account top s aim area + charge ≤ (rule_of areas area).quota → words_of_area t area + words ≤ 2 * quota_of t area
+RoomForNew = (m : Store) (t : Table) (it : Interpretation) → GroundInvariant m t it
+    → (area words charge : ℕ) → area < length it.areas → words ≤ charge → account it.top it.store it.aim area + charge ≤ (rule_of it.areas area).quota → words_of_area t area + words ≤ 2 * quota_of t area
 
 -- those of objects that move out of an old class that is charged for them,
 abbrev pub RoomForMoved : Type 0
-RoomForMoved = (m : Store) (t : Table) (k : RoleMap) (top : ℕ) (areas : List AreaRule) (s : M.Store) (aim : Condemned) → GroundInvariant m t k top areas s aim
-    → (area words charge from : ℕ) → area < length areas → words ≤ charge → from < suc top → charge ≤ (ground_image m t).old_charge area from → words_of_area t area + words ≤ 2 * quota_of t area
+RoomForMoved = (m : Store) (t : Table) (it : Interpretation) → GroundInvariant m t it
+    → (area words charge from : ℕ) → area < length it.areas → words ≤ charge → from < suc it.top → charge ≤ (ground_image m t).old_charge area from → words_of_area t area + words ≤ 2 * quota_of t area
 
 -- and the two of a live cell that becomes a pair
 abbrev pub RoomForSpare : Type 0
-RoomForSpare = (m : Store) (t : Table) (k : RoleMap) (top : ℕ) (areas : List AreaRule) (s : M.Store) (aim : Condemned) → GroundInvariant m t k top areas s aim
-    → (area words level : ℕ) → area < length areas → level < suc top → words ≤ spares_in s k (classes (ground_image m t)) (in_class area level) → words_of_area t area + words ≤ 2 * quota_of t area
+RoomForSpare = (m : Store) (t : Table) (it : Interpretation) → GroundInvariant m t it
+    → (area words level : ℕ) → area < length it.areas → level < suc it.top → words ≤ spares_in it.store it.map (classes (ground_image m t)) (in_class area level) → words_of_area t area + words ≤ 2 * quota_of t area
 
 -- There is room for the words of a new object, for those of objects that move, and for those of a cell that becomes a pair.
 pub record PlacesHaveRoom : Type 0 where
@@ -139,22 +140,22 @@ pub record PlacesHaveRoom : Type 0 where
 
 -- the account of an area that the table keeps is that of its objects
 abbrev pub AccountsAgree : Type 0
-AccountsAgree = (m : Store) (t : Table) (k : RoleMap) (top : ℕ) (areas : List AreaRule) (s : M.Store) (aim : Condemned) → GroundInvariant m t k top areas s aim → (area : ℕ) → account_of t area ≡ account top s aim area
+AccountsAgree = (m : Store) (t : Table) (it : Interpretation) → GroundInvariant m t it → (area : ℕ) → account_of t area ≡ account it.top it.store it.aim area
 
 -- and while no collection runs the total of a level that it keeps is that of the level's objects and husks
 abbrev pub LevelTotalsOn : Type 0
-LevelTotalsOn = (m : Store) (t : Table) (k : RoleMap) (s : State) → GroundInvariant m t k s.space.levels s.areas s.store no_aim → (level : ℕ) → level ≤ s.space.levels → level_total t level ≡ C.level_total s level
+LevelTotalsOn = (m : Store) (t : Table) (k : RoleMap) (s : State) → GroundInvariant m t (record (interpretation k s) { aim = no_aim }) → (level : ℕ) → level ≤ s.space.levels → level_total t level ≡ C.level_total s level
 
 -- so a new object that fits the quota of its area may be committed,
 abbrev pub NewAllowed : Type 0
-NewAllowed = (m : Store) (t : Table) (k : RoleMap) (top : ℕ) (areas : List AreaRule) (s : M.Store) (aim : Condemned) → GroundInvariant m t k top areas s aim
-    → (area level at words : ℕ) → area < length areas → level < levels_of t → IsEnd t (slot_of t area level) at words
-    → (charge : ℕ) → account top s aim area + charge ≤ (rule_of areas area).quota → (slot : ℕ) → IsEnd t slot at words → AllowsOrigin t slot charge New
+NewAllowed = (m : Store) (t : Table) (it : Interpretation) → GroundInvariant m t it
+    → (area level at words : ℕ) → area < length it.areas → level < levels_of t → IsEnd t (slot_of t area level) at words
+    → (charge : ℕ) → account it.top it.store it.aim area + charge ≤ (rule_of it.areas area).quota → (slot : ℕ) → IsEnd t slot at words → AllowsOrigin t slot charge New
 
 -- and one that moves out of an old class that is charged for it
 abbrev pub MovedAllowed : Type 0
-MovedAllowed = (m : Store) (t : Table) (k : RoleMap) (top : ℕ) (areas : List AreaRule) (s : M.Store) (aim : Condemned) → GroundInvariant m t k top areas s aim
-    → (area level at words : ℕ) → area < length areas → level < levels_of t → IsEnd t (slot_of t area level) at words
+MovedAllowed = (m : Store) (t : Table) (it : Interpretation) → GroundInvariant m t it
+    → (area level at words : ℕ) → area < length it.areas → level < levels_of t → IsEnd t (slot_of t area level) at words
     → (charge from : ℕ) → from < levels_of t → charge ≤ (ground_image m t).old_charge area from → (slot : ℕ) → IsEnd t slot at words
     → AllowsOrigin t slot charge (Moved (record { area = area; level = from; stale = true }))
 
@@ -169,21 +170,21 @@ pub record CommitsAreAllowed : Type 0 where
 
 -- if nothing is stored, the ground represents what it did
 abbrev pub ReadsKeep : Type 0
-ReadsKeep = (m m' : Store) (t : Table) (k : RoleMap) (top : ℕ) (areas : List AreaRule) (s : M.Store) (aim : Condemned) → GroundInvariant m t k top areas s aim → StoresNothing m m' → GroundInvariant m' t k top areas s aim
+ReadsKeep = (m m' : Store) (t : Table) (it : Interpretation) → GroundInvariant m t it → StoresNothing m m' → GroundInvariant m' t it
 
 -- a word with a value has no address in a free region
 abbrev pub ValuesNameUsed : Type 0
-ValuesNameUsed = (m : Store) (t : Table) (k : RoleMap) (top : ℕ) (areas : List AreaRule) (s : M.Store) (aim : Condemned) → GroundInvariant m t k top areas s aim
-    → (content : Content) (v : Value) → value_of k.role content ≡ Some v → NamesUsed t content
+ValuesNameUsed = (m : Store) (t : Table) (it : Interpretation) → GroundInvariant m t it
+    → (content : Content) (v : Value) → value_of it.map.role content ≡ Some v → NamesUsed t content
 
 -- a word with a value is stored below a used end, with the cdr code of the word before it: the image has the same store; and what the image keeps after it, the ground keeps
 pub record StoreKeeps : Type 0 where
-  pub stored : (m m' : Store) (t : Table) (k : RoleMap) (top : ℕ) (areas : List AreaRule) (s : M.Store) (aim : Condemned) → GroundInvariant m t k top areas s aim
-      → (a : ℕ) (w : Parts) (v : Value) → Stores m m' a w → IsTrue (is_used (ground_image m t) a) → value_of k.role w.content ≡ Some v
-      → w.cdr ≡ (word (ground_image m t) a).cdr → StoresAt (ground_image m t) m'.words k a v
-  pub kept : (m m' : Store) (t : Table) (k : RoleMap) (top : ℕ) (areas : List AreaRule) (s : M.Store) (aim : Condemned) → GroundInvariant m t k top areas s aim
-      → (a : ℕ) (w : Parts) (v : Value) → Stores m m' a w → IsTrue (is_used (ground_image m t) a) → value_of k.role w.content ≡ Some v
-      → (s' : M.Store) → AfterWord (ground_image m t) (with_words (ground_image m t) m'.words) k top areas s s' aim → AfterStore m t m' k top areas s s' aim
+  pub stored : (m m' : Store) (t : Table) (it : Interpretation) → GroundInvariant m t it
+      → (a : ℕ) (w : Parts) (v : Value) → Stores m m' a w → IsTrue (is_used (ground_image m t) a) → value_of it.map.role w.content ≡ Some v
+      → w.cdr ≡ (word (ground_image m t) a).cdr → StoresAt (ground_image m t) m'.words it.map a v
+  pub kept : (m m' : Store) (t : Table) (it : Interpretation) → GroundInvariant m t it
+      → (a : ℕ) (w : Parts) (v : Value) → Stores m m' a w → IsTrue (is_used (ground_image m t) a) → value_of it.map.role w.content ≡ Some v
+      → (s' : M.Store) → AfterWord (ground_image m t) (with_words (ground_image m t) m'.words) it s' → AfterStore m t m' it s'
 
 -- Reads keep what the ground represents, and so does a store of a word with a value, if the image keeps it.
 pub record WordsKeepGrounds : Type 0 where
@@ -201,33 +202,33 @@ pub record WordsAgree : Type 0 where
 
 -- the final address of an address that has a name is the place of the object with this name
 pub record FinalsArePlaces : Type 0 where
-  pub has_final : (m : Store) (t : Table) (k : RoleMap) (top : ℕ) (areas : List AreaRule) (s : M.Store) (aim : Condemned) → GroundInvariant m t k top areas s aim
-      → (kind : Kind) (a n : ℕ) → names_as kind (k.role a) ≡ Some n → HasFinal m.words a
-  pub is_place : (m : Store) (t : Table) (k : RoleMap) (top : ℕ) (areas : List AreaRule) (s : M.Store) (aim : Condemned) → GroundInvariant m t k top areas s aim
-      → (kind : Kind) (a n : ℕ) → names_as kind (k.role a) ≡ Some n → (b : ℕ) → Final m.words a b → b ≡ k.at n
-  pub stands : (m : Store) (t : Table) (k : RoleMap) (top : ℕ) (areas : List AreaRule) (s : M.Store) (aim : Condemned) → GroundInvariant m t k top areas s aim
-      → (kind : Kind) (a n : ℕ) → names_as kind (k.role a) ≡ Some n → (b : ℕ) → Final m.words a b → IsFinal m.words b → StandsThere (ground_image m t) k kind b n
+  pub has_final : (m : Store) (t : Table) (it : Interpretation) → GroundInvariant m t it
+      → (kind : Kind) (a n : ℕ) → names_as kind (it.map.role a) ≡ Some n → HasFinal m.words a
+  pub is_place : (m : Store) (t : Table) (it : Interpretation) → GroundInvariant m t it
+      → (kind : Kind) (a n : ℕ) → names_as kind (it.map.role a) ≡ Some n → (b : ℕ) → Final m.words a b → b ≡ it.map.at n
+  pub stands : (m : Store) (t : Table) (it : Interpretation) → GroundInvariant m t it
+      → (kind : Kind) (a n : ℕ) → names_as kind (it.map.role a) ≡ Some n → (b : ℕ) → Final m.words a b → IsFinal m.words b → StandsThere (ground_image m t) it.map kind b n
 
 -- an object at its place is charged what its words show, and all its words are in the memory
 pub record ChargesAreWords : Type 0 where
-  pub charge_is : (m : Store) (t : Table) (k : RoleMap) (top : ℕ) (areas : List AreaRule) (s : M.Store) (aim : Condemned) → GroundInvariant m t k top areas s aim
-      → (b n : ℕ) (kind : Kind) → StandsThere (ground_image m t) k kind b n → charge_at m.words b ≡ (object s n).charge
-  pub whole : (m : Store) (t : Table) (k : RoleMap) (top : ℕ) (areas : List AreaRule) (s : M.Store) (aim : Condemned) → GroundInvariant m t k top areas s aim
-      → (b n : ℕ) (kind : Kind) → StandsThere (ground_image m t) k kind b n → IsWhole m.words b
+  pub charge_is : (m : Store) (t : Table) (it : Interpretation) → GroundInvariant m t it
+      → (b n : ℕ) (kind : Kind) → StandsThere (ground_image m t) it.map kind b n → charge_at m.words b ≡ (object it.store n).charge
+  pub whole : (m : Store) (t : Table) (it : Interpretation) → GroundInvariant m t it
+      → (b n : ℕ) (kind : Kind) → StandsThere (ground_image m t) it.map kind b n → IsWhole m.words b
 
 -- a compact run of at most 1,024 cells begins at each cell
 abbrev pub CellsHaveRuns : Type 0
-CellsHaveRuns = (m : Store) (t : Table) (k : RoleMap) (top : ℕ) (areas : List AreaRule) (s : M.Store) (aim : Condemned) → GroundInvariant m t k top areas s aim
-    → (b n i : ℕ) → k.role b ≡ Cell n i → HasRun m.words b
+CellsHaveRuns = (m : Store) (t : Table) (it : Interpretation) → GroundInvariant m t it
+    → (b n i : ℕ) → it.map.role b ≡ Cell n i → HasRun m.words b
 
 -- the end of a compact run shows how its cells may move: up to the last cell of a list, with the pair that follows, or cut before a forward, whose final address is a reference to the rest of the list
 pub record RunEndsAre : Type 0 where
-  pub nil : (m : Store) (t : Table) (k : RoleMap) (top : ℕ) (areas : List AreaRule) (s : M.Store) (aim : Condemned) → GroundInvariant m t k top areas s aim
+  pub nil : (m : Store) (t : Table) (it : Interpretation) → GroundInvariant m t it
       → (b cells : ℕ) → IsRun m.words b (record { cells = suc cells; ending = Nil })
       → CellsStand (ground_image m t) b cells × (forward_of (word (ground_image m t) (b + cells)).content ≡ None) × ((word (ground_image m t) (b + cells)).cdr ≡ CdrNil)
-  pub pair : (m : Store) (t : Table) (k : RoleMap) (top : ℕ) (areas : List AreaRule) (s : M.Store) (aim : Condemned) → GroundInvariant m t k top areas s aim
+  pub pair : (m : Store) (t : Table) (it : Interpretation) → GroundInvariant m t it
       → (b cells : ℕ) → IsRun m.words b (record { cells = cells; ending = Pair })
       → CellsStand (ground_image m t) b cells × (forward_of (word (ground_image m t) (b + cells)).content ≡ None) × ((word (ground_image m t) (b + cells)).cdr ≡ CdrNormal)
-  pub cut : (m : Store) (t : Table) (k : RoleMap) (top : ℕ) (areas : List AreaRule) (s : M.Store) (aim : Condemned) → GroundInvariant m t k top areas s aim
-      → (b n i cells to : ℕ) → k.role b ≡ Cell n i → IsRun m.words b (record { cells = suc cells; ending = Forwarded to })
-      → CellsStand (ground_image m t) b (suc cells) × (value_of k.role (ListAt to) ≡ value_of k.role (ListAt (suc (b + cells))))
+  pub cut : (m : Store) (t : Table) (it : Interpretation) → GroundInvariant m t it
+      → (b n i cells to : ℕ) → it.map.role b ≡ Cell n i → IsRun m.words b (record { cells = suc cells; ending = Forwarded to })
+      → CellsStand (ground_image m t) b (suc cells) × (value_of it.map.role (ListAt to) ≡ value_of it.map.role (ListAt (suc (b + cells))))

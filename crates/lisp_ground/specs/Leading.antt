@@ -8,13 +8,13 @@ use Rattle.area_space.specs.store_word.declared.word.Content.TheVariants.{Nil, L
 use Rattle.area_space.specs.lisp_graph.declared.object.Value.{Value}
 use Rattle.area_space.specs.lisp_graph.declared.object.Value.TheVariants as V
 use Rattle.area_space.specs.lisp_graph.declared.object.Body.TheVariants.{Cons, Block}
-use Rattle.area_space.specs.lisp_graph.declared.world.AreaRule.{AreaRule}
 use Rattle.area_space.specs.mem_port.Store as Memory
 use Rattle.area_space.specs.Table.{Table}
 use Rattle.obj_layout.specs.Forwards.{word_at, Final}
-use Rattle.lisp_meaning.specs.State.{Condemned, Store, object, in_use}
+use Rattle.lisp_meaning.specs.State.{Store, object, in_use}
 use Rattle.lisp_meaning.specs.Roles.{Kind, AsCons, AsBlock, RoleMap, names_as, value_of, kind_of, Begins}
 use Rattle.lisp_ground.specs.GroundInvariant.{GroundInvariant}
+use Rattle.lisp_meaning.specs.Interpretation.{Interpretation}
 
 -- The places of the parts of a cons
 
@@ -80,11 +80,11 @@ pub record IsBlockIn (words : List Parts) (k : RoleMap) (s : Store) (n : ℕ) : 
 
 -- On a ground an address with a name leads to the object of that name, a reference with a value to the object that it names, and conses and blocks have their parts in the words at their places.
 pub record ReferencesLead : Type 0 where
-  pub names : (m : Memory.Store) (t : Table) (k : RoleMap) (top : ℕ) (areas : List AreaRule) (s : Store) (aim : Condemned) → GroundInvariant m t k top areas s aim
-      → (kind : Kind) (a n : ℕ) → names_as kind (k.role a) ≡ Some n → LeadsTo m.words k s kind a n
-  pub values : (m : Memory.Store) (t : Table) (k : RoleMap) (top : ℕ) (areas : List AreaRule) (s : Store) (aim : Condemned) → GroundInvariant m t k top areas s aim
-      → (kind : Kind) (a : ℕ) (v : Value) → value_of k.role (reference kind a) ≡ Some v → Refers m.words k s kind a v
-  pub conses : (m : Memory.Store) (t : Table) (k : RoleMap) (top : ℕ) (areas : List AreaRule) (s : Store) (aim : Condemned) → GroundInvariant m t k top areas s aim
-      → (n : ℕ) → in_use s n → kind_of (object s n).body ≡ AsCons → IsConsIn m.words k s n
-  pub blocks : (m : Memory.Store) (t : Table) (k : RoleMap) (top : ℕ) (areas : List AreaRule) (s : Store) (aim : Condemned) → GroundInvariant m t k top areas s aim
-      → (n : ℕ) → in_use s n → kind_of (object s n).body ≡ AsBlock → IsBlockIn m.words k s n
+  pub names : (m : Memory.Store) (t : Table) (it : Interpretation) → GroundInvariant m t it
+      → (kind : Kind) (a n : ℕ) → names_as kind (it.map.role a) ≡ Some n → LeadsTo m.words it.map it.store kind a n
+  pub values : (m : Memory.Store) (t : Table) (it : Interpretation) → GroundInvariant m t it
+      → (kind : Kind) (a : ℕ) (v : Value) → value_of it.map.role (reference kind a) ≡ Some v → Refers m.words it.map it.store kind a v
+  pub conses : (m : Memory.Store) (t : Table) (it : Interpretation) → GroundInvariant m t it
+      → (n : ℕ) → in_use it.store n → kind_of (object it.store n).body ≡ AsCons → IsConsIn m.words it.map it.store n
+  pub blocks : (m : Memory.Store) (t : Table) (it : Interpretation) → GroundInvariant m t it
+      → (n : ℕ) → in_use it.store n → kind_of (object it.store n).body ≡ AsBlock → IsBlockIn m.words it.map it.store n

@@ -6,7 +6,6 @@ use Rattle.area_space.specs.store_word.declared.word.Content.TheVariants.{Header
 use Rattle.area_space.specs.lisp_graph.declared.object.Value.{Value}
 use Rattle.area_space.specs.lisp_graph.declared.object.Value.TheVariants as V
 use Rattle.area_space.specs.lisp_graph.declared.object.Body.TheVariants.{Cons, Block}
-use Rattle.area_space.specs.lisp_graph.declared.world.AreaRule.{AreaRule}
 use Rattle.area_space.specs.lisp_graph.Effect.{list_from}
 use Rattle.area_space.specs.mem_port.Store.{Store}
 use Rattle.area_space.specs.declared.classes.Origin.TheVariants.{New}
@@ -14,14 +13,14 @@ use Rattle.area_space.specs.Table.{Table, slot_of}
 use Rattle.area_space.specs.Sound.{IsTable}
 use Rattle.area_space.specs.Places.{IsEnd}
 use Rattle.area_space.specs.Charges.{committed}
-use Rattle.lisp_meaning.specs.State.{rule_of, Condemned}
-use Rattle.lisp_meaning.specs.State as M
+use Rattle.lisp_meaning.specs.State.{rule_of}
 use Rattle.lisp_meaning.specs.Changes.{with_made}
 use Rattle.lisp_meaning.specs.Charges.{account}
 use Rattle.lisp_meaning.specs.Roles.{AsCons, AsBlock, RoleMap, value_of}
 use Rattle.lisp_meaning.specs.Fits.{PairCode}
 use Rattle.lisp_ground.specs.Writes.{WritesWithin}
 use Rattle.lisp_ground.specs.GroundInvariant.{GroundInvariant}
+use Rattle.lisp_meaning.specs.Interpretation.{Interpretation}
 use Rattle.lisp_ground.specs.After.{AfterOn}
 
 -- `count` words at the used end of a live class are written and committed, as those of a new object, in any order
@@ -60,26 +59,26 @@ pub record MakesCells (old : Store) (table : Table) (new : Store) (new_table : T
 -- a cons
 abbrev pub PairMadeOn : Type 0
 PairMadeOn =
-    (m m' : Store) (t t' : Table) (k : RoleMap) (top : ℕ) (areas : List AreaRule) (s : M.Store) (aim : Condemned) (b area level charge : ℕ) (car cdr : Value)
-    → GroundInvariant m t k top areas s aim → area < length areas → level ≤ top → account top s aim area + charge ≤ (rule_of areas area).quota
-    → MakesPair m t m' t' k b area level charge car cdr
-    → AfterOn m t m' t' k top areas s (with_made s (record { area = area; charge = charge; body = Cons car cdr } ∷ []) level) aim 0 AsCons b 1 (λ i. length s.objects)
+    (m m' : Store) (t t' : Table) (it : Interpretation) (b area level charge : ℕ) (car cdr : Value)
+    → GroundInvariant m t it → area < length it.areas → level ≤ it.top → account it.top it.store it.aim area + charge ≤ (rule_of it.areas area).quota
+    → MakesPair m t m' t' it.map b area level charge car cdr
+    → AfterOn m t m' t' it (with_made it.store (record { area = area; charge = charge; body = Cons car cdr } ∷ []) level) 0 AsCons b 1 (λ i. length it.store.objects)
 
 -- a block
 abbrev pub BlockMadeOn : Type 0
 BlockMadeOn =
-    (m m' : Store) (t t' : Table) (k : RoleMap) (top : ℕ) (areas : List AreaRule) (s : M.Store) (aim : Condemned) (b area level code : ℕ) (fields : List Value)
-    → GroundInvariant m t k top areas s aim → area < length areas → level ≤ top → account top s aim area + suc (length fields) ≤ (rule_of areas area).quota
-    → MakesBlock m t m' t' k b area level code fields
-    → AfterOn m t m' t' k top areas s (with_made s (record { area = area; charge = suc (length fields); body = Block code fields } ∷ []) level) aim 0 AsBlock b 1 (λ i. length s.objects)
+    (m m' : Store) (t t' : Table) (it : Interpretation) (b area level code : ℕ) (fields : List Value)
+    → GroundInvariant m t it → area < length it.areas → level ≤ it.top → account it.top it.store it.aim area + suc (length fields) ≤ (rule_of it.areas area).quota
+    → MakesBlock m t m' t' it.map b area level code fields
+    → AfterOn m t m' t' it (with_made it.store (record { area = area; charge = suc (length fields); body = Block code fields } ∷ []) level) 0 AsBlock b 1 (λ i. length it.store.objects)
 
 -- the conses of a list
 abbrev pub ListMadeOn : Type 0
 ListMadeOn =
-    (m m' : Store) (t t' : Table) (k : RoleMap) (top : ℕ) (areas : List AreaRule) (s : M.Store) (aim : Condemned) (b area level : ℕ) (values : List Value)
-    → GroundInvariant m t k top areas s aim → area < length areas → level ≤ top → account top s aim area + 3 * length values ≤ (rule_of areas area).quota
-    → length values ≤ 1024 → MakesCells m t m' t' k b area level values
-    → AfterOn m t m' t' k top areas s (with_made s (list_from area (length s.objects) values) level) aim 0 AsCons b (length values) (λ i. length s.objects + i)
+    (m m' : Store) (t t' : Table) (it : Interpretation) (b area level : ℕ) (values : List Value)
+    → GroundInvariant m t it → area < length it.areas → level ≤ it.top → account it.top it.store it.aim area + 3 * length values ≤ (rule_of it.areas area).quota
+    → length values ≤ 1024 → MakesCells m t m' t' it.map b area level values
+    → AfterOn m t m' t' it (with_made it.store (list_from area (length it.store.objects) values) level) 0 AsCons b (length values) (λ i. length it.store.objects + i)
 
 -- Words that are placed, committed and written, in any order, are a new pair, a new block or the cells of a new list.
 pub record NewObjectsKeepGrounds : Type 0 where

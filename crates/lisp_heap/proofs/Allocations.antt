@@ -14,9 +14,10 @@ use Rattle.lisp_graph.specs.Effect.{Effect, effect}
 use Rattle.mem_port.specs.Store.{MarksHold, Store}
 use Rattle.area_space.specs.Fresh.{kinds_in}
 use Rattle.area_space.specs.Table.{Table, areas_of, levels_of}
-use Rattle.word_graph.specs.lisp_meaning.State.{State, aim_of, new_level, no_rule, rule_of}
+use Rattle.word_graph.specs.lisp_meaning.State.{State, new_level, no_rule, rule_of}
 use Rattle.word_graph.specs.lisp_meaning.Flip.{graph_of}
 use Rattle.word_graph.specs.lisp_meaning.Roles.{RoleMap}
+use Rattle.word_graph.specs.lisp_meaning.Interpretation.{interpretation}
 use Rattle.word_graph.specs.lisp_meaning.Run.{allocates}
 use Rattle.word_graph.specs.lisp_meaning.Sound.{IsAllowed}
 use Rattle.word_graph.specs.lisp_meaning.Step.{answer_of, exceeds, may_fault}
@@ -152,7 +153,7 @@ module _ (m0 : Store) (t0 : Table) (scan0 : Scan) (registers0 : List Parts) (spa
     pub area_ready : (area : ℕ) → area < length t0.kinds → area < areas_of t1
     area_ready area low =
         let same = areas_mid in
-        let b = areas_agree m1 t1 ready.map ready.mid.space.levels ready.mid.areas ready.mid.store (aim_of ready.mid.phase) ready.represents.represents.kept in
+        let b = areas_agree m1 t1 (interpretation ready.map ready.mid) ready.represents.represents.kept in
         omega arith
 
 -- What an allocation has before it is made
@@ -243,7 +244,7 @@ module _ {m0 m1 : Store} {t0 t1 : Table} {scan0 scan1 : Scan} {registers0 : List
     area_ahead =
         let low = p.area_in in
         let same = areas_begun in
-        let b = areas_agree m2 t2 ahead.represented.map begun.mid.space.levels begun.mid.areas begun.mid.store (aim_of begun.mid.phase) ahead.represented.represents.kept in
+        let b = areas_agree m2 t2 (interpretation ahead.represented.map begun.mid) ahead.represented.represents.kept in
         omega arith
 
     pub level_ahead : (level : ℕ) (kind : AreaKind) → level ≡ new_level kind → level < levels_of t2
@@ -251,7 +252,7 @@ module _ {m0 m1 : Store} {t0 t1 : Table} {scan0 scan1 : Scan} {registers0 : List
         let some = p.sound.sizes.levels.0 in
         let same = ap (λ (sp : Space). sp.levels) (begun.space ∙ sym p.sound.stands.1.space) in
         let low = level_low kind in
-        let b = levels_agree m2 t2 ahead.represented.map begun.mid.space.levels begun.mid.areas begun.mid.store (aim_of begun.mid.phase) ahead.represented.represents.kept in
+        let b = levels_agree m2 t2 (interpretation ahead.represented.map begun.mid) ahead.represented.represents.kept in
         omega arith
 
     -- it was made

@@ -17,9 +17,10 @@ use Rattle.mem_port.specs.Store.{MarksHold, Store}
 use Rattle.area_space.specs.Fresh.{kinds_in}
 use Rattle.area_space.specs.Table.{Table, areas_of}
 use Rattle.word_graph.specs.lisp_meaning.Maps.{some_below}
-use Rattle.word_graph.specs.lisp_meaning.State.{Idle, Phase, Running, State, aim_of, is_idle}
+use Rattle.word_graph.specs.lisp_meaning.State.{Idle, Phase, Running, State, is_idle}
 use Rattle.word_graph.specs.lisp_meaning.Flip.{Settles, flipped, graph_of}
 use Rattle.word_graph.specs.lisp_meaning.Roles.{RoleMap}
+use Rattle.word_graph.specs.lisp_meaning.Interpretation.{interpretation}
 use Rattle.word_graph.specs.lisp_meaning.Run.{SilentFlip, SilentReclaim, allocates, collects_itself, full_levels, is_full}
 use Rattle.word_graph.specs.lisp_meaning.Sound.{IsAllowed}
 use Rattle.word_graph.specs.lisp_meaning.Step.{wanted_by}
@@ -150,7 +151,7 @@ looks_refused scan1 scan2 t0 t1 t2 before mid after a b x still same steps =
 
 pub consistent_now : (m : Store) (t : Table) (scan : Scan) (registers : List Parts) → RepresentsMachineState m t scan registers → 0 < areas_of t → RepresentsState m t registers
 consistent_now m t scan registers x some =
-    let same = areas_agree m t x.map x.state.space.levels x.state.areas x.state.store (aim_of x.state.phase) x.represents.represents.kept in
+    let same = areas_agree m t (interpretation x.map x.state) x.represents.represents.kept in
     record { map = x.map; state = x.state; represents = x.represents.represents; reach = x.represents.reach; some = omega arith }
 
 module _ (m0 m1 : Store) (t0 t1 : Table) (scan : Scan) (registers0 registers1 : List Parts) where
@@ -171,8 +172,8 @@ module _ (m1 m2 : Store) (t1 t2 : Table) (scan1 scan2 : Scan) (registers1 regist
     area_there : (k : RoleMap) (s : State) → RepresentsAll m1 t1 scan1 registers1 k s → area < areas_of t2
     area_there k s x =
         let y = ahead k s x in
-        let a = areas_agree m1 t1 k s.space.levels s.areas s.store (aim_of s.phase) x.represents.kept in
-        let b = areas_agree m2 t2 y.represented.map s.space.levels s.areas s.store (aim_of s.phase) y.represented.represents.kept in
+        let a = areas_agree m1 t1 (interpretation k s) x.represents.kept in
+        let b = areas_agree m2 t2 (interpretation y.represented.map s) y.represented.represents.kept in
         let low = wants.area_in in
         omega arith
 

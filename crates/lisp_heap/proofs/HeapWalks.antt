@@ -14,7 +14,8 @@ use Rattle.mem_port.specs.Frames.{LeavesRoom}
 use Rattle.mem_port.specs.Store.{Store, StoresNothing, MarksHold}
 use Rattle.area_space.specs.Table.{Table}
 use Rattle.scavenger.specs.Scan.{Scan}
-use Rattle.word_graph.specs.lisp_meaning.State.{State, aim_of}
+use Rattle.word_graph.specs.lisp_meaning.State.{State}
+use Rattle.word_graph.specs.lisp_meaning.Interpretation.{interpretation}
 use Rattle.word_graph.specs.Placed.{MeanValues, CanWalk, CanSee, HasObject}
 use Rattle.word_graph.specs.Shown.{told, form_in, field_in, parts_in, is_cons_in, cons_in}
 use Rattle.word_graph.proofs.HeldObjects.{registers_are_told, keys_are_objects, reached_show, reads_show_the_same, walks_go_on}
@@ -39,11 +40,7 @@ dump_is_of_state h s st space areas text dump = dump_shown (store_of h.memory) h
 -- so a walk over it is possible
 stands_walk : (h : HeapView) (s : State) → Stands h s → CanWalk (store_of h.memory) h.table h.registers
 stands_walk h s st = record {
-  map = st.map;
-  top = s.space.levels;
-  areas = s.areas;
-  objects = s.store;
-  aim = aim_of s.phase;
+  it = interpretation st.map s;
   kept = st.represents.represents.kept;
   values = s.registers;
   means = stands_mean h s st;

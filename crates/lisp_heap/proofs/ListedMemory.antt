@@ -13,10 +13,11 @@ use Rattle.lisp_graph.specs.declared.world.AreaKind.{AreaKind}
 use Rattle.lisp_graph.specs.declared.world.AreaRule.{AreaRule}
 use Rattle.mem_port.specs.Store.{MarksHold, Store, StoresNothing, level_of_word}
 use Rattle.area_space.specs.Table.{Table}
-use Rattle.word_graph.specs.lisp_meaning.State.{Condemned, Phase, Idle, Running, State, aim_of}
+use Rattle.word_graph.specs.lisp_meaning.State.{Phase, Idle, Running, State}
 use Rattle.word_graph.specs.lisp_meaning.State as M
 use Rattle.word_graph.specs.lisp_meaning.Roles.{RoleMap}
 use Rattle.word_graph.specs.lisp_ground.GroundInvariant.{GroundInvariant}
+use Rattle.word_graph.specs.lisp_meaning.Interpretation.{Interpretation, interpretation}
 use Rattle.scavenger.specs.Scan.{Scan}
 use Rattle.scavenger.specs.Collecting.{ScanInvariant, Collects}
 use Rattle.heap_state.specs.Consistent.{RepresentsState}
@@ -32,8 +33,8 @@ module _ (m : Store) (marks : ℕ → ℕ) where
   abbrev other : Store
   other = record { words = m.words; levels = m.levels; marks = marks; top = m.top }
 
-  remarked_kept : (t : Table) (k : RoleMap) (top : ℕ) (areas : List AreaRule) (s : M.Store) (aim : Condemned) → GroundInvariant m t k top areas s aim → GroundInvariant other t k top areas s aim
-  remarked_kept t k top areas s aim x = record {
+  remarked_kept : (t : Table) (it : Interpretation) → GroundInvariant m t it → GroundInvariant other t it
+  remarked_kept t it x = record {
     kept = x.kept;
     ground = record { size = x.ground.size; levels_size = x.ground.levels_size; top = x.ground.top; level_live = x.ground.level_live; level_old = x.ground.level_old; blank = x.ground.blank };
     named = x.named;
@@ -53,10 +54,10 @@ module _ (m : Store) (marks : ℕ → ℕ) where
     counted = x.counted;
   }
 
-  pub remarked_collects : (t : Table) (scan : Scan) (registers : List Parts) (k : RoleMap) (top : ℕ) (areas : List AreaRule) (values : List Value) (s : M.Store) (aim : Condemned)
-      → Collects m t scan registers k top areas values s aim → Collects other t scan registers k top areas values s aim
-  remarked_collects t scan registers k top areas values s aim x = record {
-    kept = remarked_kept t k top areas s aim x.kept;
+  pub remarked_collects : (t : Table) (scan : Scan) (registers : List Parts) (it : Interpretation) (values : List Value)
+      → Collects m t scan registers it values → Collects other t scan registers it values
+  remarked_collects t scan registers it values x = record {
+    kept = remarked_kept t it x.kept;
     count = x.count;
     means = x.means;
     running = x.running;
@@ -70,7 +71,7 @@ module _ (m : Store) (marks : ℕ → ℕ) where
 
   pub remarked : (t : Table) (scan : Scan) (registers : List Parts) (k : RoleMap) (s : State) → RepresentsAll m t scan registers k s → MarksHold other → RepresentsAll other t scan registers k s
   remarked t scan registers k s x hold = record {
-    represents = record { kept = remarked_kept t k s.space.levels s.areas s.store (aim_of s.phase) x.represents.kept; count = x.represents.count; means = x.represents.means; aims = x.represents.aims };
+    represents = record { kept = remarked_kept t (interpretation k s) x.represents.kept; count = x.represents.count; means = x.represents.means; aims = x.represents.aims };
     scans = remarked_scans t scan registers k s.store s.phase x.scans;
     reach = x.reach;
     marks = hold;

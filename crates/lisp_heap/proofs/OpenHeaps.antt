@@ -14,11 +14,11 @@ use Rattle.area_space.specs.Table.{IsOld, Table, stale}
 use Rattle.area_space.specs.Fresh.{fresh, quotas_in}
 use Rattle.area_space.proofs.EmptyTable.{fresh_is, room_from}
 use Rattle.area_space.proofs.FreeSets.{empties}
-use Rattle.word_graph.specs.lisp_meaning.State.{no_aim}
 use Rattle.word_graph.specs.lisp_meaning.Opening.{opening}
 use Rattle.word_graph.specs.lisp_meaning.Empty.{blank_map, IsBare}
 use Rattle.word_graph.specs.lisp_meaning.Roles.{value_of}
 use Rattle.word_graph.specs.lisp_ground.GroundInvariant.{GroundInvariant}
+use Rattle.word_graph.specs.lisp_meaning.Interpretation.{interpretation}
 use Rattle.word_graph.proofs.lisp_ground.invariant.EmptyMachine.{fresh_kept_on}
 use Rattle.lisp_heap.specs.HeapView.{HeapView, Counts, contents_of}
 use Rattle.lisp_heap.specs.Form.{IsForm, world_with}
@@ -48,7 +48,7 @@ module _ (m : Memory.Store) (pages : ℕ) (space : Space) (areas : List AreaRule
   abbrev registers : List Parts
   registers = replicate space.registers (plain NilWord)
 
-  ground : GroundInvariant m table blank_map space.levels areas (opening world).store no_aim
+  ground : GroundInvariant m table (interpretation blank_map (opening world))
   ground =
       fresh_kept_on m world space.regions new (fresh_is space.regions space.levels areas form.sizes.regions.1 form.sizes.levels.1 form.rules) (room_from space.regions space.levels areas form.room) bare
 

@@ -15,6 +15,7 @@ use Rattle.scavenger.specs.Sweeping.{ScansMany, ScansUpTo, nothing, more}
 use Rattle.lisp_heap.specs.HeapView.{lists_of, store_of}
 use Rattle.lisp_heap.specs.Units.{FollowsOrder}
 use Rattle.lisp_heap.proofs.ListedMemory.{remarked_collects, same_mark}
+use Rattle.word_graph.specs.lisp_meaning.Interpretation.{by_map}
 
 -- a memory with its marks in a list
 abbrev pub in_lists : Store → Store
@@ -29,11 +30,11 @@ unmarked m page none = elim (cases_lt page (16 * length m.levels)) [
 
 module _ {m m' : Store} {t t' : Table} {scan scan' : Scan} {registers registers' : List Parts} where
   still_listed : (count : ℕ) → StillCollects m t scan registers m' t' scan' registers' count → StillCollects (in_lists m) t scan registers (in_lists m') t' scan' registers' count
-  still_listed count still k top areas values s aim x =
-      let y = still k top areas values s aim (remarked_collects (in_lists m) m.marks t scan registers k top areas values s aim x) in
+  still_listed count still it values x =
+      let y = still it values (remarked_collects (in_lists m) m.marks t scan registers it values x) in
       record {
         map = y.map;
-        collects = remarked_collects m' (λ page. slice_index (lists_of m').marks page) t' scan' registers' y.map top areas values s aim y.collects;
+        collects = remarked_collects m' (λ page. slice_index (lists_of m').marks page) t' scan' registers' (by_map it y.map) values y.collects;
         refines = y.refines;
         moves = y.moves;
         units = y.units;

@@ -24,6 +24,7 @@ pub use Rattle.lisp_meaning.specs.reading.Marks
 pub use Rattle.lisp_meaning.specs.reading.Units
 pub use Rattle.lisp_meaning.specs.reading.Stands
 pub use Rattle.lisp_meaning.specs.invariants.Roles
+pub use Rattle.lisp_meaning.specs.invariants.Interpretation
 pub use Rattle.lisp_meaning.specs.invariants.Fits
 pub use Rattle.lisp_meaning.specs.invariants.ChargesIn
 pub use Rattle.lisp_meaning.specs.invariants.Invariant

@@ -3,7 +3,6 @@ use Rattle.std.proofs.Common.{◌≡◌, ℕ, ◌+◌, ◌*◌, ◌/◌, ◌%◌
 use Rattle.std.proofs.lemmas.Bool.{cases_eq, leb-true, leb-false}
 use Rattle.std.proofs.lemmas.List.{get_or-set_same}
 use Rattle.store_word.specs.Words.{Parts}
-use Rattle.lisp_graph.specs.declared.world.AreaRule.{AreaRule}
 use Rattle.mem_port.specs.Store.{Store, StoresNothing, IsClean, level_of_word}
 use Rattle.area_space.specs.Table.{Table, used_of}
 use Rattle.area_space.specs.Sound.{IsTable}
@@ -12,8 +11,8 @@ use Rattle.area_space.proofs.TableFields.{noted_is}
 use Rattle.transporter.specs.obj_layout.Forwards.{word_at}
 use Rattle.transporter.specs.lisp_meaning.State.{Condemned}
 use Rattle.transporter.specs.lisp_meaning.State as M
-use Rattle.transporter.specs.lisp_meaning.Roles.{RoleMap}
 use Rattle.transporter.specs.lisp_ground.GroundInvariant.{GroundInvariant}
+use Rattle.transporter.specs.lisp_meaning.Interpretation.{Interpretation}
 use Rattle.transporter.specs.lisp_ground.After.{old_on}
 use Rattle.transporter.proofs.lisp_ground.invariant.WordStores.{kept_on_same}
 use Rattle.transporter.specs.LiveWordsUnchanged.{OnlyGrows, LiveWordsUnchangedExcept}
@@ -43,8 +42,8 @@ repaged-table t ps v = noted_is t t.aim t.last ps v
 pub repaged-ground : (m : Store) (t : Table) (ps : List ℕ) → IsGround m t → IsGround m (repaged t ps)
 repaged-ground m t ps g = record { size = g.size; levels_size = g.levels_size; top = g.top; level_live = g.level_live; level_old = g.level_old; blank = g.blank }
 
-repaged-kept : (m : Store) (t : Table) (ps : List ℕ) (k : RoleMap) (top : ℕ) (areas : List AreaRule) (s : M.Store) (aim : Condemned) → GroundInvariant m t k top areas s aim → GroundInvariant m (repaged t ps) k top areas s aim
-repaged-kept m t ps k top areas s aim x = record {
+repaged-kept : (m : Store) (t : Table) (ps : List ℕ) (it : Interpretation) → GroundInvariant m t it → GroundInvariant m (repaged t ps) it
+repaged-kept m t ps it x = record {
   kept = x.kept;
   ground = repaged-ground m t ps x.ground;
   named = x.named;
@@ -92,10 +91,10 @@ ended-marks {m} {m'} {t} {t'} {scan} {page} (ends done table drops x) is_done cl
     subst (λ (ls : List ℕ). level_of_word ls word ≡ 0) x.levels (clean at word on (subst (λ (ws : List Parts). slice_get ws at ≡ Some word) (sym x.words) is)))
 ended-marks (stays left table memory) is_done clean = absurd cc
 
-pub ended-kept : (m m' : Store) (t t' : Table) (scan : Scan) (page : ℕ) (k : RoleMap) (top : ℕ) (areas : List AreaRule) (s : M.Store) (aim : Condemned) → EndsPage m t scan m' t' page → GroundInvariant m t k top areas s aim → GroundInvariant m' t' k top areas s aim
-ended-kept m m' t t' scan page k top areas s aim e x =
-    subst (λ (u : Table). GroundInvariant m' u k top areas s aim) (sym (ended-table e))
-    (repaged-kept m' t t'.pages k top areas s aim (kept_on_same m m' t k top areas s aim x (ended-memory e)))
+pub ended-kept : (m m' : Store) (t t' : Table) (scan : Scan) (page : ℕ) (it : Interpretation) → EndsPage m t scan m' t' page → GroundInvariant m t it → GroundInvariant m' t' it
+ended-kept m m' t t' scan page it e x =
+    subst (λ (u : Table). GroundInvariant m' u it) (sym (ended-table e))
+    (repaged-kept m' t t'.pages it (kept_on_same m m' t it x (ended-memory e)))
 
 pub ended-old : (m m' : Store) (t t' : Table) (scan : Scan) (page : ℕ) (s : M.Store) (aim : Condemned) (at : ℕ → ℕ) → EndsPage m t scan m' t' page → old_on m' t' s aim at ≡ old_on m t s aim at
 ended-old m m' t t' scan page s aim at e = ap (λ (u : Table). old_on m' u s aim at) (ended-table e)

@@ -69,7 +69,7 @@ module _ (m : Store) (t : Table) (scan : Scan) (registers : List Parts) (at : �
   pub quiet-scans : ScansWord m t scan registers m t (word_done scan at) registers at
   quiet-scans = word-scans m m m t t t scan (word_done scan at) registers at (word_at m.words at) is (read-preserves t same-stores) (inl (inl refl)) (same-but at (live-read same-stores))
       (record { is = inl refl; fresh = young }) refl ending
-      (λ k top areas values s aim v can. settles-same m t k top areas s aim (word_at m.words at) can.kept)
+      (λ it values v can. settles-same m t it (word_at m.words at) can.kept)
       (sym (left-closed m m t t scan at ending x.collects.kept.table.used_size paged here.going left))
 
   -- nothing moves

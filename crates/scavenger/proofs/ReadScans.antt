@@ -26,7 +26,7 @@ use Rattle.scavenger.proofs.UnitScans.{word-remains}
 
 pub read-remains : (m m1 : Store) (t : Table) (scan : Scan) (registers : List Parts) (at : ℕ) → next_of scan t ≡ Some (Word at) → StoresNothing m m1 → Remains m t scan registers m1 t scan registers
 read-remains m m1 t scan registers at is read =
-    word-remains m m1 t t scan registers at is (read-preserves t read) (inl (inl refl)) (live-read read) (λ k top areas values s aim v can. later-read m m1 t k top areas s aim can.kept read)
+    word-remains m m1 t t scan registers at is (read-preserves t read) (inl (inl refl)) (live-read read) (λ it values v can. later-read m m1 t it can.kept read)
 
 pub read-scan_preserves : {m m1 : Store} {t : Table} → StoresNothing m m1 → ScanPreserves m t m1 t
 read-scan_preserves read = record { grows = grows-same; young = λ r old. refl; placed = refl; words = λ a live. inl (ap (λ (ws : List Parts). word_at ws a) read.words) }

@@ -20,6 +20,7 @@ use Rattle.scavenger.specs.Moves.{MovesEach}
 use Rattle.scavenger.specs.Scanning.{Scans, register, word, none, units_in, ScanPreserves, EndsPage, StillCollects}
 use Rattle.scavenger.specs.Sweeping.{ScansMany, more, ScansUpTo}
 use Rattle.scavenger.proofs.PageEnds.{ended-table, ended-memory, repaged-grows}
+use Rattle.transporter.specs.lisp_meaning.Interpretation.{by_map}
 
 -- no transport was made
 pub moves-none : {m : Store} {t : Table} → MovesAtMost m t m t 0
@@ -27,14 +28,14 @@ moves-none = record { count = 0; few = omega arith; moves = nothing_moves }
 
 -- nothing was done
 pub still-same : (m : Store) (t : Table) (scan : Scan) (registers : List Parts) → StillCollects m t scan registers m t scan registers 0
-still-same m t scan registers k top areas values s aim x = record { map = k; collects = x; refines = λ kind a n e. e; moves = omega arith; units = omega arith }
+still-same m t scan registers it values x = record { map = it.map; collects = x; refines = λ kind a n e. e; moves = omega arith; units = omega arith }
 
 -- two, one after the other
 pub still-twice : (m m1 m2 : Store) (t t1 t2 : Table) (scan scan1 scan2 : Scan) (registers registers1 registers2 : List Parts) (a b : ℕ)
     → StillCollects m t scan registers m1 t1 scan1 registers1 a → StillCollects m1 t1 scan1 registers1 m2 t2 scan2 registers2 b → StillCollects m t scan registers m2 t2 scan2 registers2 (a + b)
-still-twice m m1 m2 t t1 t2 scan scan1 scan2 registers registers1 registers2 a b one two k top areas values s aim x =
-    let first = one k top areas values s aim x in
-    let then = two first.map top areas values s aim first.collects in
+still-twice m m1 m2 t t1 t2 scan scan1 scan2 registers registers1 registers2 a b one two it values x =
+    let first = one it values x in
+    let then = two (by_map it first.map) values first.collects in
     let u1 = first.units in
     let u2 = then.units in
     let m1' = first.moves in
@@ -44,8 +45,8 @@ still-twice m m1 m2 t t1 t2 scan scan1 scan2 registers registers1 registers2 a b
 -- so it collects afterwards
 pub collecting-after : (m m' : Store) (t t' : Table) (scan scan' : Scan) (registers registers' : List Parts) (n : ℕ) → IsCollecting m t scan registers → StillCollects m t scan registers m' t' scan' registers' n → IsCollecting m' t' scan' registers'
 collecting-after m m' t t' scan scan' registers registers' n x still =
-    let after = still x.map x.top x.areas x.values x.store x.aim x.collects in
-    record { map = after.map; top = x.top; areas = x.areas; values = x.values; store = x.store; aim = x.aim; collects = after.collects }
+    let after = still x.it x.values x.collects in
+    record { it = by_map x.it after.map; values = x.values; collects = after.collects }
 
 -- the state after a scan
 pub scanned-still : (m m' : Store) (t t' : Table) (scan scan' : Scan) (registers registers' : List Parts) → Scans m t scan registers m' t' scan' registers' Scanned → StillCollects m t scan registers m' t' scan' registers' 1
@@ -62,7 +63,7 @@ still-up-to {m} {m'} {t} {t'} {scan} {scan'} {registers} {registers'} n e x = su
 -- they and those that remain are those that remained before and the words placed
 pub units-add : {m m' : Store} {t t' : Table} {scan scan' : Scan} {registers registers' : List Parts} → IsCollecting m t scan registers → t.placed ≤ t'.placed → StillCollects m t scan registers m' t' scan' registers' (scan'.done - scan.done)
     → (scan'.done - scan.done) + units_of m' scan' t' registers' ≡ units_of m scan t registers + (t'.placed - t.placed)
-units-add {m} {m'} {t} {t'} {scan} {scan'} x grows still = let units = (still x.map x.top x.areas x.values x.store x.aim x.collects).units in omega arith
+units-add {m} {m'} {t} {t'} {scan} {scan'} x grows still = let units = (still x.it x.values x.collects).units in omega arith
 
 -- No unit remained
 

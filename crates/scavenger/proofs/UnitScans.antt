@@ -5,18 +5,16 @@ use Rattle.std.proofs.lemmas.List.{get_or-set_same, get_or-set_other}
 use Rattle.store_word.specs.Words.{Parts, null_word}
 use Rattle.lisp_graph.specs.declared.object.Value.{Value}
 use Rattle.lisp_graph.specs.declared.object.Value.TheVariants as V
-use Rattle.lisp_graph.specs.declared.world.AreaRule.{AreaRule}
 use Rattle.mem_port.specs.Store.{Store}
 use Rattle.area_space.specs.Table.{Table, used_of}
 use Rattle.transporter.specs.obj_layout.Forwards.{word_at}
-use Rattle.transporter.specs.lisp_meaning.State.{Condemned}
-use Rattle.transporter.specs.lisp_meaning.State as M
 use Rattle.transporter.specs.lisp_meaning.Roles.{RoleMap, Refines, value_of}
 use Rattle.transporter.proofs.lisp_meaning.maps.Frames.{refined}
 use Rattle.transporter.specs.lisp_ground.GroundInvariant.{GroundInvariant}
+use Rattle.transporter.specs.lisp_meaning.Interpretation.{Interpretation, by_map}
 use Rattle.transporter.specs.Growth.{Grows}
 use Rattle.transporter.specs.LiveWordsUnchanged.{IsLiveWord, LiveWordsUnchanged, LiveWordsUnchangedExcept}
-use Rattle.transporter.specs.Settling.{RefersToOld, CanSettle, IsSettleable, Settles, SettlesOn}
+use Rattle.transporter.specs.Settling.{RefersToOld, CanSettle, IsSettleable, Settles, SettlesAlways, RemainsRepresented}
 use Rattle.transporter.specs.Preserving.{FreshOn, PreservesScanned}
 use Rattle.transporter.specs.Transports.{RepresentedByLaterMap, WordsUnchanged}
 use Rattle.transporter.proofs.LiveObjects.{still-live}
@@ -64,12 +62,12 @@ module _ (m m' : Store) (t t' : Table) (scan : Scan) (registers : List Parts) (g
 
 module _ (m m' : Store) (t t' : Table) (scan : Scan) (registers : List Parts) (r : ℕ) (new : Parts) (next : NextRegister scan r) (preserves : PreservesScanned m t m' t')
     (word : Settles t t' (get_or registers r null_word) new)
-    (settles : (k : RoleMap) (top : ℕ) (areas : List AreaRule) (values : List Value) (s : M.Store) (aim : Condemned) (v : Value) → CanSettle m t k top areas values s aim (get_or registers r null_word) v → SettlesOn m t m' t' k top areas s aim (get_or registers r null_word) new) where
+    (settles : SettlesAlways m t m' t' (get_or registers r null_word) new) where
   pub register-scanned : StillCollects m t scan registers m' t' (closed (register_done scan r) t') (slice_set registers r new) 1
-  register-scanned k top areas values s aim x =
+  register-scanned it values x =
       let inside : r < length registers = (let b = x.clean.count in let c = next.low in omega arith) in
       let low : r < length values = (let a = x.count in omega arith) in
-      let on = settles k top areas values s aim (get_or values r V.Nil) (register-can m t scan registers k top areas values s aim r x low) in
+      let on = settles it values (get_or values r V.Nil) (register-can m t scan registers it values r x low) in
       let k' = on.later.map in
       let v' = on.later.kept.table in
       let g' = on.later.kept.ground in
@@ -81,7 +79,7 @@ module _ (m m' : Store) (t t' : Table) (scan : Scan) (registers : List Parts) (r
         | inl e ↦
             let is : get_or (slice_set registers r new) i null_word ≡ new = ap (λ (j : ℕ). get_or (slice_set registers r new) j null_word) e ∙ get_or-set_same registers r new null_word inside in
             ap (λ (w : Parts). value_of k'.role w.content) is ∙ value ∙ ap (λ (j : ℕ). Some (get_or values j V.Nil)) (sym e)
-        | inr ne ↦ ap (λ (w : Parts). value_of k'.role w.content) (get_or-set_other registers r i new null_word ne) ∙ later-means k k' registers values on.later.refines x.means i l
+        | inr ne ↦ ap (λ (w : Parts). value_of k'.role w.content) (get_or-set_other registers r i new null_word ne) ∙ later-means it.map k' registers values on.later.refines x.means i l
       ] in
       let added = open-added m m' t t' scan registers next.going preserves x.kept.table x.kept.ground v' g' x.clean in
       let after = units-closed m' t' (register_done scan r) (slice_set registers r new) g'.size (length-set registers r new ∙ x.clean.count) in
@@ -110,23 +108,23 @@ next-live m t scan registers at v clean next = open-live t at v (next-first scan
 
 module _ (m m' m2 : Store) (t t' t2 : Table) (scan : Scan) (registers : List Parts) (at : ℕ) (new : Parts) (next : NextWord scan t at) (preserves : PreservesScanned m t m' t')
     (word : Settles t t' (word_at m.words at) new) (written : word_at m'.words at ≡ new) (ending : EndsPage m' t' (word_done scan at) m2 t2 (at / 256))
-    (settles : (k : RoleMap) (top : ℕ) (areas : List AreaRule) (values : List Value) (s : M.Store) (aim : Condemned) (v : Value) → CanSettle m t k top areas values s aim (word_at m.words at) v → SettlesOn m t m' t' k top areas s aim (word_at m.words at) new) where
+    (settles : SettlesAlways m t m' t' (word_at m.words at) new) where
   pub word-scanned : StillCollects m t scan registers m2 t2 (closed (word_done scan at) t2) registers 1
-  word-scanned k top areas values s aim x =
+  word-scanned it values x =
       let alive = next-live m t scan registers at x.kept.table x.clean next in
-      let can = word-can m t k top areas values s aim x.kept x.running x.reaches at alive in
-      let on = settles k top areas values s aim can.0 can.1 in
+      let can = word-can m t it values x.kept x.running x.reaches at alive in
+      let on = settles it values can.0 can.1 in
       let k' = on.later.map in
       let v' = on.later.kept.table in
       let g' = on.later.kept.ground in
-      let kept = ended-kept m' m2 t' t2 (word_done scan at) (at / 256) k' top areas s aim ending on.later.kept in
+      let kept = ended-kept m' m2 t' t2 (word_done scan at) (at / 256) (by_map it k') ending on.later.kept in
       let place = next-first scan t at next in
       let first = place.0 in
       let size = x.clean.pages in
       let inside : at / 256 < length scan.pages = (let l = next.low in omega arith) in
       let used : at % 4096 < used_of t' (at / 4096) = (let a = place.1 in let b = preserves.grows.used (at / 4096) in omega arith) in
       let clean = stays-clean m m' t t' scan registers next.going preserves x.kept.table x.kept.ground v' g' x.clean in
-      let fresh = word-fresh m' t' k' top areas s aim on.later.kept at (still-live preserves.grows alive) (subst (λ (w : Parts). RefersToOld t' w → ⊥) (sym written) word.fresh) in
+      let fresh = word-fresh m' t' (by_map it k') on.later.kept at (still-live preserves.grows alive) (subst (λ (w : Parts). RefersToOld t' w → ⊥) (sym written) word.fresh) in
       let done = tidy-word m' t' scan registers at v'.full first used inside fresh (clean-tidy m' t' scan registers v' g' next.going clean) in
       let done2 = ended-tidy m' m2 t' t2 (word_done scan at) (word_done scan at) (at / 256) registers ending done in
       let paged = ended-paged m' m2 t' t2 scan at first inside clean.paged ending in
@@ -134,7 +132,7 @@ module _ (m m' m2 : Store) (t t' t2 : Table) (scan : Scan) (registers : List Par
       let after = units-closed m2 t2 (word_done scan at) registers kept.ground.size x.clean.count in
       let same : open_units (word_done scan at) t2 ≡ open_units (word_done scan at) t' = ap (open_units (word_done scan at)) (ended-table ending) in
       let fewer = word-fewer scan t' at v'.full clean.few first used inside (let l = next.low in let r = preserves.grows.form.regions in omega arith) in
-      let old = ended-old m' m2 t' t2 (word_done scan at) (at / 256) s aim k'.at ending in
+      let old = ended-old m' m2 t' t2 (word_done scan at) (at / 256) it.store it.aim k'.at ending in
       let placed : t2.placed ≡ t'.placed = ap (λ (u : Table). u.placed) (ended-table ending) in
       let work = on.later.work in
       record {
@@ -142,7 +140,7 @@ module _ (m m' m2 : Store) (t t' t2 : Table) (scan : Scan) (registers : List Par
         collects = record {
           kept = kept;
           count = x.count;
-          means = later-means k k' registers values on.later.refines x.means;
+          means = later-means it.map k' registers values on.later.refines x.means;
           running = (ended-grows m' m2 t t' t2 (word_done scan at) (at / 256) ending preserves.grows).aim ∙ x.running;
           reaches = x.reaches;
           clean = tidy-clean m2 t2 (word_done scan at) registers kept.table kept.ground done2 paged;
@@ -155,10 +153,10 @@ module _ (m m' m2 : Store) (t t' t2 : Table) (scan : Scan) (registers : List Par
 -- A swap error
 
 module _ (m m' : Store) (t t' : Table) (scan : Scan) (registers : List Parts) (going : scan.over ≡ false) (preserves : PreservesScanned m t m' t')
-    (later : (k : RoleMap) (top : ℕ) (areas : List AreaRule) (values : List Value) (s : M.Store) (aim : Condemned) → Collects m t scan registers k top areas values s aim → RepresentedByLaterMap m t m' t' k top areas s aim) where
+    (later : (it : Interpretation) (values : List Value) → Collects m t scan registers it values → RepresentedByLaterMap m t m' t' it) where
   pub fault-remains : StillCollects m t scan registers m' t' scan registers 0
-  fault-remains k top areas values s aim x =
-      let on = later k top areas values s aim x in
+  fault-remains it values x =
+      let on = later it values x in
       let added = units-added m m' t t' scan registers registers x.kept.table x.kept.ground on.kept.table on.kept.ground x.clean preserves refl going in
       let work = on.work in
       record {
@@ -166,7 +164,7 @@ module _ (m m' : Store) (t t' : Table) (scan : Scan) (registers : List Parts) (g
         collects = record {
           kept = on.kept;
           count = x.count;
-          means = later-means k on.map registers values on.refines x.means;
+          means = later-means it.map on.map registers values on.refines x.means;
           running = preserves.grows.aim ∙ x.running;
           reaches = x.reaches;
           clean = stays-clean m m' t t' scan registers going preserves x.kept.table x.kept.ground on.kept.table on.kept.ground x.clean;
@@ -177,12 +175,12 @@ module _ (m m' : Store) (t t' : Table) (scan : Scan) (registers : List Parts) (g
       }
 
 -- a call that changes nothing gives a later map: the same
-pub stays-later : (m m' : Store) (t t' : Table) (k : RoleMap) (top : ℕ) (areas : List AreaRule) (s : M.Store) (aim : Condemned) → GroundInvariant m t k top areas s aim → WordsUnchanged m t m' t' → RepresentedByLaterMap m t m' t' k top areas s aim
-stays-later m m' t t' k top areas s aim on stays = record {
-  map = k;
-  kept = stays.kept k top areas s aim on;
+pub stays-later : (m m' : Store) (t t' : Table) (it : Interpretation) → GroundInvariant m t it → WordsUnchanged m t m' t' → RepresentedByLaterMap m t m' t' it
+stays-later m m' t t' it on stays = record {
+  map = it.map;
+  kept = stays.kept it on;
   refines = λ kind a n e. e;
-  work = (let a = stays.placed in let b = stays.old k top areas s aim on in omega arith);
+  work = (let a = stays.placed in let b = stays.old it on in omega arith);
 }
 
 -- The clauses of the calls
@@ -191,50 +189,42 @@ pub register-settleable : {m : Store} {t : Table} {scan : Scan} {registers : Lis
 register-settleable {m} {t} {scan} {registers} r x low =
     let c = x.collects in
     record {
-      map = x.map;
-      top = x.top;
-      areas = x.areas;
+      it = x.it;
       registers = x.values;
-      store = x.store;
-      aim = x.aim;
       value = get_or x.values r V.Nil;
-      can = register-can m t scan registers x.map x.top x.areas x.values x.store x.aim r c (let a = c.count in let b = c.clean.count in omega arith);
+      can = register-can m t scan registers x.it x.values r c (let a = c.count in let b = c.clean.count in omega arith);
     }
 
 -- a register that is settled is fresh
 pub register-fresh : (m m' : Store) (t t' : Table) (scan : Scan) (registers : List Parts) (r : ℕ) (old new : Parts) → IsCollecting m t scan registers → r < scan.registers → get_or registers r null_word ≡ old → Settles t t' old new
-    → ((k : RoleMap) (top : ℕ) (areas : List AreaRule) (values : List Value) (s : M.Store) (aim : Condemned) (v : Value) → CanSettle m t k top areas values s aim old v → SettlesOn m t m' t' k top areas s aim old new)
+    → SettlesAlways m t m' t' old new
     → FreshOn t' new.content
 register-fresh m m' t t' scan registers r old new x low was word settles =
     let c = x.collects in
     let inside : r < length x.values = (let a = c.count in let b = c.clean.count in omega arith) in
     let v = get_or x.values r V.Nil in
-    let can = subst (λ (w : Parts). CanSettle m t x.map x.top x.areas x.values x.store x.aim w (get_or x.values r V.Nil)) was (register-can m t scan registers x.map x.top x.areas x.values x.store x.aim r c inside) in
-    let on = settles x.map x.top x.areas x.values x.store x.aim v can in
-    value-fresh t' on.later.map.role new v (on.value v (sym (ap (λ (w : Parts). value_of x.map.role w.content) was) ∙ c.means r inside)) word.fresh
+    let can = subst (λ (w : Parts). CanSettle m t x.it x.values w (get_or x.values r V.Nil)) was (register-can m t scan registers x.it x.values r c inside) in
+    let on = settles x.it x.values v can in
+    value-fresh t' on.later.map.role new v (on.value v (sym (ap (λ (w : Parts). value_of x.it.map.role w.content) was) ∙ c.means r inside)) word.fresh
 
 pub word-settleable : {m : Store} {t : Table} {scan : Scan} {registers : List Parts} (at : ℕ) → IsCollecting m t scan registers → NextWord scan t at → IsSettleable m t (word_at m.words at)
 word-settleable {m} {t} {scan} {registers} at x next =
     let c = x.collects in
-    let can = word-can m t x.map x.top x.areas x.values x.store x.aim c.kept c.running c.reaches at (next-live m t scan registers at c.kept.table c.clean next) in
+    let can = word-can m t x.it x.values c.kept c.running c.reaches at (next-live m t scan registers at c.kept.table c.clean next) in
     record {
-      map = x.map;
-      top = x.top;
-      areas = x.areas;
+      it = x.it;
       registers = x.values;
-      store = x.store;
-      aim = x.aim;
       value = can.0;
       can = can.1;
     }
 
 pub register-scans : (m m' : Store) (t t' : Table) (scan scan' : Scan) (registers registers' : List Parts) (r : ℕ) (old new : Parts) → next_of scan t ≡ Some (Register r) → PreservesScanned m t m' t' → Grows t t' → LiveWordsUnchanged m t m' t' → get_or registers r null_word ≡ old → Settles t t' old new
-    → ((k : RoleMap) (top : ℕ) (areas : List AreaRule) (values : List Value) (s : M.Store) (aim : Condemned) (v : Value) → CanSettle m t k top areas values s aim old v → SettlesOn m t m' t' k top areas s aim old new)
+    → SettlesAlways m t m' t' old new
     → scan' ≡ closed (register_done scan r) t' → registers' ≡ slice_set registers r new → ScansRegister m t scan registers m' t' scan' registers' r
 register-scans m m' t t' scan scan' registers registers' r old new is preserves grows live was word settles done written =
     let next = next-register scan t r is in
     let word_here = subst (λ (w : Parts). Settles t t' w new) (sym was) word in
-    let settles_here = subst (λ (w : Parts). (k : RoleMap) (top : ℕ) (areas : List AreaRule) (values : List Value) (s : M.Store) (aim : Condemned) (v : Value) → CanSettle m t k top areas values s aim w v → SettlesOn m t m' t' k top areas s aim w new) (sym was) settles in
+    let settles_here = subst (λ (w : Parts). SettlesAlways m t m' t' w new) (sym was) settles in
     let still = register-scanned m m' t t' scan registers r new next preserves word_here settles_here in
     record {
       next = is;
@@ -249,7 +239,7 @@ register-scans m m' t t' scan scan' registers registers' r old new is preserves 
 
 pub word-scans : (m m' m2 : Store) (t t' t2 : Table) (scan scan' : Scan) (registers : List Parts) (at : ℕ) (new : Parts) → next_of scan t ≡ Some (Word at) → PreservesScanned m t m' t' → Grows t t' → LiveWordsUnchangedExcept m t m' t' at → Settles t t' (word_at m.words at) new → word_at m'.words at ≡ new
     → EndsPage m' t' (word_done scan at) m2 t2 (at / 256)
-    → ((k : RoleMap) (top : ℕ) (areas : List AreaRule) (values : List Value) (s : M.Store) (aim : Condemned) (v : Value) → CanSettle m t k top areas values s aim (word_at m.words at) v → SettlesOn m t m' t' k top areas s aim (word_at m.words at) new)
+    → SettlesAlways m t m' t' (word_at m.words at) new
     → scan' ≡ closed (word_done scan at) t2 → ScansWord m t scan registers m2 t2 scan' registers at
 word-scans m m' m2 t t' t2 scan scan' registers at new is preserves grows live word written ending settles done =
     let still = word-scanned m m' m2 t t' t2 scan registers at new (next-word scan t at is) preserves word written ending settles in
@@ -275,11 +265,11 @@ register-remains m m' t t' scan registers r is preserves grows live stays =
       moves = record { table = t'; grows = grows; but = refl };
       live = live;
       still = fault-remains m m' t t' scan registers next.going preserves
-          (λ k top areas values s aim x. stays-later m m' t t' k top areas s aim x.kept stays);
+          (λ it values x. stays-later m m' t t' it x.kept stays);
     }
 
 pub word-remains : (m m' : Store) (t t' : Table) (scan : Scan) (registers : List Parts) (at : ℕ) → next_of scan t ≡ Some (Word at) → PreservesScanned m t m' t' → Grows t t' → LiveWordsUnchanged m t m' t'
-    → ((k : RoleMap) (top : ℕ) (areas : List AreaRule) (values : List Value) (s : M.Store) (aim : Condemned) (v : Value) → CanSettle m t k top areas values s aim (word_at m.words at) v → RepresentedByLaterMap m t m' t' k top areas s aim)
+    → RemainsRepresented m t m' t' (word_at m.words at)
     → Remains m t scan registers m' t' scan registers
 word-remains m m' t t' scan registers at is preserves grows live fault =
     let next = next-word scan t at is in
@@ -289,7 +279,7 @@ word-remains m m' t t' scan registers at is preserves grows live fault =
       moves = record { table = t'; grows = grows; but = refl };
       live = live;
       still = fault-remains m m' t t' scan registers next.going preserves
-          (λ k top areas values s aim x. (let can = word-can m t k top areas values s aim x.kept x.running x.reaches at (next-live m t scan registers at x.kept.table x.clean next) in fault k top areas values s aim can.0 can.1));
+          (λ it values x. (let can = word-can m t it values x.kept x.running x.reaches at (next-live m t scan registers at x.kept.table x.clean next) in fault it values can.0 can.1));
     }
 
 -- if no unit is next the scan has finished

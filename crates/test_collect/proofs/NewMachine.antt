@@ -16,11 +16,11 @@ use Rattle.area_space.specs.Table.{IsOld, Table, stale}
 use Rattle.area_space.specs.Fresh.{RoomRuleFor, fresh, quotas_in}
 use Rattle.area_space.proofs.EmptyTable.{fresh_is, room_from}
 use Rattle.area_space.proofs.FreeSets.{empties}
-use Rattle.heap_state.specs.lisp_meaning.State.{no_aim}
 use Rattle.heap_state.specs.lisp_meaning.Opening.{opening}
 use Rattle.heap_state.specs.lisp_meaning.Empty.{blank_map}
 use Rattle.heap_state.specs.lisp_meaning.Roles.{value_of}
 use Rattle.heap_state.specs.lisp_ground.GroundInvariant.{GroundInvariant}
+use Rattle.heap_state.specs.lisp_meaning.Interpretation.{interpretation}
 use Rattle.heap_state.proofs.lisp_ground.invariant.EmptyMachine.{fresh_kept_on}
 use Rattle.heap_commands.specs.cdr_lists.Words.{plain}
 use Rattle.scavenger.specs.Scan.{Scan, nothing_left}
@@ -48,7 +48,7 @@ module _ (m : Memory.Store) (pages : ℕ) (space : Space) (areas : List AreaRule
   abbrev scan : Scan
   scan = nothing_left space.registers (16 * space.regions)
 
-  ground : GroundInvariant m table blank_map space.levels areas (opening world).store no_aim
+  ground : GroundInvariant m table (interpretation blank_map (opening world))
   ground =
       fresh_kept_on m world space.regions new (fresh_is space.regions space.levels areas sizes.regions.1 sizes.levels.1 rules) (room_from space.regions space.levels areas room)
       (record { objects = refl; roots = λ r l. get_or-replicate 8 r V.Nil V.Nil l })

@@ -10,12 +10,12 @@ use Rattle.area_space.specs.Fresh.{fresh, RoomRuleFor}
 use Rattle.area_space.specs.Sound.{IsTable}
 use Rattle.area_space.specs.Table.{IsOld, Table}
 use Rattle.area_space.proofs.EmptyTable.{room_from}
-use Rattle.heap_state.specs.lisp_meaning.State.{no_aim}
 use Rattle.heap_state.specs.lisp_meaning.Charges.{account_now}
 use Rattle.heap_state.specs.lisp_meaning.Opening.{opening}
 use Rattle.heap_state.specs.lisp_meaning.Empty.{blank_map}
 use Rattle.heap_state.specs.lisp_meaning.Roles.{value_of}
 use Rattle.heap_state.specs.lisp_ground.GroundInvariant.{GroundInvariant}
+use Rattle.heap_state.specs.lisp_meaning.Interpretation.{interpretation}
 use Rattle.heap_state.proofs.lisp_ground.invariant.EmptyMachine.{fresh_kept_on}
 use Rattle.heap_commands.specs.cdr_lists.Words.{plain}
 use Rattle.heap_load.specs.Loading.{RepresentsWorld, FitsQuotas, emptied}
@@ -43,7 +43,7 @@ small_represents m t world x f is v = subst (λ (w : World). RepresentsWorld m t
     here name e = record {
       map = blank_map;
       represents = record {
-        kept = subst (λ (u : Table). GroundInvariant m u blank_map 1 (small_areas name) (opening (emptied (small_world name))).store no_aim) (sym e)
+        kept = subst (λ (u : Table). GroundInvariant m u (interpretation blank_map (opening (emptied (small_world name))))) (sym e)
             (fresh_kept_on m (emptied (small_world name)) 16 f (subst IsTable e v) (room_from 16 1 (small_areas name) (room name)) (record { objects = refl; roots = λ r l. get_or-replicate 3 r V.Nil V.Nil l }));
         count = refl;
         means = λ r l. ap (λ (p : Parts). value_of blank_map.role p.content) (get_or-replicate 3 r (plain NilWord) null_word l) ∙ sym (ap (λ (v : Value). Some v) (get_or-replicate 3 r V.Nil V.Nil l));

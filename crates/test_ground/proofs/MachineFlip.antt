@@ -19,7 +19,7 @@ use Rattle.area_space.specs.Fresh.{fresh, quotas_in, RoomRuleFor}
 use Rattle.area_space.specs.Flips.{Condemns}
 use Rattle.area_space.specs.Ground.{IsGround, NamesNoFree}
 use Rattle.area_space.proofs.EmptyTable.{room_from}
-use Rattle.transporter.specs.lisp_meaning.State.{no_aim, State, Idle}
+use Rattle.transporter.specs.lisp_meaning.State.{State, Idle}
 use Rattle.transporter.specs.lisp_meaning.Image.{Standing, Free, Live, Old, is_live, word, region, old_at, is_used}
 use Rattle.transporter.specs.lisp_meaning.Stands.{Fresh}
 use Rattle.transporter.proofs.lisp_ground.words.Words.{get_or_here}
@@ -33,6 +33,7 @@ use Rattle.transporter.proofs.lisp_meaning.maps.Frames.{refined}
 use Rattle.transporter.proofs.lisp_meaning.closure.ClosedSets.{is_ref-same}
 use Rattle.transporter.specs.lisp_ground.Image.{Rest, image_of, ground_image}
 use Rattle.transporter.specs.lisp_ground.GroundInvariant.{GroundInvariant}
+use Rattle.transporter.specs.lisp_meaning.Interpretation.{by_map, interpretation}
 use Rattle.transporter.specs.lisp_ground.Collecting.{StandsOn}
 use Rattle.transporter.proofs.lisp_ground.invariant.EmptyMachine.{fresh_kept_on}
 use Rattle.transporter.proofs.lisp_ground.invariant.OfImage.{kept_image}
@@ -42,7 +43,7 @@ use Rattle.transporter.proofs.lisp_ground.invariant.WordStores.{kept_on_same}
 use Rattle.transporter.specs.LiveWordsUnchanged.{LiveWordsUnchanged}
 use Rattle.transporter.specs.Settling.{CanSettle, IsSettleable, SettlesOn}
 use Rattle.transporter.specs.Transports.{RepresentedByLaterMap, WordsUnchanged}
-use Rattle.test_ground.specs.Trials.{IsOpen, IsRunning}
+use Rattle.test_ground.specs.Trials.{IsOpen, IsRunning, open_objects}
 
 -- A new machine
 
@@ -57,7 +58,7 @@ open-new {m} {t} {front} {middle} space areas f is v room are front_is middle_is
       store = (opening (record { space = space; areas = areas; objects = []; roots = V.Nil ∷ V.Nil ∷ [] })).store;
       first = V.Nil;
       second = V.Nil;
-      on = subst (λ (u : Table). GroundInvariant m u blank_map space.levels areas (opening (record { space = space; areas = areas; objects = []; roots = V.Nil ∷ V.Nil ∷ [] })).store no_aim) (sym is) on;
+      on = subst (λ (u : Table). GroundInvariant m u (open_objects blank_map space areas (opening (record { space = space; areas = areas; objects = []; roots = V.Nil ∷ V.Nil ∷ [] })).store)) (sym is) on;
       front_is = ap (value_of blank_map.role) front_is;
       middle_is = ap (value_of blank_map.role) middle_is;
       idle = ap (λ (u : Table). u.aim) is;
@@ -112,7 +113,7 @@ module _ (m : Store) (t u : Table) (front middle : Parts) (x : IsOpen m t front 
   before : StandsOn m t rest x.map state
   before = record {
     strong = record {
-      kept = kept_image m t rest x.map x.space.levels x.areas x.store no_aim x.on marks;
+      kept = kept_image m t rest (open_objects x.map x.space x.areas x.store) x.on marks;
       count = refl;
       registers = values;
       phase = (x.idle, none_old);
@@ -153,11 +154,7 @@ module _ (m : Store) (t u : Table) (front middle : Parts) (x : IsOpen m t front 
 
   pub running-flipped : IsRunning m u front middle
   running-flipped = record {
-    map = x.map;
-    top = x.space.levels;
-    areas = x.areas;
-    store = (flipped state what (units_left (image_of m u rest))).store;
-    aim = aim_by state what (units_left (image_of m u rest));
+    it = interpretation x.map (flipped state what (units_left (image_of m u rest)));
     first = x.first;
     second = x.second;
     on = after.ground;
@@ -177,14 +174,14 @@ second-refers : (n : ℕ) (first second : Value) → second ≡ V.Ref n → IsTr
 unfolding refers_in
 second-refers n first second is = or_right (is_ref n first) (refers_in n (second ∷ [])) (ap (λ (v : Value). is_ref n v || refers_in n []) is ∙ ap (λ (b : Bool). b || refers_in n []) (is_ref-same n))
 
-pub front-settles : {m : Store} {t : Table} {front middle : Parts} (x : IsRunning m t front middle) → CanSettle m t x.map x.top x.areas (x.first ∷ x.second ∷ []) x.store x.aim front x.first
+pub front-settles : {m : Store} {t : Table} {front middle : Parts} (x : IsRunning m t front middle) → CanSettle m t x.it (x.first ∷ x.second ∷ []) front x.first
 front-settles {m} {t} {front} {middle} x = record {
   kept = x.on;
   value = λ at ref. x.front_is;
   survives = λ old. record { running = x.running; reaches = x.reaches; name = λ n is. x.reaches.closed.from_registers n (first-refers n x.first x.second is) };
 }
 
-pub middle-settles : {m : Store} {t : Table} {front middle : Parts} (x : IsRunning m t front middle) → CanSettle m t x.map x.top x.areas (x.first ∷ x.second ∷ []) x.store x.aim middle x.second
+pub middle-settles : {m : Store} {t : Table} {front middle : Parts} (x : IsRunning m t front middle) → CanSettle m t x.it (x.first ∷ x.second ∷ []) middle x.second
 middle-settles {m} {t} {front} {middle} x = record {
   kept = x.on;
   value = λ at ref. x.middle_is;
@@ -192,20 +189,16 @@ middle-settles {m} {t} {front} {middle} x = record {
 }
 
 pub front-settleable : {m : Store} {t : Table} {front middle : Parts} → IsRunning m t front middle → IsSettleable m t front
-front-settleable x = record { map = x.map; top = x.top; areas = x.areas; registers = x.first ∷ x.second ∷ []; store = x.store; aim = x.aim; value = x.first; can = front-settles x }
+front-settleable x = record { it = x.it; registers = x.first ∷ x.second ∷ []; value = x.first; can = front-settles x }
 
 pub middle-settleable : {m : Store} {t : Table} {front middle : Parts} → IsRunning m t front middle → IsSettleable m t middle
-middle-settleable x = record { map = x.map; top = x.top; areas = x.areas; registers = x.first ∷ x.second ∷ []; store = x.store; aim = x.aim; value = x.second; can = middle-settles x }
+middle-settleable x = record { it = x.it; registers = x.first ∷ x.second ∷ []; value = x.second; can = middle-settles x }
 
 -- by a later map
-later-running : {m m' : Store} {t t' : Table} {front middle front' middle' : Parts} (x : IsRunning m t front middle) (y : RepresentedByLaterMap m t m' t' x.map x.top x.areas x.store x.aim) → t'.aim ≡ t.aim
+later-running : {m m' : Store} {t t' : Table} {front middle front' middle' : Parts} (x : IsRunning m t front middle) (y : RepresentedByLaterMap m t m' t' x.it) → t'.aim ≡ t.aim
     → value_of y.map.role front'.content ≡ Some x.first → value_of y.map.role middle'.content ≡ Some x.second → IsRunning m' t' front' middle'
 later-running x y aim front_is middle_is = record {
-  map = y.map;
-  top = x.top;
-  areas = x.areas;
-  store = x.store;
-  aim = x.aim;
+  it = by_map x.it y.map;
   first = x.first;
   second = x.second;
   on = y.kept;
@@ -215,23 +208,19 @@ later-running x y aim front_is middle_is = record {
   reaches = x.reaches;
 }
 
-pub front-settled : {m m' : Store} {t t' : Table} {front middle new : Parts} (x : IsRunning m t front middle) → SettlesOn m t m' t' x.map x.top x.areas x.store x.aim front new → LiveWordsUnchanged m t m' t' → IsRunning m' t' new middle
-front-settled {middle = middle} x y alive = later-running x y.later alive.table.aim (y.value x.first x.front_is) (refined x.map.role y.later.map.role y.later.refines middle.content x.second x.middle_is)
+pub front-settled : {m m' : Store} {t t' : Table} {front middle new : Parts} (x : IsRunning m t front middle) → SettlesOn m t m' t' x.it front new → LiveWordsUnchanged m t m' t' → IsRunning m' t' new middle
+front-settled {middle = middle} x y alive = later-running x y.later alive.table.aim (y.value x.first x.front_is) (refined x.it.map.role y.later.map.role y.later.refines middle.content x.second x.middle_is)
 
-pub middle-settled : {m m' : Store} {t t' : Table} {front middle new : Parts} (x : IsRunning m t front middle) → SettlesOn m t m' t' x.map x.top x.areas x.store x.aim middle new → LiveWordsUnchanged m t m' t' → IsRunning m' t' front new
-middle-settled {front = front} x y alive = later-running x y.later alive.table.aim (refined x.map.role y.later.map.role y.later.refines front.content x.first x.front_is) (y.value x.second x.middle_is)
+pub middle-settled : {m m' : Store} {t t' : Table} {front middle new : Parts} (x : IsRunning m t front middle) → SettlesOn m t m' t' x.it middle new → LiveWordsUnchanged m t m' t' → IsRunning m' t' front new
+middle-settled {front = front} x y alive = later-running x y.later alive.table.aim (refined x.it.map.role y.later.map.role y.later.refines front.content x.first x.front_is) (y.value x.second x.middle_is)
 
 -- after a swap error, and after reads
 pub running-stays : {m m' : Store} {t t' : Table} {front middle : Parts} → IsRunning m t front middle → WordsUnchanged m t m' t' → LiveWordsUnchanged m t m' t' → IsRunning m' t' front middle
 running-stays x y alive = record {
-  map = x.map;
-  top = x.top;
-  areas = x.areas;
-  store = x.store;
-  aim = x.aim;
+  it = x.it;
   first = x.first;
   second = x.second;
-  on = y.kept x.map x.top x.areas x.store x.aim x.on;
+  on = y.kept x.it x.on;
   front_is = x.front_is;
   middle_is = x.middle_is;
   running = alive.table.aim ∙ x.running;
@@ -240,14 +229,10 @@ running-stays x y alive = record {
 
 pub running-same : {m m' : Store} {t : Table} {front middle : Parts} → IsRunning m t front middle → StoresNothing m m' → IsRunning m' t front middle
 running-same {m} {m'} {t} x n = record {
-  map = x.map;
-  top = x.top;
-  areas = x.areas;
-  store = x.store;
-  aim = x.aim;
+  it = x.it;
   first = x.first;
   second = x.second;
-  on = kept_on_same m m' t x.map x.top x.areas x.store x.aim x.on n;
+  on = kept_on_same m m' t x.it x.on n;
   front_is = x.front_is;
   middle_is = x.middle_is;
   running = x.running;

@@ -16,7 +16,7 @@ use Rattle.area_space.specs.Table.{Table, areas_of, levels_of, slot_of, live, st
 use Rattle.area_space.specs.Accounts.{account_of}
 use Rattle.area_space.specs.Charges.{committed}
 use Rattle.area_space.specs.Room.{words_of_area}
-use Rattle.transporter.specs.lisp_meaning.State.{Condemned, no_aim, rule_of}
+use Rattle.transporter.specs.lisp_meaning.State.{no_aim, rule_of}
 use Rattle.transporter.specs.lisp_meaning.State as M
 use Rattle.transporter.specs.lisp_meaning.Charges.{account}
 use Rattle.transporter.specs.lisp_meaning.Roles.{AsCons, AsBlock, RoleMap, names_as, as_ref, value_of}
@@ -34,7 +34,7 @@ use Rattle.transporter.proofs.Places.{end_inside}
 use Rattle.transporter.proofs.LiveObjects.{live-opened}
 use Rattle.transporter.proofs.MovedParcels.{within-written}
 use Rattle.test_ground.specs.Written.{Reserves, pair_of, cell_of, block_of}
-use Rattle.test_ground.specs.Trials.{IsOpen}
+use Rattle.test_ground.specs.Trials.{IsOpen, open_objects}
 
 -- nothing is stored
 pub open-same : {m m' : Store} {t : Table} {front middle : Parts} → IsOpen m t front middle → StoresNothing m m' → IsOpen m' t front middle
@@ -45,7 +45,7 @@ open-same {m} {m'} {t} x n = record {
   store = x.store;
   first = x.first;
   second = x.second;
-  on = kept_on_same m m' t x.map x.space.levels x.areas x.store no_aim x.on n;
+  on = kept_on_same m m' t (open_objects x.map x.space x.areas x.store) x.on n;
   front_is = x.front_is;
   middle_is = x.middle_is;
   idle = x.idle;
@@ -56,16 +56,16 @@ open-same {m} {m'} {t} x n = record {
 -- Room
 
 pub some-area : {m : Store} {t : Table} {front middle : Parts} → IsOpen m t front middle → 0 < areas_of t
-some-area {m} {t} x = let a = areas_agree m t x.map x.space.levels x.areas x.store no_aim x.on in let s = x.some in omega arith
+some-area {m} {t} x = let a = areas_agree m t (open_objects x.map x.space x.areas x.store) x.on in let s = x.some in omega arith
 
 pub fits-quota : {m : Store} {t : Table} {front middle : Parts} (charge : ℕ) (x : IsOpen m t front middle) → account_of t 0 + charge ≤ quota_of t 0 → account x.space.levels x.store no_aim 0 + charge ≤ (rule_of x.areas 0).quota
 fits-quota {m} {t} charge x fits =
-    let a = account_agrees m t x.map x.space.levels x.areas x.store no_aim x.on 0 in
-    let q = quota_agrees m t x.map x.space.levels x.areas x.store no_aim x.on 0 x.some in
+    let a = account_agrees m t (open_objects x.map x.space x.areas x.store) x.on 0 in
+    let q = quota_agrees m t (open_objects x.map x.space x.areas x.store) x.on 0 x.some in
     omega arith
 
 pub enough-room : {m : Store} {t : Table} {front middle : Parts} (words charge : ℕ) → IsOpen m t front middle → words ≤ charge → account_of t 0 + charge ≤ quota_of t 0 → words_of_area t 0 + words ≤ 2 * quota_of t 0
-enough-room {m} {t} words charge x few fits = new_room m t x.map x.space.levels x.areas x.store no_aim x.on 0 words charge x.some few (fits-quota charge x fits)
+enough-room {m} {t} words charge x few fits = new_room m t (open_objects x.map x.space x.areas x.store) x.on 0 words charge x.some few (fits-quota charge x fits)
 
 pub reserved-inside : {m m' : Store} {t t' : Table} {origin : Origin} (at words charge : ℕ) → Reserves m t m' t' at words charge origin → at + words ≤ length m'.words
 reserved-inside {m} {m'} {t} {t'} at words charge r = end_inside r.room (slot_of r.room 0 0) at words (length m'.words) r.opens.sound r.end r.opens.ground.size
@@ -97,8 +97,8 @@ module _ (m m1 : Store) (t t' : Table) (front middle : Parts) (x : IsOpen m t fr
   pub first_level : 0 < levels_of t
   first_level = omega arith
 
-  pub reserved_on : GroundInvariant m1 r.room x.map x.space.levels x.areas x.store no_aim
-  reserved_on = place_kept_on m m1 t r.room r.region 0 0 x.map x.space.levels x.areas x.store no_aim x.on (some-area x) first_level r.opens
+  pub reserved_on : GroundInvariant m1 r.room (open_objects x.map x.space x.areas x.store)
+  reserved_on = place_kept_on m m1 t r.room r.region 0 0 (open_objects x.map x.space x.areas x.store) x.on (some-area x) first_level r.opens
 
   pub reserved_chains : t'.chains ≡ r.room.chains
   reserved_chains = ap (λ (u : Table). u.chains) r.commit ∙ committed-chains r.room (slot_of r.room 0 0) at words charge origin
@@ -121,7 +121,7 @@ module _ (m m1 : Store) (t t' : Table) (front middle : Parts) (x : IsOpen m t fr
       x.young region (old.0, subst (λ (rs : List ℕ). Contains rs region) (opened_same.table.old_chains old.0) before)
 
   -- with these registers, in a table with its chains
-  pub opened-as : {m' : Store} {u : Table} (front' middle' : Parts) (store : M.Store) (map : RoleMap) (first second : Value) → u.aim ≡ t'.aim → u.chains ≡ t'.chains → GroundInvariant m' u map x.space.levels x.areas store no_aim
+  pub opened-as : {m' : Store} {u : Table} (front' middle' : Parts) (store : M.Store) (map : RoleMap) (first second : Value) → u.aim ≡ t'.aim → u.chains ≡ t'.chains → GroundInvariant m' u (open_objects map x.space x.areas store)
       → value_of map.role front'.content ≡ Some first → value_of map.role middle'.content ≡ Some second → IsOpen m' u front' middle'
   opened-as front' middle' store map first second aim chains kept a b = record {
     map = map;
@@ -141,7 +141,7 @@ module _ (m m1 : Store) (t t' : Table) (front middle : Parts) (x : IsOpen m t fr
 -- What was made
 
 module _ (m m1 m2 : Store) (t t' : Table) (front middle : Parts) (x : IsOpen m t front middle) (at words charge : ℕ) (r : Reserves m t m1 t' at words charge New) (word : ℕ → Parts) (w : Writes m1 m2 at words word) where
-  on : GroundInvariant m1 r.room x.map x.space.levels x.areas x.store no_aim
+  on : GroundInvariant m1 r.room (open_objects x.map x.space x.areas x.store)
   on = reserved_on m m1 t t' front middle x at words charge New r
 
   commits : Commits m1 r.room m2 t' at words 0 0 charge
@@ -150,7 +150,7 @@ module _ (m m1 m2 : Store) (t t' : Table) (front middle : Parts) (x : IsOpen m t
   there : (i : ℕ) → i < words → slice_get m2.words (at + i) ≡ Some (word i)
   there = written w (reserved-inside at words charge r)
 
-  opened-with : (front' middle' : Parts) (store : M.Store) (map : RoleMap) (first second : Value) → GroundInvariant m2 t' map x.space.levels x.areas store no_aim → value_of map.role front'.content ≡ Some first → value_of map.role middle'.content ≡ Some second → IsOpen m2 t' front' middle'
+  opened-with : (front' middle' : Parts) (store : M.Store) (map : RoleMap) (first second : Value) → GroundInvariant m2 t' (open_objects map x.space x.areas store) → value_of map.role front'.content ≡ Some first → value_of map.role middle'.content ≡ Some second → IsOpen m2 t' front' middle'
   opened-with front' middle' store map first second kept a b = opened-as m m1 t t' front middle x at words charge New r front' middle' store map first second refl refl kept a b
 
 -- A pair
@@ -159,7 +159,7 @@ pub open-pair : {m m1 m2 : Store} {t t' : Table} {front middle front' : Parts} {
     → front'.content ≡ ListAt at → IsOpen m2 t' front' middle
 open-pair {m} {m1} {m2} {t} {t'} {front} {middle} {front'} {number} at car car_is x r w fits is =
     let got = there m m1 m2 t t' front middle x at 2 2 r (pair_of Second car front) w in
-    let after = pair_made_on m1 m2 r.room t' x.map x.space.levels x.areas x.store no_aim at 0 0 2 (V.Fix number) x.first (on m m1 m2 t t' front middle x at 2 2 r (pair_of Second car front) w) x.some (omega arith) (fits-quota 2 x fits)
+    let after = pair_made_on m1 m2 r.room t' (open_objects x.map x.space x.areas x.store) at 0 0 2 (V.Fix number) x.first (on m m1 m2 t t' front middle x at 2 2 r (pair_of Second car front) w) x.some (omega arith) (fits-quota 2 x fits)
     (record {
       commits = commits m m1 m2 t t' front middle x at 2 2 r (pair_of Second car front) w;
       first = pair_of Second car front 0;
@@ -202,7 +202,7 @@ open-cells {m} {m1} {m2} {t} {t'} {front} {middle} {front'} {middle'} at count i
     let got = there m m1 m2 t t' front middle x at count (3 * count) r (cell_of count) w in
     let same : count ≡ length (numbers 0 count) = sym (length-numbers 0 count) in
     let P : ℕ → Type 0 = λ c. Commits m1 r.room m2 t' at c 0 0 (3 * c) in
-    let after = list_made_on m1 m2 r.room t' x.map x.space.levels x.areas x.store no_aim at 0 0 (numbers 0 count) (on m m1 m2 t t' front middle x at count (3 * count) r (cell_of count) w) x.some (omega arith)
+    let after = list_made_on m1 m2 r.room t' (open_objects x.map x.space x.areas x.store) at 0 0 (numbers 0 count) (on m m1 m2 t t' front middle x at count (3 * count) r (cell_of count) w) x.some (omega arith)
     (subst (λ (c : ℕ). account x.space.levels x.store no_aim 0 + 3 * c ≤ (rule_of x.areas 0).quota) same (fits-quota (3 * count) x fits)) (omega arith)
     (record {
       commits = subst P same (commits m m1 m2 t t' front middle x at count (3 * count) r (cell_of count) w);
@@ -227,7 +227,7 @@ open-block {m} {m1} {m2} {t} {t'} {front} {middle} {front'} at fields x r w fits
     let same : fields + 1 ≡ suc (length (replicate fields V.Nil)) = omega arith in
     let got = there m m1 m2 t t' front middle x at (fields + 1) (fields + 1) r (block_of fields) w in
     let P : ℕ → Type 0 = λ c. Commits m1 r.room m2 t' at c 0 0 c in
-    let after = block_made_on m1 m2 r.room t' x.map x.space.levels x.areas x.store no_aim at 0 0 0 (replicate fields V.Nil) (on m m1 m2 t t' front middle x at (fields + 1) (fields + 1) r (block_of fields) w) x.some (omega arith)
+    let after = block_made_on m1 m2 r.room t' (open_objects x.map x.space x.areas x.store) at 0 0 0 (replicate fields V.Nil) (on m m1 m2 t t' front middle x at (fields + 1) (fields + 1) r (block_of fields) w) x.some (omega arith)
     (subst (λ (c : ℕ). account x.space.levels x.store no_aim 0 + c ≤ (rule_of x.areas 0).quota) same (fits-quota (fields + 1) x fits))
     (record {
       commits = subst P same (commits m m1 m2 t t' front middle x at (fields + 1) (fields + 1) r (block_of fields) w);

@@ -42,7 +42,7 @@ use Rattle.transporter.specs.Parcels.{block_parcel}
 use Rattle.transporter.specs.Writes.{Writes}
 use Rattle.transporter.proofs.MovedParcels.{opened-words, role_below, role_inside, within-written}
 use Rattle.transporter.proofs.ParcelRoles.{Stands, block-stands, not_blank}
-use Rattle.test_ground.specs.Trials.{IsOpen}
+use Rattle.test_ground.specs.Trials.{IsOpen, open_objects}
 use Rattle.test_ground.specs.Written.{Reserves, pair_of, field_or_nil, wider_of, husk_of}
 use Rattle.test_ground.proofs.NewObjects.{open-same, fits-quota, written, reserved-inside, reserved_on, reserved_chains, still_first, opened-as}
 
@@ -72,10 +72,10 @@ block-named x first is = named (names_as AsBlock (x.map.role first)) x.first (ap
 pub cell-inside : {m : Store} {t : Table} {front middle : Parts} → IsOpen m t front middle → (cell : ℕ) → middle.content ≡ ListAt cell → cell < length m.words
 cell-inside {m} {t} x cell is =
     let n = list-named x cell is in
-    role_inside m t x.map x.space.levels x.areas x.store no_aim x.on cell (not_blank (x.map.role cell) AsCons n.0 n.1)
+    role_inside m t (open_objects x.map x.space x.areas x.store) x.on cell (not_blank (x.map.role cell) AsCons n.0 n.1)
 
 pub block-final : {m : Store} {t : Table} {front middle : Parts} → IsOpen m t front middle → (first : ℕ) → front.content ≡ StructAt first → HasFinal m.words first
-block-final {m} {t} x first is = let n = block-named x first is in has_final m t x.map x.space.levels x.areas x.store no_aim x.on AsBlock first n.0 n.1
+block-final {m} {t} x first is = let n = block-named x first is in has_final m t (open_objects x.map x.space x.areas x.store) x.on AsBlock first n.0 n.1
 
 -- A cell that becomes a pair
 
@@ -99,9 +99,9 @@ open-cut {m} {m1} {m2} {m3} {t} {t'} {front} {middle} cell to car nil x is read 
     let size2 = w.size in
     let pair = written w (reserved-inside to 2 0 r) in
     let husk = written h (omega arith) in
-    let areas = areas_agree m1 r.room k x.space.levels x.areas x.store no_aim on in
+    let areas = areas_agree m1 r.room (open_objects k x.space x.areas x.store) on in
     let some = x.some in
-    let made = cell_relaid_on m1 m2 m3 r.room t' k x.space.levels x.areas x.store no_aim cell to n.0 0 0 fits.car.0 body.0 V.Nil (pair_of CdrNext car nil 0) (pair_of CdrNext car nil 1) on st no_pair body.1
+    let made = cell_relaid_on m1 m2 m3 r.room t' (open_objects k x.space x.areas x.store) cell to n.0 0 0 fits.car.0 body.0 V.Nil (pair_of CdrNext car nil 0) (pair_of CdrNext car nil 1) on st no_pair body.1
     (record {
       area_in = omega arith;
       level_in = omega arith;
@@ -178,11 +178,11 @@ module _ {m : Store} {t : Table} {front middle : Parts} {first at code fields : 
   name = (block-named x first b.is).0
 
   stands : StandsThere (ground_image m t) x.map AsBlock at name
-  stands = stands_there m t x.map x.space.levels x.areas x.store no_aim x.on AsBlock first name (block-named x first b.is).1 at b.final b.last
+  stands = stands_there m t (open_objects x.map x.space x.areas x.store) x.on AsBlock first name (block-named x first b.is).1 at b.final b.last
 
   body : (flds : List Value) × ((object x.store name).body ≡ Block code flds) × (length flds ≡ fields)
   body =
-      let role = block_stands m t x.map x.space.levels x.areas x.store no_aim x.on at name stands in
+      let role = block_stands m t (open_objects x.map x.space x.areas x.store) x.on at name stands in
       let f = block_fits (word_at m.words) (classes (ground_image m t)) x.map x.store x.on.kept.roled name at role in
       let e = sym f.content ∙ b.header in
       let kind : f.kind ≡ code = cc in
@@ -194,10 +194,10 @@ module _ {m : Store} {t : Table} {front middle : Parts} {first at code fields : 
       (ap (λ (p : Content). shape_from p (word_at m.words at).cdr) b.header)
 
   pub block-inside : at + fields < length m.words
-  block-inside = role_inside m t x.map x.space.levels x.areas x.store no_aim x.on (at + fields) (words.words fields (omega arith))
+  block-inside = role_inside m t (open_objects x.map x.space x.areas x.store) x.on (at + fields) (words.words fields (omega arith))
 
   module _ {m1 : Store} {t' : Table} (to : ℕ) (r : Reserves m t m1 t' to (2 * fields + 2) (2 * fields + 2) New) where
-    on : GroundInvariant m1 r.room x.map x.space.levels x.areas x.store no_aim
+    on : GroundInvariant m1 r.room (open_objects x.map x.space x.areas x.store)
     on = reserved_on m m1 t t' front middle x to (2 * fields + 2) (2 * fields + 2) New r
 
     same : m1.words ≡ m.words
@@ -206,7 +206,7 @@ module _ {m : Store} {t : Table} {front middle : Parts} {first at code fields : 
     -- its words are apart from its new place
     pub block-apart : (at + fields < to) ⊎ (to + 2 * fields + 2 ≤ at)
     block-apart =
-        let below = role_below m1 r.room x.map x.space.levels x.areas x.store no_aim on (at + fields) (words.words fields (omega arith)) in
+        let below = role_below m1 r.room (open_objects x.map x.space x.areas x.store) on (at + fields) (words.words fields (omega arith)) in
         let near : (at + fields) / 4096 ≡ at / 4096 = words.near fields (omega arith) in
         let used = subst (λ (region : ℕ). (at + fields) % 4096 < used_of r.room region) near below in
         go (at / 4096) refl near used (cases_lt (at / 4096) (to / 4096)) (cases_lt (to / 4096) (at / 4096))
@@ -249,7 +249,7 @@ module _ {m : Store} {t : Table} {front middle : Parts} {first at code fields : 
           let size = body.2 in
           let grown : grown_length (length flds) (2 * fields + 1) ≡ 2 * fields + 1 = ap (λ (n : ℕ). grown_length n (2 * fields + 1)) size ∙ twice fields (omega arith) in
           let count : suc (grown_length (length flds) (2 * fields + 1)) ≡ 2 * fields + 2 = omega arith in
-          let areas = areas_agree m1 r.room x.map x.space.levels x.areas x.store no_aim on in
+          let areas = areas_agree m1 r.room (open_objects x.map x.space x.areas x.store) on in
           let some = x.some in
           let old_inside = block-inside in
           let lengths = ap (λ (ws : List Parts). length ws) same in
@@ -257,7 +257,7 @@ module _ {m : Store} {t : Table} {front middle : Parts} {first at code fields : 
           let new = written w (reserved-inside to (2 * fields + 2) (2 * fields + 2) r) in
           let husk = written h (omega arith) in
           let st : StandsThere (ground_image m1 r.room) x.map AsBlock at name = record { named = stands.named; here = ap (λ (ws : List Parts). leads_from (word_at ws at).content) same ∙ stands.here } in
-          let made = block_grown_on m1 m2 m3 r.room t' u x.map x.space.levels x.areas x.store no_aim at to name code (2 * fields + 1) 0 0 flds on st body.1 (omega arith) (omega arith)
+          let made = block_grown_on m1 m2 m3 r.room t' u (open_objects x.map x.space x.areas x.store) at to name code (2 * fields + 1) 0 0 flds on st body.1 (omega arith) (omega arith)
           (subst (λ (c : ℕ). account x.space.levels x.store no_aim 0 + c ≤ (rule_of x.areas 0).quota) (sym count) (fits-quota (2 * fields + 2) x quota))
           (record {
             area_in = omega arith;

@@ -4,71 +4,65 @@ use Rattle.std.proofs.lemmas.Bool.{lt-ltb}
 use Rattle.std.proofs.lemmas.List.{get_or-set_same, get_or-set_other}
 use Rattle.store_word.specs.Words.{Parts, null_word}
 use Rattle.area_space.specs.lisp_graph.declared.object.Value.{Value}
-use Rattle.area_space.specs.lisp_graph.declared.world.AreaRule.{AreaRule}
 use Rattle.mem_port.specs.Store.{Store, StoresNothing}
 use Rattle.area_space.specs.Table.{Table, used_of}
 use Rattle.area_space.specs.Sound.{IsTable}
 use Rattle.obj_layout.specs.Forwards.{word_at}
 use Rattle.obj_layout.proofs.ForwardChains.{word_at-read}
-use Rattle.lisp_ground.specs.lisp_meaning.State.{Condemned}
-use Rattle.lisp_ground.specs.lisp_meaning.State as M
 use Rattle.lisp_ground.specs.lisp_meaning.Image.{word, is_used}
-use Rattle.lisp_ground.specs.lisp_meaning.Roles.{RoleMap, value_of}
+use Rattle.lisp_ground.specs.lisp_meaning.Roles.{value_of}
 use Rattle.lisp_ground.proofs.lisp_meaning.maps.Frames.{refined}
 use Rattle.lisp_ground.proofs.lisp_meaning.invariant.Rewrites.{resettled}
 use Rattle.lisp_ground.specs.Image.{no_rest, ground_image}
 use Rattle.lisp_ground.specs.GroundInvariant.{GroundInvariant}
+use Rattle.lisp_ground.specs.lisp_meaning.Interpretation.{Interpretation, by_map}
 use Rattle.lisp_ground.specs.After.{old_on}
 use Rattle.lisp_ground.proofs.words.UsedWords.{is_used_as}
 use Rattle.lisp_ground.proofs.invariant.WordStores.{kept_on_same, stores_at, stored_on}
 use Rattle.transporter.specs.LiveWordsUnchanged.{IsLiveWord, LiveWordsUnchanged, LiveWordsUnchangedExcept}
-use Rattle.transporter.specs.Settling.{readdressed, RefersToOld, CanSettle, IsSettleable, Replaces, Settles, SettlesOn}
+use Rattle.transporter.specs.Settling.{readdressed, RefersToOld, CanSettle, IsSettleable, Replaces, Settles, SettlesOn, SettlesAlways}
 use Rattle.transporter.specs.Transports.{RepresentedByLaterMap, WordsUnchanged}
 use Rattle.transporter.proofs.LiveObjects.{still-live}
 
 -- Calls that store nothing
 
-pub later-read : (m m' : Store) (t : Table) (k : RoleMap) (top : ℕ) (areas : List AreaRule) (s : M.Store) (aim : Condemned) → GroundInvariant m t k top areas s aim → StoresNothing m m' → RepresentedByLaterMap m t m' t k top areas s aim
-later-read m m' t k top areas s aim on n =
-    let same : old_on m' t s aim k.at ≡ old_on m t s aim k.at = refl in
-    record { map = k; kept = kept_on_same m m' t k top areas s aim on n; refines = λ kind a n e. e; work = omega arith }
+pub later-read : (m m' : Store) (t : Table) (it : Interpretation) → GroundInvariant m t it → StoresNothing m m' → RepresentedByLaterMap m t m' t it
+later-read m m' t it on n =
+    let same : old_on m' t it.store it.aim it.map.at ≡ old_on m t it.store it.aim it.map.at = refl in
+    record { map = it.map; kept = kept_on_same m m' t it on n; refines = λ kind a n e. e; work = omega arith }
 
-pub later-stays : (m mid m' : Store) (t t' : Table) (k : RoleMap) (top : ℕ) (areas : List AreaRule) (s : M.Store) (aim : Condemned) → GroundInvariant m t k top areas s aim → StoresNothing m mid → WordsUnchanged mid t m' t' → RepresentedByLaterMap m t m' t' k top areas s aim
-later-stays m mid m' t t' k top areas s aim on n x =
-    let there = kept_on_same m mid t k top areas s aim on n in
-    let same : old_on mid t s aim k.at ≡ old_on m t s aim k.at = refl in
-    let old = x.old k top areas s aim there in
+pub later-stays : (m mid m' : Store) (t t' : Table) (it : Interpretation) → GroundInvariant m t it → StoresNothing m mid → WordsUnchanged mid t m' t' → RepresentedByLaterMap m t m' t' it
+later-stays m mid m' t t' it on n x =
+    let there = kept_on_same m mid t it on n in
+    let same : old_on mid t it.store it.aim it.map.at ≡ old_on m t it.store it.aim it.map.at = refl in
+    let old = x.old it there in
     let placed = x.placed in
-    record { map = k; kept = x.kept k top areas s aim there; refines = λ kind a n e. e; work = omega arith }
+    record { map = it.map; kept = x.kept it there; refines = λ kind a n e. e; work = omega arith }
 
-pub later-then_read : (m m1 m2 : Store) (t t1 : Table) (k : RoleMap) (top : ℕ) (areas : List AreaRule) (s : M.Store) (aim : Condemned) → RepresentedByLaterMap m t m1 t1 k top areas s aim → StoresNothing m1 m2 → RepresentedByLaterMap m t m2 t1 k top areas s aim
-later-then_read m m1 m2 t t1 k top areas s aim x n =
-    let same : old_on m2 t1 s aim x.map.at ≡ old_on m1 t1 s aim x.map.at = refl in
-    record { map = x.map; kept = kept_on_same m1 m2 t1 x.map top areas s aim x.kept n; refines = x.refines; work = (let w = x.work in omega arith) }
+pub later-then_read : (m m1 m2 : Store) (t t1 : Table) (it : Interpretation) → RepresentedByLaterMap m t m1 t1 it → StoresNothing m1 m2 → RepresentedByLaterMap m t m2 t1 it
+later-then_read m m1 m2 t t1 it x n =
+    let same : old_on m2 t1 it.store it.aim x.map.at ≡ old_on m1 t1 it.store it.aim x.map.at = refl in
+    record { map = x.map; kept = kept_on_same m1 m2 t1 (by_map it x.map) x.kept n; refines = x.refines; work = (let w = x.work in omega arith) }
 
-pub settle-read : (m mid : Store) (t : Table) (k : RoleMap) (top : ℕ) (areas : List AreaRule) (registers : List Value) (s : M.Store) (aim : Condemned) (w : Parts) (v : Value) → CanSettle m t k top areas registers s aim w v → StoresNothing m mid
-    → CanSettle mid t k top areas registers s aim w v
-settle-read m mid t k top areas registers s aim w v can n = record {
-  kept = kept_on_same m mid t k top areas s aim can.kept n;
+pub settle-read : (m mid : Store) (t : Table) (it : Interpretation) (registers : List Value) (w : Parts) (v : Value) → CanSettle m t it registers w v → StoresNothing m mid
+    → CanSettle mid t it registers w v
+settle-read m mid t it registers w v can n = record {
+  kept = kept_on_same m mid t it can.kept n;
   value = can.value;
   survives = can.survives;
 }
 
 pub settleable-read : {m mid : Store} {t : Table} {w : Parts} → IsSettleable m t w → StoresNothing m mid → IsSettleable mid t w
 settleable-read {m} {mid} {t} {w} x n = record {
-  map = x.map;
-  top = x.top;
-  areas = x.areas;
+  it = x.it;
   registers = x.registers;
-  store = x.store;
-  aim = x.aim;
   value = x.value;
-  can = settle-read m mid t x.map x.top x.areas x.registers x.store x.aim w x.value x.can n;
+  can = settle-read m mid t x.it x.registers w x.value x.can n;
 }
 
-pub settles-read : (m mid m' : Store) (t t' : Table) (k : RoleMap) (top : ℕ) (areas : List AreaRule) (s : M.Store) (aim : Condemned) (old new : Parts) → StoresNothing m mid → SettlesOn mid t m' t' k top areas s aim old new → SettlesOn m t m' t' k top areas s aim old new
-settles-read m mid m' t t' k top areas s aim old new n x =
-    let same : old_on mid t s aim k.at ≡ old_on m t s aim k.at = refl in
+pub settles-read : (m mid m' : Store) (t t' : Table) (it : Interpretation) (old new : Parts) → StoresNothing m mid → SettlesOn mid t m' t' it old new → SettlesOn m t m' t' it old new
+settles-read m mid m' t t' it old new n x =
+    let same : old_on mid t it.store it.aim it.map.at ≡ old_on m t it.store it.aim it.map.at = refl in
     record {
       later = record { map = x.later.map; kept = x.later.kept; refines = x.later.refines; work = (let w = x.later.work in omega arith) };
       value = x.value;
@@ -93,28 +87,28 @@ same-code {t} {t'} {old} {new} x = go x.is
     go (inl e) = ap (λ (w : Parts). w.cdr) e
     go (inr e) = ap (λ (w : Parts). w.cdr) e.2
 
-pub fetched : (m m1 m2 : Store) (t t1 : Table) (k : RoleMap) (top : ℕ) (areas : List AreaRule) (registers : List Value) (s : M.Store) (aim : Condemned) (v : Value) (at : ℕ) (old new : Parts) → IsLiveWord t1 at → word_at m1.words at ≡ old
-    → CanSettle m t k top areas registers s aim old v → Settles t t1 old new → SettlesOn m t m1 t1 k top areas s aim old new → Replaces m1 m2 at old new → SettlesOn m t m2 t1 k top areas s aim old new
+pub fetched : (m m1 m2 : Store) (t t1 : Table) (it : Interpretation) (registers : List Value) (v : Value) (at : ℕ) (old new : Parts) → IsLiveWord t1 at → word_at m1.words at ≡ old
+    → CanSettle m t it registers old v → Settles t t1 old new → SettlesOn m t m1 t1 it old new → Replaces m1 m2 at old new → SettlesOn m t m2 t1 it old new
 unfolding later-then_read
-fetched m m1 m2 t t1 k top areas registers s aim v at old new alive is can settles x (inl same) = record {
-  later = later-then_read m m1 m2 t t1 k top areas s aim x.later same.1;
+fetched m m1 m2 t t1 it registers v at old new alive is can settles x (inl same) = record {
+  later = later-then_read m m1 m2 t t1 it x.later same.1;
   value = x.value;
 }
-fetched m m1 m2 t t1 k top areas registers s aim v at old new alive is can settles x (inr stores) = go settles.is
+fetched m m1 m2 t t1 it registers v at old new alive is can settles x (inr stores) = go settles.is
   where
-    on : GroundInvariant m1 t1 x.later.map top areas s aim
+    on : GroundInvariant m1 t1 (by_map it x.later.map)
     on = x.later.kept
 
-    go : (new ≡ old) ⊎ ((to : ℕ) × RefersToOld t old × (new ≡ readdressed old to)) → SettlesOn m t m2 t1 k top areas s aim old new
+    go : (new ≡ old) ⊎ ((to : ℕ) × RefersToOld t old × (new ≡ readdressed old to)) → SettlesOn m t m2 t1 it old new
     go (inl e) = absurd (stores.0 e)
     go (inr e) =
         let value = can.value e.1.0 e.1.1 in
         let there = x.value v value in
         let used = live-used m1 t1 at on.table alive in
-        let before : value_of x.later.map.role (word (ground_image m1 t1) at).content ≡ Some v = ap (λ (w : Parts). value_of x.later.map.role w.content) is ∙ refined k.role x.later.map.role x.later.refines old.content v value in
-        let stored = stores_at m1 m2 t1 x.later.map top areas s aim on at new v stores.1 used there (same-code settles ∙ ap (λ (w : Parts). w.cdr) (sym is)) in
-        let after = stored_on m1 m2 t1 x.later.map top areas s aim on at new v stores.1 used there s
-        (resettled (ground_image m1 t1) m2.words x.later.map top areas s aim at v on.kept before stored) in
+        let before : value_of x.later.map.role (word (ground_image m1 t1) at).content ≡ Some v = ap (λ (w : Parts). value_of x.later.map.role w.content) is ∙ refined it.map.role x.later.map.role x.later.refines old.content v value in
+        let stored = stores_at m1 m2 t1 (by_map it x.later.map) on at new v stores.1 used there (same-code settles ∙ ap (λ (w : Parts). w.cdr) (sym is)) in
+        let after = stored_on m1 m2 t1 (by_map it x.later.map) on at new v stores.1 used there it.store
+        (resettled (ground_image m1 t1) m2.words (by_map it x.later.map) at v on.kept before stored) in
         record {
           later = record { map = x.later.map; kept = after.kept; refines = x.later.refines; work = (let a = after.old in let w = x.later.work in omega arith) };
           value = x.value;
@@ -127,12 +121,12 @@ pub record IsUnwritten (m : Store) (t : Table) (at : ℕ) (word : Parts) : Type 
   pub same : word_at m.words at ≡ word
 
 pub unwritten-there : {m mid m1 : Store} {t t1 : Table} {at : ℕ} {word new : Parts} → IsLiveWord t at → IsSettleable m t (word_at m.words at) → StoresNothing m mid → slice_get m.words at ≡ Some word → LiveWordsUnchanged mid t m1 t1
-    → ((k : RoleMap) (top : ℕ) (areas : List AreaRule) (registers : List Value) (s : M.Store) (aim : Condemned) (v : Value) → CanSettle mid t k top areas registers s aim word v → SettlesOn mid t m1 t1 k top areas s aim word new)
+    → SettlesAlways mid t m1 t1 word new
     → IsUnwritten m1 t1 at word
 unwritten-there {m} {mid} {m1} {t} {t1} {at} {word} {new} alive x reads read same settles =
     let is = word_at-read m.words m.words at word refl read in
     let y = settleable-read (subst (λ (w : Parts). IsSettleable m t w) is x) reads in
-    let kept = (settles y.map y.top y.areas y.registers y.store y.aim y.value y.can).later.kept in
+    let kept = (settles y.it y.registers y.value y.can).later.kept in
     let there = still-live same.table alive in
     record {
       inside = live-inside m1 kept.table kept.ground.size there;

@@ -4,7 +4,6 @@ use Rattle.std.specs.Prelude.{Contains, IfOk, IfSome, IsSome, OnErr, Result, Ok,
 use Rattle.std.proofs.lemmas.Bool.{cases_lt}
 use Rattle.std.proofs.lemmas.List.{get_or_past}
 use Rattle.store_word.specs.Words.{Parts}
-use Rattle.area_space.specs.lisp_graph.declared.world.AreaRule.{AreaRule}
 use Rattle.mem_port.specs.Store.{Store, StoresNothing}
 use Rattle.area_space.specs.Table.{Table, levels_of, slots_of, stale, chain, IsOld}
 use Rattle.area_space.specs.Sound.{IsTable}
@@ -18,10 +17,8 @@ use Rattle.obj_layout.specs.declared.run.Run.{Run}
 use Rattle.obj_layout.specs.Forwards.{word_at, IsFinal}
 use Rattle.obj_layout.specs.Shapes.{shape_of, IsWhole}
 use Rattle.obj_layout.specs.Runs.{IsRun, StandsBehind, last_code}
-use Rattle.lisp_ground.specs.lisp_meaning.State.{Condemned}
-use Rattle.lisp_ground.specs.lisp_meaning.State as M
 use Rattle.lisp_ground.specs.lisp_meaning.Classes.{classes, region_of}
-use Rattle.lisp_ground.specs.lisp_meaning.Roles.{Kind, AsCons, AsBlock, RoleMap, names_as}
+use Rattle.lisp_ground.specs.lisp_meaning.Roles.{Kind, AsCons, AsBlock, names_as}
 use Rattle.lisp_ground.specs.lisp_meaning.Rewriting.{StandsThere}
 use Rattle.lisp_ground.specs.Image.{ground_image}
 use Rattle.lisp_ground.specs.GroundInvariant.{GroundInvariant}
@@ -33,6 +30,7 @@ use Rattle.transporter.specs.declared.parcel.Parcel.{Parcel}
 use Rattle.transporter.specs.Parcels.{IsFit, IsParcel, a_block, a_pair, a_run, StandsWhole, word_count_of, run_parcel}
 use Rattle.transporter.specs.Relocations.{IsOldIn, CanMove, IsMovable, MovesHere, Relocates}
 use Rattle.transporter.proofs.ParcelRoles.{Stands, not_blank, block-stands, pair-stands, run-stands, run-pair}
+use Rattle.lisp_ground.specs.lisp_meaning.Interpretation.{Interpretation}
 use Rattle.transporter.proofs.OldCharges.{charged_there, charged_image}
 use Rattle.transporter.proofs.MovedParcels.{role_inside}
 
@@ -100,46 +98,46 @@ old_in t at v old = (
           | inr past ↦ (let none = subst (λ (xs : List ℕ). Contains xs (at / 4096)) (get_or_past t.chains (stale old.0) [] past) old.1 in let z = none.1 in absurd (omega arith))
         ]
 
-module _ (m : Store) (t : Table) (k : RoleMap) (top : ℕ) (areas : List AreaRule) (s : M.Store) (aim : Condemned) (on : GroundInvariant m t k top areas s aim) (n at : ℕ) (last : IsFinal m.words at) where
-  there : (kind : Kind) → names_as kind (k.role at) ≡ Some n → StandsThere (ground_image m t) k kind at n
+module _ (m : Store) (t : Table) (it : Interpretation) (on : GroundInvariant m t it) (n at : ℕ) (last : IsFinal m.words at) where
+  there : (kind : Kind) → names_as kind (it.map.role at) ≡ Some n → StandsThere (ground_image m t) it.map kind at n
   there kind named = record { named = named; here = last.no_forward }
 
-  no_run : names_as AsBlock (k.role at) ≡ Some n → shape_of (word_at m.words at) ≡ CellShape → ⊥
-  no_run named is = let b = head_shape m t k top areas s aim on at n (block_stands m t k top areas s aim on at n (there AsBlock named)) in let e = b.2 in cc
+  no_run : names_as AsBlock (it.map.role at) ≡ Some n → shape_of (word_at m.words at) ≡ CellShape → ⊥
+  no_run named is = let b = head_shape m t it on at n (block_stands m t it on at n (there AsBlock named)) in let e = b.2 in cc
 
-  no_pair : names_as AsBlock (k.role at) ≡ Some n → shape_of (word_at m.words at) ≡ PairShape → ⊥
-  no_pair named is = let b = head_shape m t k top areas s aim on at n (block_stands m t k top areas s aim on at n (there AsBlock named)) in let e = b.2 in cc
+  no_pair : names_as AsBlock (it.map.role at) ≡ Some n → shape_of (word_at m.words at) ≡ PairShape → ⊥
+  no_pair named is = let b = head_shape m t it on at n (block_stands m t it on at n (there AsBlock named)) in let e = b.2 in cc
 
   first-cell : (run : Run) → IsRun m.words at run → shape_of (word_at m.words at) ≡ CellShape
   first-cell run is = let some = is.some in ap (λ (a : ℕ). shape_of (word_at m.words a)) (let z : at ≡ at + 0 = omega arith in z) ∙ (is.cells 0 (omega arith)).shape
 
-  pub stands-whole : (kind : Kind) → names_as kind (k.role at) ≡ Some n → StandsWhole m.words at
+  pub stands-whole : (kind : Kind) → names_as kind (it.map.role at) ≡ Some n → StandsWhole m.words at
   stands-whole AsCons named = record {
     last = last;
-    whole = whole m t k top areas s aim on at n AsCons (there AsCons named);
-    run = λ is. (let c = cell_there m t k top areas s aim on at n (there AsCons named) is in has_run m t k top areas s aim on at n c.0 c.1);
+    whole = whole m t it on at n AsCons (there AsCons named);
+    run = λ is. (let c = cell_there m t it on at n (there AsCons named) is in has_run m t it on at n c.0 c.1);
     pair = λ run is ends.
         let behind = subst (StandsBehind m.words (at + run.cells)) ends is.behind in
         let code = is.last ∙ ap last_code ends in
-        pair_whole m t k top areas s aim on (at + run.cells) _ (run-pair m.words (classes (ground_image m t)) k s on.kept.roled at n run named is behind code);
+        pair_whole m t it on (at + run.cells) _ (run-pair m.words (classes (ground_image m t)) it.map it.store on.kept.roled at n run named is behind code);
   }
   stands-whole AsBlock named = record {
     last = last;
-    whole = whole m t k top areas s aim on at n AsBlock (there AsBlock named);
+    whole = whole m t it on at n AsBlock (there AsBlock named);
     run = λ is. absurd (no_run named is);
     pair = λ run is ends. absurd (no_run named (first-cell run is));
   }
 
   -- by the roles of its words
-  pub parcel-stands : (kind : Kind) (p : Parcel) → names_as kind (k.role at) ≡ Some n → IsParcel m.words at p → Stands k s p
-  parcel-stands AsBlock p named (a_block code length is p_is) = subst (Stands k s) (sym p_is) (block-stands m.words (classes (ground_image m t)) k s on.kept.roled at code length n named last.no_forward is)
+  pub parcel-stands : (kind : Kind) (p : Parcel) → names_as kind (it.map.role at) ≡ Some n → IsParcel m.words at p → Stands it.map it.store p
+  parcel-stands AsBlock p named (a_block code length is p_is) = subst (Stands it.map it.store) (sym p_is) (block-stands m.words (classes (ground_image m t)) it.map it.store on.kept.roled at code length n named last.no_forward is)
   parcel-stands AsBlock p named (a_pair is p_is) = absurd (no_pair named is)
   parcel-stands AsBlock p named (a_run run is few p_is) = absurd (no_run named (first-cell run is))
-  parcel-stands AsCons p named (a_block code length is p_is) = absurd (cons_no_block m t k top areas s aim on at n (there AsCons named) code length is)
-  parcel-stands AsCons p named (a_pair is p_is) = subst (Stands k s) (sym p_is) (pair-stands m.words (classes (ground_image m t)) k s on.kept.roled at n named last.no_forward is)
-  parcel-stands AsCons p named (a_run run is few p_is) = subst (Stands k s) (sym p_is) (run-stands m.words (classes (ground_image m t)) k s on.kept.roled at n run named is run.ending is.last is.behind)
+  parcel-stands AsCons p named (a_block code length is p_is) = absurd (cons_no_block m t it on at n (there AsCons named) code length is)
+  parcel-stands AsCons p named (a_pair is p_is) = subst (Stands it.map it.store) (sym p_is) (pair-stands m.words (classes (ground_image m t)) it.map it.store on.kept.roled at n named last.no_forward is)
+  parcel-stands AsCons p named (a_run run is few p_is) = subst (Stands it.map it.store) (sym p_is) (run-stands m.words (classes (ground_image m t)) it.map it.store on.kept.roled at n run named is run.ending is.last is.behind)
 
-  pub movable : (kind : Kind) → names_as kind (k.role at) ≡ Some n → IsOld t (at / 4096) → IsSome t.aim → IsMovable m t at
+  pub movable : (kind : Kind) → names_as kind (it.map.role at) ≡ Some n → IsOld t (at / 4096) → IsSome t.aim → IsMovable m t at
   movable kind named old running p is fits =
       let stands = parcel-stands kind p named is in
       let place = parcel-at is in
@@ -149,9 +147,9 @@ module _ (m : Store) (t : Table) (k : RoleMap) (top : ℕ) (areas : List AreaRul
       let some = fits.some in
       let each = fits.each in
       let near = stands.near (p.words - 1) (omega arith) in
-      let end = role_inside m t k top areas s aim on (p.at + (p.words - 1)) (stands.words (p.words - 1) (omega arith)) in
-      let levels = levels_agree m t k top areas s aim on in
-      let count = areas_agree m t k top areas s aim on in
+      let end = role_inside m t it on (p.at + (p.words - 1)) (stands.words (p.words - 1) (omega arith)) in
+      let levels = levels_agree m t it on in
+      let count = areas_agree m t it on in
       let area_in = where_old.2.area_in in
       let level_in = where_old.2.level_in in
       let place_last : p.at + (p.words - 1) ≡ p.at + p.words - 1 = omega arith in
@@ -163,17 +161,17 @@ module _ (m : Store) (t : Table) (k : RoleMap) (top : ℕ) (areas : List AreaRul
         area = where_old.0;
         level = where_old.1;
         old = where_old.2;
-        charged = charged_there m t k top areas s aim on p stands each where_old.0 where_old.1 where_old.2;
-        within = moved_room m t k top areas s aim on where_old.0 (word_count_of p) p.charge where_old.1 (omega arith) stands.pays (omega arith) (charged_image m t k top areas s aim on p stands each where_old.0 where_old.1 where_old.2);
+        charged = charged_there m t it on p stands each where_old.0 where_old.1 where_old.2;
+        within = moved_room m t it on where_old.0 (word_count_of p) p.charge where_old.1 (omega arith) stands.pays (omega arith) (charged_image m t it on p stands each where_old.0 where_old.1 where_old.2);
         running = running;
         room = on.room;
         ground = on.ground;
         named = on.named;
       }
     where
-      rest : Stands k s p → (o : Option ℕ) → IfSome o (λ to. (m : ℕ) × (names_as AsCons (k.role to) ≡ Some m)) → IfSome o (λ to. to < length m.words)
+      rest : Stands it.map it.store p → (o : Option ℕ) → IfSome o (λ to. (m : ℕ) × (names_as AsCons (it.map.role to) ≡ Some m)) → IfSome o (λ to. to < length m.words)
       rest stands None named = tt
-      rest stands (Some to) named = role_inside m t k top areas s aim on to (not_blank (k.role to) AsCons named.0 named.1)
+      rest stands (Some to) named = role_inside m t it on to (not_blank (it.map.role to) AsCons named.0 named.1)
 
 -- what holds after either answer
 pub whichever : {A E R Q : Type 0} {P : A → Type 0} (r : Result A E) → ((x : A) → P x → R) → (Q → R) → IfOk r P → OnErr r Q → R

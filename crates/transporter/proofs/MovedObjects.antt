@@ -4,7 +4,6 @@ use Rattle.std.specs.Prelude.{Contains}
 use Rattle.std.proofs.lemmas.Bool.{cases_lt, lt-ltb, le-ltb}
 use Rattle.store_word.specs.Words.{Parts}
 use Rattle.area_space.specs.lisp_graph.declared.object.Value.{Value}
-use Rattle.area_space.specs.lisp_graph.declared.world.AreaRule.{AreaRule}
 use Rattle.mem_port.specs.Store.{Store}
 use Rattle.area_space.specs.declared.classes.Origin.TheVariants.{Moved}
 use Rattle.area_space.specs.Table.{Table, areas_of, levels_of, slot_of, live, stale, chain}
@@ -15,11 +14,10 @@ use Rattle.area_space.specs.Flips.{survivor}
 use Rattle.area_space.proofs.TableFields.{noted_is}
 use Rattle.area_space.proofs.UsedEnds.{end_in_chain}
 use Rattle.obj_layout.specs.Forwards.{word_at, IsFinal}
-use Rattle.lisp_ground.specs.lisp_meaning.State.{Condemned}
 use Rattle.lisp_ground.specs.lisp_meaning.State as M
 use Rattle.lisp_ground.specs.lisp_meaning.Classes.{in_old, region_of}
 use Rattle.lisp_ground.specs.lisp_meaning.Forwards.{forward_of}
-use Rattle.lisp_ground.specs.lisp_meaning.Roles.{Kind, RoleMap, names_as}
+use Rattle.lisp_ground.specs.lisp_meaning.Roles.{Kind, names_as}
 use Rattle.lisp_ground.specs.lisp_meaning.Transport.{Survives}
 use Rattle.lisp_ground.proofs.lisp_meaning.layout.Placement.{charges_before_at}
 use Rattle.lisp_ground.proofs.lisp_meaning.sums.OldCharges.{standing_is}
@@ -40,29 +38,30 @@ use Rattle.transporter.proofs.LiveObjects.{live-opened}
 use Rattle.transporter.proofs.Places.{survivor_in, end_apart, end_inside, some_words}
 use Rattle.transporter.proofs.MovedParcels.{opened-form, opened-words, survivor-is, extends, forwarded_ground, forwarded_named, rehouses}
 use Rattle.transporter.proofs.MoveInvariant.{arrives}
+use Rattle.lisp_ground.specs.lisp_meaning.Interpretation.{Interpretation, by_map}
 use Rattle.transporter.proofs.MovableParcels.{parcel-at, parcel-stands}
 
 -- Charges in old regions
 
 -- a region is opened
-pub old-opened : (m m' : Store) (t t' : Table) (region : Option ℕ) (area level : ℕ) (k : RoleMap) (top : ℕ) (areas : List AreaRule) (s : M.Store) (aim : Condemned)
-    → GroundInvariant m t k top areas s aim → GroundInvariant m' t' k top areas s aim → area < areas_of t → level < levels_of t → Opens m t m' t' region area level → old_on m' t' s aim k.at ≡ old_on m t s aim k.at
-old-opened m m' t t' None area level k top areas s aim on on' area_in level_in o = ap (λ (u : Table). old_on m u s aim k.at) o.same
-old-opened m m' t t' (Some r) area level k top areas s aim on on' area_in level_in o =
+pub old-opened : (m m' : Store) (t t' : Table) (region : Option ℕ) (area level : ℕ) (it : Interpretation)
+    → GroundInvariant m t it → GroundInvariant m' t' it → area < areas_of t → level < levels_of t → Opens m t m' t' region area level → old_on m' t' it.store it.aim it.map.at ≡ old_on m t it.store it.aim it.map.at
+old-opened m m' t t' None area level it on on' area_in level_in o = ap (λ (u : Table). old_on m u it.store it.aim it.map.at) o.same
+old-opened m m' t t' (Some r) area level it on on' area_in level_in o =
     let u : Table = opened t (live (slot_of t area level)) r in
     let v : IsTable (opened t (live (slot_of t area level)) r) = subst IsTable o.chain o.sound in
     let words : m'.words ≡ m.words = ap (λ (x : Store). x.words) o.region_level in
-    let there : GroundInvariant m' (opened t (live (slot_of t area level)) r) k top areas s aim = subst (λ (x : Table). GroundInvariant m' x k top areas s aim) o.chain on' in
+    let there : GroundInvariant m' (opened t (live (slot_of t area level)) r) it = subst (λ (x : Table). GroundInvariant m' x it) o.chain on' in
     let placed = opened_placed m m' t r area level on.table v area_in level_in o.free words in
-    let before = charges_before_at (ground_image m t) (ground_image m' (opened t (live (slot_of t area level)) r)) k top areas s aim on.kept (4096 * r) 0 area level placed in_old in
-    ap (λ (x : Table). old_on m' x s aim k.at) o.chain
-    ∙ standing_is (ground_image m' (opened t (live (slot_of t area level)) r)) k top areas s aim there.kept ∙ before ∙ sym (standing_is (ground_image m t) k top areas s aim on.kept)
+    let before = charges_before_at (ground_image m t) (ground_image m' (opened t (live (slot_of t area level)) r)) it on.kept (4096 * r) 0 area level placed in_old in
+    ap (λ (x : Table). old_on m' x it.store it.aim it.map.at) o.chain
+    ∙ standing_is (ground_image m' (opened t (live (slot_of t area level)) r)) it there.kept ∙ before ∙ sym (standing_is (ground_image m t) it on.kept)
 
 -- The page of the last word that moved is no part of the invariant
 
-pub kept_on_noted : (m : Store) (u : Table) (last : Option ℕ) (k : RoleMap) (top : ℕ) (areas : List AreaRule) (s : M.Store) (aim : Condemned) → IsTable (record u { last = last }) → GroundInvariant m u k top areas s aim → GroundInvariant m (record u { last = last }) k top areas s aim
-kept_on_noted m u last k top areas s aim v on = record {
-  kept = kept_beside (ground_image m u) (ground_image m (record u { last = last })) k top areas s aim on.kept (ground_marks m (record u { last = last }) v on.named);
+pub kept_on_noted : (m : Store) (u : Table) (last : Option ℕ) (it : Interpretation) → IsTable (record u { last = last }) → GroundInvariant m u it → GroundInvariant m (record u { last = last }) it
+kept_on_noted m u last it v on = record {
+  kept = kept_beside (ground_image m u) (ground_image m (record u { last = last })) it on.kept (ground_marks m (record u { last = last }) v on.named);
   ground = record { size = on.ground.size; levels_size = on.ground.levels_size; top = on.ground.top; level_live = on.ground.level_live; level_old = on.ground.level_old; blank = on.ground.blank };
   named = on.named;
   table = v;
@@ -72,9 +71,9 @@ kept_on_noted m u last k top areas s aim v on = record {
 
 -- What moved
 
-module _ (m : Store) (t : Table) (k : RoleMap) (top : ℕ) (areas : List AreaRule) (registers : List Value) (s : M.Store) (aim : Condemned) (kind : Kind) (at n : ℕ) (can : CanTransport m t k top areas registers s aim kind at n)
+module _ (m : Store) (t : Table) (it : Interpretation) (registers : List Value) (kind : Kind) (at n : ℕ) (can : CanTransport m t it registers kind at n)
     (last : IsFinal m.words at) (p : Parcel) (is : IsParcel m.words at p) (fits : IsFit p) (m' : Store) (t' : Table) (to : ℕ) (r : Relocates m t m' t' p to) where
-  on : GroundInvariant m t k top areas s aim
+  on : GroundInvariant m t it
   on = can.kept
 
   level_in : survivor t r.level < levels_of t
@@ -83,8 +82,8 @@ module _ (m : Store) (t : Table) (k : RoleMap) (top : ℕ) (areas : List AreaRul
   form : SameForm t r.table
   form = opened-form r.region r.opens
 
-  opened_on : GroundInvariant r.room r.table k top areas s aim
-  opened_on = place_kept_on m r.room t r.table r.region r.area (survivor t r.level) k top areas s aim on r.old.area_in level_in r.opens
+  opened_on : GroundInvariant r.room r.table it
+  opened_on = place_kept_on m r.room t r.table r.region r.area (survivor t r.level) it on r.old.area_in level_in r.opens
 
   slot_same : (area level : ℕ) → slot_of t area level ≡ slot_of r.table area level
   slot_same area level = ap (λ (n : ℕ). area * (n + 1) + level) (sym form.top)
@@ -122,25 +121,25 @@ module _ (m : Store) (t : Table) (k : RoleMap) (top : ℕ) (areas : List AreaRul
   words : r.room.words ≡ m.words
   words = opened-words r.region r.opens
 
-  stand : Stands k s p
-  stand = parcel-stands m t k top areas s aim on n at last kind p can.survives.named is
+  stand : Stands it.map it.store p
+  stand = parcel-stands m t it on n at last kind p can.survives.named is
 
-  level_is : survivor t r.level ≡ M.survivor top aim.what r.level
-  level_is = survivor-is t aim.what top r.level can.running on.agrees.levels
+  level_is : survivor t r.level ≡ M.survivor it.top it.aim.what r.level
+  level_is = survivor-is t it.aim.what it.top r.level can.running on.agrees.levels
 
-  after : AfterOn r.room r.table m' (record t' { last = r.table.last }) k top areas s s aim p.charge kind to 1 (λ i. n)
+  after : AfterOn r.room r.table m' (record t' { last = r.table.last }) it it.store p.charge kind to 1 (λ i. n)
   after =
       let g = ground_image r.room r.table in
-      let there = rehouses r.room r.table k top areas s aim opened_on p fits stand r.area r.level (survivor t r.level) to old_there level_there end_there m' r.moves (record t' { last = r.table.last }) sound commits level_is in
-      let known = arrives (ground_image r.room r.table) (ground_image r.moves.copied (record t' { last = r.table.last })) m'.words k top areas registers s aim n p.at to r.area r.level opened_on.kept
+      let there = rehouses r.room r.table it opened_on p fits stand r.area r.level (survivor t r.level) to old_there level_there end_there m' r.moves (record t' { last = r.table.last }) sound commits level_is in
+      let known = arrives (ground_image r.room r.table) (ground_image r.moves.copied (record t' { last = r.table.last })) m'.words it registers n p.at to r.area r.level opened_on.kept
       (subst (λ (ws : List Parts). forward_of (word_at ws p.at).content ≡ None) (sym words) (subst (λ (a : ℕ). forward_of (word_at m.words a).content ≡ None) (sym place) last.no_forward))
-      kind p (subst (λ (a : ℕ). Survives k registers s aim kind a n) (sym place) can.survives)
+      kind p (subst (λ (a : ℕ). Survives it registers kind a n) (sym place) can.survives)
       (subst (λ (ws : List Parts). IsParcel ws p.at p) (sym words) (subst (λ (a : ℕ). IsParcel m.words a p) (sym place) is))
       there r.moves.copies.there in
-      let x = extends r.room r.table k top areas s aim opened_on p fits stand r.area r.level (survivor t r.level) to old_there level_there end_there m' r.moves (record t' { last = r.table.last }) sound commits in
-      after_on r.room m' r.table (record t' { last = r.table.last }) k top areas s s aim p.charge kind to 1 (λ i. n) opened_on x.form sound
-      (forwarded_ground r.room r.table k top areas s aim opened_on p fits stand r.area r.level (survivor t r.level) to old_there level_there end_there m' r.moves (record t' { last = r.table.last }) sound commits)
-      (forwarded_named r.room r.table k top areas s aim opened_on p fits stand r.area r.level (survivor t r.level) to old_there level_there end_there m' r.moves (record t' { last = r.table.last }) sound commits)
+      let x = extends r.room r.table it opened_on p fits stand r.area r.level (survivor t r.level) to old_there level_there end_there m' r.moves (record t' { last = r.table.last }) sound commits in
+      after_on r.room m' r.table (record t' { last = r.table.last }) it it.store p.charge kind to 1 (λ i. n) opened_on x.form sound
+      (forwarded_ground r.room r.table it opened_on p fits stand r.area r.level (survivor t r.level) to old_there level_there end_there m' r.moves (record t' { last = r.table.last }) sound commits)
+      (forwarded_named r.room r.table it opened_on p fits stand r.area r.level (survivor t r.level) to old_there level_there end_there m' r.moves (record t' { last = r.table.last }) sound commits)
       known
 
   -- at the new place there is no forward
@@ -185,14 +184,14 @@ module _ (m : Store) (t : Table) (k : RoleMap) (top : ℕ) (areas : List AreaRul
       let b = r.moves.forwards.size in
       record { inside = omega arith; no_forward = ap (λ (x : Parts). forward_of x.content) (e ∙ w) ∙ first_content p.rest }
 
-  pub moved-later : ReachesOn m t m' t' k top areas s aim kind to n
+  pub moved-later : ReachesOn m t m' t' it kind to n
   moved-later = record {
     later = record {
       map = after.map;
-      kept = kept_on_noted m' (record t' { last = r.table.last }) t'.last after.map top areas s aim r.sound after.kept;
+      kept = kept_on_noted m' (record t' { last = r.table.last }) t'.last (by_map it after.map) r.sound after.kept;
       refines = after.refines;
       work = (
-          let same = old-opened m r.room t r.table r.region r.area (survivor t r.level) k top areas s aim on opened_on r.old.area_in level_in r.opens in
+          let same = old-opened m r.room t r.table r.region r.area (survivor t r.level) it on opened_on r.old.area_in level_in r.opens in
           let less = after.old in
           let pays = stand.pays in
           let placed : t'.placed ≡ r.table.placed + word_count_of p = ap (λ (u : Table). u.placed) r.commits.table in

@@ -4,7 +4,6 @@ use Rattle.std.specs.Prelude.{Contains, IfSome}
 use Rattle.std.proofs.lemmas.Bool.{cases_eq, cases_lt, lt-ltb, le-ltb}
 use Rattle.std.proofs.lemmas.Option.{slice_get-get_or, slice_get_past, slice_get_within}
 use Rattle.store_word.specs.Words.{Parts, null_word, address_of}
-use Rattle.area_space.specs.lisp_graph.declared.world.AreaRule.{AreaRule}
 use Rattle.area_space.specs.lisp_graph.declared.command.Condemn.{Condemn}
 use Rattle.area_space.specs.lisp_graph.declared.command.Condemn.TheVariants.{Full, Chosen}
 use Rattle.mem_port.specs.Store.{Store}
@@ -17,10 +16,9 @@ use Rattle.area_space.specs.Flips.{survivor, survivor_of}
 use Rattle.area_space.specs.Ground.{IsGround, NamesNoFree}
 use Rattle.area_space.proofs.UsedEnds.{end_in_chain, end_region}
 use Rattle.obj_layout.specs.Forwards.{word_at}
-use Rattle.lisp_ground.specs.lisp_meaning.State.{Condemned}
 use Rattle.lisp_ground.specs.lisp_meaning.State as M
 use Rattle.lisp_ground.specs.lisp_meaning.Image.{is_used}
-use Rattle.lisp_ground.specs.lisp_meaning.Roles.{RoleMap, Blank, AsCons, names_as}
+use Rattle.lisp_ground.specs.lisp_meaning.Roles.{Blank, AsCons, names_as}
 use Rattle.lisp_ground.specs.lisp_meaning.Placed.{Placed, Rehomed}
 use Rattle.lisp_ground.specs.lisp_meaning.Transport.{Rehouses}
 use Rattle.lisp_ground.specs.Image.{ground_image}
@@ -39,6 +37,7 @@ use Rattle.transporter.specs.Parcels.{IsFit, word_count_of, word_more, moved_wor
 use Rattle.transporter.specs.Writes.{Writes, forward_to, pair_word}
 use Rattle.transporter.specs.Relocations.{old_class, IsOldIn, Moves}
 use Rattle.transporter.proofs.ParcelRoles.{Stands}
+use Rattle.lisp_ground.specs.lisp_meaning.Interpretation.{Interpretation}
 use Rattle.transporter.proofs.OldCharges.{charged_there, old_class_at}
 
 -- Words that were written, one by one or by a range
@@ -66,18 +65,18 @@ within-written {old} {new} {at} {count} {word} w = record {
 
 -- A word with a role is used, and in the memory
 
-module _ (m : Store) (t : Table) (k : RoleMap) (top : ℕ) (areas : List AreaRule) (s : M.Store) (aim : Condemned) (h : GroundInvariant m t k top areas s aim) where
-  pub role_used : (a : ℕ) → (k.role a ≡ Blank → ⊥) → IsTrue (is_used (ground_image m t) a)
+module _ (m : Store) (t : Table) (it : Interpretation) (h : GroundInvariant m t it) where
+  pub role_used : (a : ℕ) → (it.map.role a ≡ Blank → ⊥) → IsTrue (is_used (ground_image m t) a)
   role_used a role = go (is_used (ground_image m t) a) refl
     where
       go : (b : Bool) → is_used (ground_image m t) a ≡ b → IsTrue (is_used (ground_image m t) a)
       go true e = e
       go false e = absurd (role (h.kept.covered.unused a e))
 
-  pub role_inside : (a : ℕ) → (k.role a ≡ Blank → ⊥) → a < length m.words
+  pub role_inside : (a : ℕ) → (it.map.role a ≡ Blank → ⊥) → a < length m.words
   role_inside a role = used_inside m t a h.table h.ground (role_used a role)
 
-  pub role_below : (a : ℕ) → (k.role a ≡ Blank → ⊥) → a % 4096 < used_of t (a / 4096)
+  pub role_below : (a : ℕ) → (it.map.role a ≡ Blank → ⊥) → a % 4096 < used_of t (a / 4096)
   role_below a role = used_below m t a h.table (role_used a role)
 
 -- A place that leaves the words and the sizes
@@ -98,18 +97,18 @@ survivor-is t what top level aim_is top_is = ap (λ (a : Option Condemn). surviv
     go Full = refl
     go (Chosen levels) = ap (λ (n : ℕ). cond (nat_lt level top) n 0) (let e : level + 1 ≡ suc level = omega arith in e)
 
-module _ (m : Store) (t : Table) (k : RoleMap) (top : ℕ) (areas : List AreaRule) (s : M.Store) (aim : Condemned) (h : GroundInvariant m t k top areas s aim)
-    (p : Parcel) (fits : IsFit p) (stands : Stands k s p) (area from level to : ℕ) (old : IsOldIn t p.at area from) (level_in : level < levels_of t) (end : IsEnd t (slot_of t area level) to (word_count_of p))
+module _ (m : Store) (t : Table) (it : Interpretation) (h : GroundInvariant m t it)
+    (p : Parcel) (fits : IsFit p) (stands : Stands it.map it.store p) (area from level to : ℕ) (old : IsOldIn t p.at area from) (level_in : level < levels_of t) (end : IsEnd t (slot_of t area level) to (word_count_of p))
     (m' : Store) (moves : Moves m m' p to) (u : Table) (v : IsTable u) (is : u ≡ record (committed t (slot_of t area level) to (word_count_of p) p.charge (Moved (old_class area from))) { pages = u.pages }) where
   pub extends : Extends t u to (word_count_of p)
   extends = committed_extends t u (slot_of t area level) to (word_count_of p) p.charge (Moved (old_class area from)) is
 
   -- what a word of the old place has as address is in no free region
   safe_old : (a : ℕ) → a < length m.words → NamesUsed t (word_at m.words a).content
-  safe_old a l = word_names_used m t k top areas s aim h a (word_at m.words a) (slice_get-get_or m.words a null_word l)
+  safe_old a l = word_names_used m t it h a (word_at m.words a) (slice_get-get_or m.words a null_word l)
 
   inside : (j : ℕ) → j < p.words → p.at + j < length m.words
-  inside j l = role_inside m t k top areas s aim h (p.at + j) (stands.words j l)
+  inside j l = role_inside m t it h (p.at + j) (stands.words j l)
 
   safe_pair : (cell : Parts) (rest j : ℕ) → NamesUsed t cell.content → (IsUnclassed t (rest / 4096) → ⊥) → NamesUsed t (pair_word cell rest j).content
   safe_pair cell rest zero a b = a
@@ -118,12 +117,12 @@ module _ (m : Store) (t : Table) (k : RoleMap) (top : ℕ) (areas : List AreaRul
   safe_new : (i : ℕ) → i < word_count_of p → NamesUsed t (new_word m.words p i).content
   safe_new i l = go p.rest stands.rest l
     where
-      go : (rest : Option ℕ) → IfSome rest (λ to. (n : ℕ) × (names_as AsCons (k.role to) ≡ Some n)) → i < p.words + word_more rest → NamesUsed t (moved_word m.words p.at p.words rest i).content
+      go : (rest : Option ℕ) → IfSome rest (λ to. (n : ℕ) × (names_as AsCons (it.map.role to) ≡ Some n)) → i < p.words + word_more rest → NamesUsed t (moved_word m.words p.at p.words rest i).content
       go None named l = safe_old (p.at + i) (inside i (omega arith))
       go (Some rest) named l = pick (cases_lt (suc i) p.words)
         where
           free : IsUnclassed t (rest / 4096) → ⊥
-          free = named_used m t k top areas s aim h AsCons rest named.0 named.1
+          free = named_used m t it h AsCons rest named.0 named.1
 
           pick : (suc i < p.words) ⊎ (p.words ≤ suc i) → NamesUsed t (moved_word m.words p.at p.words (Some rest) i).content
           pick (inl less) = rw (lt-ltb (suc i) p.words less) (safe_old (p.at + i) (inside i (omega arith)))
@@ -168,7 +167,7 @@ module _ (m : Store) (t : Table) (k : RoleMap) (top : ℕ) (areas : List AreaRul
       (λ a x. let low = x.0 in let high = x.1 in
       let each = fits.each in
       let place : p.at + (a - p.at) ≡ a = omega arith in
-      let below = subst (λ (c : ℕ). c % 4096 < used_of t (c / 4096)) place (role_below m t k top areas s aim h (p.at + (a - p.at)) (stands.words (a - p.at) (omega arith))) in
+      let below = subst (λ (c : ℕ). c % 4096 < used_of t (c / 4096)) place (role_below m t it h (p.at + (a - p.at)) (stands.words (a - p.at) (omega arith))) in
       let more = still_below (a / 4096) in
       omega arith)
 
@@ -192,12 +191,12 @@ module _ (m : Store) (t : Table) (k : RoleMap) (top : ℕ) (areas : List AreaRul
       live_there (a - p.at) (omega arith) (subst (λ (c : ℕ). IsUnclassed u (c / 4096)) (sym is) free))
 
   -- the premise of the theorems on transports
-  pub rehouses : level ≡ M.survivor top aim.what from → Rehouses (ground_image m t) (ground_image moves.copied u) m'.words top aim p.at to (word_count_of p) p.objects area from p.charge
+  pub rehouses : level ≡ M.survivor it.top it.aim.what from → Rehouses (ground_image m t) (ground_image moves.copied u) m'.words it.top it.aim p.at to (word_count_of p) p.objects area from p.charge
   rehouses level_is = record {
     old = old_class_at m t p.at area from h.table old;
     placed = subst (λ (l : ℕ). Placed (ground_image m t) (ground_image moves.copied u) to (word_count_of p) area l) level_is (laid_placed m moves.copied t u to (word_count_of p) area level h.table h.ground h.named lays extends);
     charged = subst (λ (l : ℕ). Rehomed (ground_image m t) (ground_image moves.copied u) area from l p.charge) level_is
-        (laid_rehomed m moves.copied t u to (word_count_of p) p.charge area level h.table lays from old.level_in (charged_there m t k top areas s aim h p stands fits.each area from old) is);
+        (laid_rehomed m moves.copied t u to (word_count_of p) p.charge area level h.table lays from old.level_in (charged_there m t it h p stands fits.each area from old) is);
     forwarded = moves.forwards.there;
     others = moves.forwards.others;
     marks = ground_marks m' u v forwarded_named;

@@ -1,14 +1,12 @@
 -- At most, a region was opened for a place.
-use Rattle.std.proofs.Common.{ℕ, ◌+◌, ◌*◌, ◌<◌, ◌≤◌, ◌^◌, inl, inr, refl, sym, ◌∙◌, ap, subst, arith, List, length, Option, Some, None}
-use Rattle.area_space.specs.lisp_graph.declared.world.AreaRule.{AreaRule}
+use Rattle.std.proofs.Common.{ℕ, ◌+◌, ◌*◌, ◌<◌, ◌≤◌, ◌^◌, inl, inr, refl, sym, ◌∙◌, ap, subst, arith, length, Option, Some, None}
 use Rattle.mem_port.specs.Store.{StoresNothing}
 use Rattle.mem_port.specs.Store as Memory
 use Rattle.area_space.specs.Table.{Table, areas_of, levels_of, slot_of}
 use Rattle.area_space.specs.Places.{IsEnd}
 use Rattle.area_space.proofs.UsedEnds.{end_region}
-use Rattle.transporter.specs.lisp_meaning.State.{Condemned, Store}
-use Rattle.transporter.specs.lisp_meaning.Roles.{RoleMap}
 use Rattle.transporter.specs.lisp_ground.GroundInvariant.{GroundInvariant}
+use Rattle.lisp_ground.specs.lisp_meaning.Interpretation.{Interpretation}
 use Rattle.transporter.specs.lisp_ground.Placing.{Opens}
 use Rattle.transporter.proofs.lisp_ground.words.Places.{place_kept_on}
 use Rattle.transporter.specs.Growth.{OpensOrStays}
@@ -18,10 +16,10 @@ use Rattle.transporter.specs.Transports.{WordsUnchanged}
 use Rattle.transporter.proofs.LiveObjects.{live-faulted}
 use Rattle.transporter.proofs.TransportClauses.{stays-faulted}
 
-module _ (m : Memory.Store) (t : Table) (k : RoleMap) (top : ℕ) (areas : List AreaRule) (s : Store) (aim : Condemned) (on : GroundInvariant m t k top areas s aim) (area level : ℕ) (area_in : area < areas_of t) (level_in : level < levels_of t)
+module _ (m : Memory.Store) (t : Table) (it : Interpretation) (on : GroundInvariant m t it) (area level : ℕ) (area_in : area < areas_of t) (level_in : level < levels_of t)
     (m1 : Memory.Store) (t1 : Table) (region : Option ℕ) (opens : Opens m t m1 t1 region area level) where
-  after : GroundInvariant m1 t1 k top areas s aim
-  after = place_kept_on m m1 t t1 region area level k top areas s aim on area_in level_in opens
+  after : GroundInvariant m1 t1 it
+  after = place_kept_on m m1 t t1 region area level it on area_in level_in opens
 
   -- a region was opened at most, and then nothing stored
   pub opened_at_most : (m2 : Memory.Store) → StoresNothing m1 m2 → OpensAtMost m t m2 t1

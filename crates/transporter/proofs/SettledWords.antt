@@ -5,17 +5,15 @@ use Rattle.store_word.specs.declared.word.Content.{Content}
 use Rattle.store_word.specs.declared.word.Content.TheVariants.{Null, Nil as NilWord, List as ListAt, Struct as StructAt, Header, HeaderForward, GcForward, Fixnum}
 use Rattle.area_space.specs.lisp_graph.declared.object.Value.{Value}
 use Rattle.area_space.specs.lisp_graph.declared.object.Value.TheVariants as V
-use Rattle.area_space.specs.lisp_graph.declared.world.AreaRule.{AreaRule}
 use Rattle.mem_port.specs.Store.{Store}
 use Rattle.area_space.specs.Table.{Table, live, stale, IsLive, IsOld}
 use Rattle.area_space.specs.Sound.{IsTable}
-use Rattle.lisp_ground.specs.lisp_meaning.State.{Condemned}
-use Rattle.lisp_ground.specs.lisp_meaning.State as M
-use Rattle.lisp_ground.specs.lisp_meaning.Roles.{Kind, AsCons, AsBlock, Role, RoleMap, names_as, as_ref, value_of}
+use Rattle.lisp_ground.specs.lisp_meaning.Roles.{Kind, AsCons, AsBlock, Role, names_as, as_ref, value_of}
 use Rattle.lisp_ground.specs.GroundInvariant.{GroundInvariant}
 use Rattle.transporter.specs.Settling.{reference_of, content_to, readdressed, CanSettle, IsSettleable, Settles, SettlesOn}
 use Rattle.transporter.specs.Transports.{CanTransport, IsTransportable, ReachesOn}
 use Rattle.transporter.proofs.ParcelRoles.{not_blank}
+use Rattle.lisp_ground.specs.lisp_meaning.Interpretation.{Interpretation}
 use Rattle.transporter.proofs.MovedParcels.{role_inside}
 
 -- A reference with a value
@@ -66,14 +64,14 @@ names-of role (Fixnum i) at v ref value = absurd (cc)
 
 pub reference-inside : {m : Store} {t : Table} {word : Parts} (at : ℕ) → IsSettleable m t word → reference_of word.content ≡ Some at → at / 4096 < t.regions
 reference-inside {m} {t} {word} at x ref =
-    let n = names-of x.map.role word.content at x.value ref (x.can.value at ref) in
-    let inside = role_inside m t x.map x.top x.areas x.store x.aim x.can.kept at (not_blank (x.map.role at) n.kind n.name n.named) in
+    let n = names-of x.it.map.role word.content at x.value ref (x.can.value at ref) in
+    let inside = role_inside m t x.it x.can.kept at (not_blank (x.it.map.role at) n.kind n.name n.named) in
     let size = x.can.kept.ground.size in
     omega arith
 
-pub settle-transport : (m : Store) (t : Table) (k : RoleMap) (top : ℕ) (areas : List AreaRule) (registers : List Value) (s : M.Store) (aim : Condemned) (word : Parts) (v : Value) (at : ℕ) → CanSettle m t k top areas registers s aim word v
-    → (ref : reference_of word.content ≡ Some at) → IsOld t (at / 4096) → (names : Names k.role word.content at v) → CanTransport m t k top areas registers s aim names.kind at names.name
-settle-transport m t k top areas registers s aim word v at can ref old names =
+pub settle-transport : (m : Store) (t : Table) (it : Interpretation) (registers : List Value) (word : Parts) (v : Value) (at : ℕ) → CanSettle m t it registers word v
+    → (ref : reference_of word.content ≡ Some at) → IsOld t (at / 4096) → (names : Names it.map.role word.content at v) → CanTransport m t it registers names.kind at names.name
+settle-transport m t it registers word v at can ref old names =
     let keeps = can.survives (at, ref, old) in
     record {
       kept = can.kept;
@@ -83,17 +81,13 @@ settle-transport m t k top areas registers s aim word v at can ref old names =
 
 pub settle-transportable : {m : Store} {t : Table} {word : Parts} (at : ℕ) → IsSettleable m t word → reference_of word.content ≡ Some at → IsOld t (at / 4096) → IsTransportable m t at
 settle-transportable {m} {t} {word} at x ref old =
-    let names = names-of x.map.role word.content at x.value ref (x.can.value at ref) in
+    let names = names-of x.it.map.role word.content at x.value ref (x.can.value at ref) in
     record {
-      map = x.map;
-      top = x.top;
-      areas = x.areas;
+      it = x.it;
       registers = x.registers;
-      store = x.store;
-      aim = x.aim;
       kind = names.kind;
       name = names.name;
-      can = settle-transport m t x.map x.top x.areas x.registers x.store x.aim word x.value at x.can ref old names;
+      can = settle-transport m t x.it x.registers word x.value at x.can ref old names;
     }
 
 -- After
@@ -106,16 +100,16 @@ pub live-not_old : {t : Table} {region : ℕ} → IsTable t → IsLive t region 
 live-not_old {t} {region} v alive old = let both = v.sound.one_list (live alive.0) (stale old.0) region alive.1 old.1 in omega arith
 
 -- nothing is old
-pub settles-same : (m : Store) (t : Table) (k : RoleMap) (top : ℕ) (areas : List AreaRule) (s : M.Store) (aim : Condemned) (word : Parts) → GroundInvariant m t k top areas s aim → SettlesOn m t m t k top areas s aim word word
-settles-same m t k top areas s aim word on = record {
-  later = record { map = k; kept = on; refines = λ kind a n e. e; work = omega arith };
+pub settles-same : (m : Store) (t : Table) (it : Interpretation) (word : Parts) → GroundInvariant m t it → SettlesOn m t m t it word word
+settles-same m t it word on = record {
+  later = record { map = it.map; kept = on; refines = λ kind a n e. e; work = omega arith };
   value = λ v e. e;
 }
 
 -- the object was transported
-pub settles-moved : (m m' : Store) (t t' : Table) (k : RoleMap) (top : ℕ) (areas : List AreaRule) (s : M.Store) (aim : Condemned) (word : Parts) (v : Value) (at to : ℕ) → reference_of word.content ≡ Some at → value_of k.role word.content ≡ Some v
-    → (names : Names k.role word.content at v) → ReachesOn m t m' t' k top areas s aim names.kind to names.name → SettlesOn m t m' t' k top areas s aim word (readdressed word to)
-settles-moved m m' t t' k top areas s aim word v at to ref value names r = record {
+pub settles-moved : (m m' : Store) (t t' : Table) (it : Interpretation) (word : Parts) (v : Value) (at to : ℕ) → reference_of word.content ≡ Some at → value_of it.map.role word.content ≡ Some v
+    → (names : Names it.map.role word.content at v) → ReachesOn m t m' t' it names.kind to names.name → SettlesOn m t m' t' it word (readdressed word to)
+settles-moved m m' t t' it word v at to ref value names r = record {
   later = r.later;
   value = λ w e.
       let same : v ≡ w = (let x = sym value ∙ e in cc) in

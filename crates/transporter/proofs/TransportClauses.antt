@@ -3,16 +3,13 @@ use Rattle.std.proofs.Common.{ℕ, ◌≡◌, ◌⊎◌, ◌/◌, ◌<◌, List,
 use Rattle.std.specs.Prelude.{IsSome}
 use Rattle.store_word.specs.Words.{Parts}
 use Rattle.area_space.specs.lisp_graph.declared.object.Value.{Value}
-use Rattle.area_space.specs.lisp_graph.declared.world.AreaRule.{AreaRule}
 use Rattle.area_space.specs.lisp_graph.declared.command.Condemn.{Condemn}
 use Rattle.mem_port.specs.Store.{Store, StoresNothing}
 use Rattle.area_space.specs.Table.{Table, areas_of, levels_of, IsLive, IsOld, IsUnclassed}
 use Rattle.obj_layout.specs.Forwards.{Final, HasFinal, IsFinal}
 use Rattle.obj_layout.proofs.ForwardChains.{stores_nothing-twice}
-use Rattle.lisp_ground.specs.lisp_meaning.State.{Condemned}
-use Rattle.lisp_ground.specs.lisp_meaning.State as M
 use Rattle.lisp_ground.specs.lisp_meaning.Classes.{classes}
-use Rattle.lisp_ground.specs.lisp_meaning.Roles.{Kind, RoleMap}
+use Rattle.lisp_ground.specs.lisp_meaning.Roles.{Kind}
 use Rattle.lisp_ground.specs.Image.{ground_image}
 use Rattle.lisp_ground.specs.After.{old_on}
 use Rattle.lisp_ground.specs.Placing.{Opens}
@@ -26,6 +23,7 @@ use Rattle.transporter.specs.LiveWordsUnchanged.{LiveWordsUnchanged}
 use Rattle.transporter.specs.Relocations.{OpensAtMost, IsMovable, MovesHere}
 use Rattle.transporter.specs.Transports.{CanTransport, IsTransportable, ReachesOn, MovesFrom, moved as moved_from, WordsUnchanged}
 use Rattle.transporter.proofs.ParcelRoles.{named-along}
+use Rattle.lisp_ground.specs.lisp_meaning.Interpretation.{Interpretation}
 use Rattle.transporter.proofs.MovedParcels.{opened-words}
 use Rattle.transporter.proofs.MovableParcels.{stands-whole, movable}
 use Rattle.transporter.proofs.LiveObjects.{live-read, live-then, live-relocated, live-faulted}
@@ -35,15 +33,15 @@ use Rattle.transporter.proofs.MovedObjects.{old-opened, moved-later}
 
 -- an object has a final address
 pub can-final : {m : Store} {t : Table} {at : ℕ} → IsTransportable m t at → HasFinal m.words at
-can-final {m} {t} {at} x = has_final m t x.map x.top x.areas x.store x.aim x.can.kept x.kind at x.name x.can.survives.named
+can-final {m} {t} {at} x = has_final m t x.it x.can.kept x.kind at x.name x.can.survives.named
 
 -- a reference to it may be followed first
-pub can-along : (m mid : Store) (t : Table) (k : RoleMap) (top : ℕ) (areas : List AreaRule) (registers : List Value) (s : M.Store) (aim : Condemned) (kind : Kind) (at here n : ℕ) → CanTransport m t k top areas registers s aim kind at n
-    → Final m.words at here → StoresNothing m mid → CanTransport mid t k top areas registers s aim kind here n
-can-along m mid t k top areas registers s aim kind at here n can final stays = record {
-  kept = kept_on_same m mid t k top areas s aim can.kept stays;
+pub can-along : (m mid : Store) (t : Table) (it : Interpretation) (registers : List Value) (kind : Kind) (at here n : ℕ) → CanTransport m t it registers kind at n
+    → Final m.words at here → StoresNothing m mid → CanTransport mid t it registers kind here n
+can-along m mid t it registers kind at here n can final stays = record {
+  kept = kept_on_same m mid t it can.kept stays;
   survives = record {
-    named = named-along m.words (classes (ground_image m t)) k s can.kept.kept.roled kind n final.2 can.survives.named;
+    named = named-along m.words (classes (ground_image m t)) it.map it.store can.kept.kept.roled kind n final.2 can.survives.named;
     kept = can.survives.kept;
     reaches = can.survives.reaches;
   };
@@ -53,46 +51,46 @@ can-along m mid t k top areas registers s aim kind at here n can final stays = r
 -- if its final address is old, it is ready to move
 pub can-whole : {m mid : Store} {t : Table} {at : ℕ} (here : ℕ) → IsTransportable m t at → Final m.words at here → IsFinal m.words here → StoresNothing m mid → StandsWhole mid.words here
 can-whole {m} {mid} {t} {at} here x final last stays =
-    let c = can-along m mid t x.map x.top x.areas x.registers x.store x.aim x.kind at here x.name x.can final stays in
-    stands-whole mid t x.map x.top x.areas x.store x.aim c.kept x.name here (subst (λ (ws : List Parts). IsFinal ws here) (sym stays.words) last) x.kind c.survives.named
+    let c = can-along m mid t x.it x.registers x.kind at here x.name x.can final stays in
+    stands-whole mid t x.it c.kept x.name here (subst (λ (ws : List Parts). IsFinal ws here) (sym stays.words) last) x.kind c.survives.named
 
 some-aim : (aim : Option Condemn) (what : Condemn) → aim ≡ Some what → IsSome aim
 some-aim aim what is = rw is refl
 
 pub can-movable : {m mid : Store} {t : Table} {at : ℕ} (here : ℕ) → IsTransportable m t at → Final m.words at here → IsFinal m.words here → StoresNothing m mid → IsOld t (here / 4096) → IsMovable mid t here
 can-movable {m} {mid} {t} {at} here x final last stays old =
-    let c = can-along m mid t x.map x.top x.areas x.registers x.store x.aim x.kind at here x.name x.can final stays in
-    movable mid t x.map x.top x.areas x.store x.aim c.kept x.name here (subst (λ (ws : List Parts). IsFinal ws here) (sym stays.words) last) x.kind c.survives.named old (some-aim t.aim x.aim.what x.can.running)
+    let c = can-along m mid t x.it x.registers x.kind at here x.name x.can final stays in
+    movable mid t x.it c.kept x.name here (subst (λ (ws : List Parts). IsFinal ws here) (sym stays.words) last) x.kind c.survives.named old (some-aim t.aim x.it.aim.what x.can.running)
 
 -- After
 
 -- the object is there, live
-pub reaches-there : (m mid : Store) (t : Table) (k : RoleMap) (top : ℕ) (areas : List AreaRule) (registers : List Value) (s : M.Store) (aim : Condemned) (kind : Kind) (at here n : ℕ) → CanTransport m t k top areas registers s aim kind at n
-    → Final m.words at here → IsFinal m.words here → StoresNothing m mid → (IsOld t (here / 4096) → ⊥) → ReachesOn m t mid t k top areas s aim kind here n
-reaches-there m mid t k top areas registers s aim kind at here n can final last stays not_old =
-    let c = can-along m mid t k top areas registers s aim kind at here n can final stays in
-    let same : old_on mid t s aim k.at ≡ old_on m t s aim k.at = refl in
+pub reaches-there : (m mid : Store) (t : Table) (it : Interpretation) (registers : List Value) (kind : Kind) (at here n : ℕ) → CanTransport m t it registers kind at n
+    → Final m.words at here → IsFinal m.words here → StoresNothing m mid → (IsOld t (here / 4096) → ⊥) → ReachesOn m t mid t it kind here n
+reaches-there m mid t it registers kind at here n can final last stays not_old =
+    let c = can-along m mid t it registers kind at here n can final stays in
+    let same : old_on mid t it.store it.aim it.map.at ≡ old_on m t it.store it.aim it.map.at = refl in
     record {
-      later = record { map = k; kept = c.kept; refines = λ kind a n e. e; work = omega arith };
+      later = record { map = it.map; kept = c.kept; refines = λ kind a n e. e; work = omega arith };
       named = c.survives.named;
       live = go c (region_cases t (here / 4096));
       final = subst (λ (ws : List Parts). IsFinal ws here) (sym stays.words) last;
     }
   where
-    go : CanTransport mid t k top areas registers s aim kind here n → IsUnclassed t (here / 4096) ⊎ (IsLive t (here / 4096) ⊎ IsOld t (here / 4096)) → IsLive t (here / 4096)
-    go c (inl free) = absurd (named_used mid t k top areas s aim c.kept kind here n c.survives.named free)
+    go : CanTransport mid t it registers kind here n → IsUnclassed t (here / 4096) ⊎ (IsLive t (here / 4096) ⊎ IsOld t (here / 4096)) → IsLive t (here / 4096)
+    go c (inl free) = absurd (named_used mid t it c.kept kind here n c.survives.named free)
     go c (inr (inl live)) = live
     go c (inr (inr old)) = absurd (not_old old)
 
 -- it moved there
-pub reaches-moved : (m mid m' : Store) (t t' : Table) (k : RoleMap) (top : ℕ) (areas : List AreaRule) (registers : List Value) (s : M.Store) (aim : Condemned) (kind : Kind) (at here to n : ℕ) → CanTransport m t k top areas registers s aim kind at n
-    → Final m.words at here → IsFinal m.words here → StoresNothing m mid → MovesHere mid t m' t' here to → ReachesOn m t m' t' k top areas s aim kind to n
-reaches-moved m mid m' t t' k top areas registers s aim kind at here to n can final last stays moved =
+pub reaches-moved : (m mid m' : Store) (t t' : Table) (it : Interpretation) (registers : List Value) (kind : Kind) (at here to n : ℕ) → CanTransport m t it registers kind at n
+    → Final m.words at here → IsFinal m.words here → StoresNothing m mid → MovesHere mid t m' t' here to → ReachesOn m t m' t' it kind to n
+reaches-moved m mid m' t t' it registers kind at here to n can final last stays moved =
     let all = stores_nothing-twice stays moved.stays in
-    let c = can-along m moved.read t k top areas registers s aim kind at here n can final all in
-    let r = moved-later moved.read t k top areas registers s aim kind here n c (subst (λ (ws : List Parts). IsFinal ws here) (sym all.words) last) moved.parcel
+    let c = can-along m moved.read t it registers kind at here n can final all in
+    let r = moved-later moved.read t it registers kind here n c (subst (λ (ws : List Parts). IsFinal ws here) (sym all.words) last) moved.parcel
     (subst (λ (ws : List Parts). IsParcel ws here moved.parcel) (sym moved.stays.words) moved.is) moved.fits m' t' to moved.relocates in
-    let same : old_on moved.read t s aim k.at ≡ old_on m t s aim k.at = refl in
+    let same : old_on moved.read t it.store it.aim it.map.at ≡ old_on m t it.store it.aim it.map.at = refl in
     record {
       later = record { map = r.later.map; kept = r.later.kept; refines = r.later.refines; work = (let w = r.later.work in omega arith) };
       named = r.named;
@@ -118,24 +116,24 @@ pub stays-read : {m m' : Store} {t : Table} → StoresNothing m m' → WordsUnch
 stays-read {m} {m'} {t} n = record {
   words = n.words;
   placed = refl;
-  kept = λ k top areas s aim on. kept_on_same m m' t k top areas s aim on n;
-  old = λ k top areas s aim on. refl;
+  kept = λ it on. kept_on_same m m' t it on n;
+  old = λ it on. refl;
 }
 
 stays-then : {m m1 m2 : Store} {t t1 t2 : Table} → WordsUnchanged m t m1 t1 → WordsUnchanged m1 t1 m2 t2 → WordsUnchanged m t m2 t2
 stays-then x y = record {
   words = y.words ∙ x.words;
   placed = y.placed ∙ x.placed;
-  kept = λ k top areas s aim on. y.kept k top areas s aim (x.kept k top areas s aim on);
-  old = λ k top areas s aim on. y.old k top areas s aim (x.kept k top areas s aim on) ∙ x.old k top areas s aim on;
+  kept = λ it on. y.kept it (x.kept it on);
+  old = λ it on. y.old it (x.kept it on) ∙ x.old it on;
 }
 
 stays-opened : {m m' : Store} {t t' : Table} {area level : ℕ} (region : Option ℕ) → area < areas_of t → level < levels_of t → Opens m t m' t' region area level → WordsUnchanged m t m' t'
 stays-opened {m} {m'} {t} {t'} {area} {level} region area_in level_in o = record {
   words = opened-words region o;
   placed = go region o;
-  kept = λ k top areas s aim on. place_kept_on m m' t t' region area level k top areas s aim on area_in level_in o;
-  old = λ k top areas s aim on. old-opened m m' t t' region area level k top areas s aim on (place_kept_on m m' t t' region area level k top areas s aim on area_in level_in o) area_in level_in o;
+  kept = λ it on. place_kept_on m m' t t' region area level it on area_in level_in o;
+  old = λ it on. old-opened m m' t t' region area level it on (place_kept_on m m' t t' region area level it on area_in level_in o) area_in level_in o;
 }
   where
     go : (r : Option ℕ) → Opens m t m' t' r area level → t'.placed ≡ t.placed

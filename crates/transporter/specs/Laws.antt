@@ -4,7 +4,6 @@ use Rattle.store_word.specs.Words.{Parts}
 use Rattle.store_word.specs.declared.word.Content.{Content}
 use Rattle.store_word.specs.declared.sizes.TheConstants.{PAGE_WORDS, REGION_WORDS}
 use Rattle.area_space.specs.lisp_graph.declared.object.Value.{Value}
-use Rattle.area_space.specs.lisp_graph.declared.world.AreaRule.{AreaRule}
 use Rattle.mem_port.specs.Store.{Store}
 use Rattle.area_space.specs.Table.{Table, IsOld}
 use Rattle.obj_layout.specs.Forwards.{word_at, Final}
@@ -12,7 +11,8 @@ use Rattle.obj_layout.specs.declared.run.Run.{Run}
 use Rattle.obj_layout.specs.Runs.{IsRun}
 use Rattle.lisp_ground.specs.lisp_meaning.State.{Condemned}
 use Rattle.lisp_ground.specs.lisp_meaning.State as M
-use Rattle.lisp_ground.specs.lisp_meaning.Roles.{RoleMap, value_of}
+use Rattle.lisp_ground.specs.lisp_meaning.Roles.{value_of}
+use Rattle.lisp_ground.specs.lisp_meaning.Interpretation.{Interpretation, by_map}
 use Rattle.transporter.specs.LiveWordsUnchanged.{OnlyGrows, IsLiveWord, LiveWordsUnchanged}
 use Rattle.transporter.specs.Marking.{MarksFollow, MarksFollowBut}
 use Rattle.transporter.specs.Moving.{MovesAtMost}
@@ -24,14 +24,14 @@ use Rattle.transporter.specs.Writes.{forward_to}
 -- two later maps, one after the other
 abbrev pub LaterTwice : Type 0
 LaterTwice =
-    (m m1 m2 : Store) (t t1 t2 : Table) (k : RoleMap) (top : ℕ) (areas : List AreaRule) (s : M.Store) (aim : Condemned) (x : RepresentedByLaterMap m t m1 t1 k top areas s aim) (y : RepresentedByLaterMap m1 t1 m2 t2 x.map top areas s aim)
-    → (z : RepresentedByLaterMap m t m2 t2 k top areas s aim) × (z.map ≡ y.map)
+    (m m1 m2 : Store) (t t1 t2 : Table) (it : Interpretation) (x : RepresentedByLaterMap m t m1 t1 it) (y : RepresentedByLaterMap m1 t1 m2 t2 (by_map it x.map))
+    → (z : RepresentedByLaterMap m t m2 t2 it) × (z.map ≡ y.map)
 
 -- a word that had a value has it by a later map
 abbrev pub ValuesStay : Type 0
 ValuesStay =
-    (m m' : Store) (t t' : Table) (k : RoleMap) (top : ℕ) (areas : List AreaRule) (s : M.Store) (aim : Condemned) (x : RepresentedByLaterMap m t m' t' k top areas s aim) (c : Content) (v : Value)
-    → value_of k.role c ≡ Some v → value_of x.map.role c ≡ Some v
+    (m m' : Store) (t t' : Table) (it : Interpretation) (x : RepresentedByLaterMap m t m' t' it) (c : Content) (v : Value)
+    → value_of it.map.role c ≡ Some v → value_of x.map.role c ≡ Some v
 
 -- the live words are the same after two calls that leave them unchanged
 abbrev pub LiveTwice : Type 0

@@ -3,28 +3,23 @@ use Rattle.std.specs.Prelude.{◌≡◌, ℕ, List, Some}
 use Rattle.store_word.specs.Words.{Parts}
 use Rattle.store_word.specs.declared.word.Content.{Content}
 use Rattle.area_space.specs.lisp_graph.declared.object.Value.{Value}
-use Rattle.area_space.specs.lisp_graph.declared.world.AreaRule.{AreaRule}
 use Rattle.mem_port.specs.Store as Memory
 use Rattle.area_space.specs.Table.{Table, IsOld}
-use Rattle.transporter.specs.lisp_meaning.State.{Condemned, Store}
-use Rattle.transporter.specs.lisp_meaning.Roles.{RoleMap, value_of}
+use Rattle.transporter.specs.lisp_meaning.Roles.{value_of}
 use Rattle.transporter.specs.lisp_ground.GroundInvariant.{GroundInvariant}
+use Rattle.lisp_ground.specs.lisp_meaning.Interpretation.{Interpretation}
 use Rattle.transporter.specs.Settling.{RefersToOld, IsKeptValue}
 
 -- the ground represents some objects, of which the content has this value; if a region is old, the collection that runs keeps the object that it refers to
-pub record CanRead (m : Memory.Store) (t : Table) (k : RoleMap) (top : ℕ) (areas : List AreaRule) (registers : List Value) (s : Store) (aim : Condemned) (content : Content) (v : Value) : Type 0 where
-  pub kept : GroundInvariant m t k top areas s aim
-  pub value_is : value_of k.role content ≡ Some v
-  pub survives : (region : ℕ) → IsOld t region → IsKeptValue t registers s aim v
+pub record CanRead (m : Memory.Store) (t : Table) (it : Interpretation) (registers : List Value) (content : Content) (v : Value) : Type 0 where
+  pub kept : GroundInvariant m t it
+  pub value_is : value_of it.map.role content ≡ Some v
+  pub survives : (region : ℕ) → IsOld t region → IsKeptValue t registers it.store it.aim v
 
 -- so it is by some map, and the word has no old address
 pub record IsReadable (m : Memory.Store) (t : Table) (word : Parts) : Type 0 where
-  pub map : RoleMap
-  pub top : ℕ
-  pub areas : List AreaRule
+  pub it : Interpretation
   pub registers : List Value
-  pub objects : Store
-  pub aim : Condemned
   pub value : Value
-  pub can : CanRead m t map top areas registers objects aim word.content value
+  pub can : CanRead m t it registers word.content value
   pub fresh : RefersToOld t word → ⊥

@@ -1,20 +1,19 @@
 -- A word that was read and settled at its place.
-use Rattle.std.specs.Prelude.{◌≡◌, ℕ, List, Some}
+use Rattle.std.specs.Prelude.{◌≡◌, ℕ, Some}
 use Rattle.store_word.specs.Words.{Parts}
 use Rattle.store_word.specs.declared.word.Content.{Content}
 use Rattle.area_space.specs.lisp_graph.declared.object.Value.{Value}
-use Rattle.area_space.specs.lisp_graph.declared.world.AreaRule.{AreaRule}
 use Rattle.mem_port.specs.Store as Memory
 use Rattle.area_space.specs.Table.{Table}
 use Rattle.obj_layout.specs.Forwards.{word_at}
-use Rattle.lisp_ground.specs.lisp_meaning.State.{Condemned, Store}
-use Rattle.lisp_ground.specs.lisp_meaning.Roles.{RoleMap, value_of}
+use Rattle.lisp_ground.specs.lisp_meaning.Roles.{value_of}
+use Rattle.lisp_ground.specs.lisp_meaning.Interpretation.{Interpretation}
 use Rattle.transporter.specs.LiveWordsUnchanged.{LiveWordsUnchangedExcept}
 use Rattle.transporter.specs.Transports.{RepresentedByLaterMap}
 
 -- the ground represents the same objects by a later map, by which the word has this value
-pub record MeansOn (m : Memory.Store) (t : Table) (m' : Memory.Store) (t' : Table) (k : RoleMap) (top : ℕ) (areas : List AreaRule) (s : Store) (aim : Condemned) (word : Parts) (value : Value) : Type 0 where
-  pub later : RepresentedByLaterMap m t m' t' k top areas s aim
+pub record MeansOn (m : Memory.Store) (t : Table) (m' : Memory.Store) (t' : Table) (it : Interpretation) (word : Parts) (value : Value) : Type 0 where
+  pub later : RepresentedByLaterMap m t m' t' it
   pub value_is : value_of later.map.role word.content ≡ Some value
 
 -- The word at an address has this content and the cdr code that it had. No other used word of a live region has changed. (Six parameters: memory and table, each before and after, an address, and its new content.)

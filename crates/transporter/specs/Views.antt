@@ -1,11 +1,7 @@
 -- The definitions of this crate on grounds, restated on their views.
-use Rattle.std.specs.Prelude.{List, ℕ}
+use Rattle.std.specs.Prelude.{ℕ}
 use Rattle.area_space.specs.View.{GroundView}
 use Rattle.area_space.specs.declared.classes.Class.{Class}
-use Rattle.area_space.specs.lisp_graph.declared.object.Value.{Value}
-use Rattle.area_space.specs.lisp_graph.declared.world.AreaRule.{AreaRule}
-use Rattle.lisp_ground.specs.lisp_meaning.Roles.{Kind, RoleMap}
-use Rattle.lisp_ground.specs.lisp_meaning.State.{Condemned, Store as MeaningStore}
 use Rattle.obj_layout.specs.Forwards.{word_at}
 use Rattle.store_word.specs.Words.{Parts}
 use Rattle.store_word.specs.declared.word.Content.{Content}
@@ -29,12 +25,6 @@ CanMove v = relocations.CanMove v.mem.store v.table
 abbrev pub CanPut : GroundView → Parcel → Class → ℕ → Type 0
 CanPut v = relocations.CanPut v.mem.store v.table
 
-abbrev pub CanSettle : GroundView → RoleMap → ℕ → List AreaRule → List Value → MeaningStore → Condemned → Parts → Value → Type 0
-CanSettle v = settling.CanSettle v.mem.store v.table
-
-abbrev pub CanTransport : GroundView → RoleMap → ℕ → List AreaRule → List Value → MeaningStore → Condemned → Kind → ℕ → ℕ → Type 0
-CanTransport v = transports.CanTransport v.mem.store v.table
-
 -- the word at an address is a reference to an old address
 abbrev pub HasOldAt : GroundView → ℕ → Type 0
 HasOldAt v at = settling.RefersToOld v.table (word_at v.mem.store.words at)
@@ -47,9 +37,6 @@ IsSettleable v = settling.IsSettleable v.mem.store v.table
 
 abbrev pub IsTransportable : GroundView → ℕ → Type 0
 IsTransportable v = transports.IsTransportable v.mem.store v.table
-
-abbrev pub RepresentedByLaterMap : GroundView → GroundView → RoleMap → ℕ → List AreaRule → MeaningStore → Condemned → Type 0
-RepresentedByLaterMap v v' = transports.RepresentedByLaterMap v.mem.store v.table v'.mem.store v'.table
 
 abbrev pub LiveWordsUnchanged : GroundView → GroundView → Type 0
 LiveWordsUnchanged v v' = live_same.LiveWordsUnchanged v.mem.store v.table v'.mem.store v'.table
@@ -75,17 +62,14 @@ OpensAtMost v v' = relocations.OpensAtMost v.mem.store v.table v'.mem.store v'.t
 abbrev pub OpensOnly : GroundView → GroundView → Type 0
 OpensOnly v v' = relocations.OpensOnly v.mem.store v.table v'.mem.store v'.table
 
-abbrev pub ReachesOn : GroundView → GroundView → RoleMap → ℕ → List AreaRule → MeaningStore → Condemned → Kind → ℕ → ℕ → Type 0
-ReachesOn v v' = transports.ReachesOn v.mem.store v.table v'.mem.store v'.table
+abbrev pub ReachesAlways : GroundView → GroundView → ℕ → ℕ → Type 0
+ReachesAlways v v' = transports.ReachesAlways v.mem.store v.table v'.mem.store v'.table
 
 abbrev pub Relocates : GroundView → GroundView → Parcel → ℕ → Type 0
 Relocates v v' = relocations.Relocates v.mem.store v.table v'.mem.store v'.table
 
 abbrev pub SettlesAt : GroundView → GroundView → ℕ → Content → Type 0
 SettlesAt v v' = settled.SettlesAt v.mem.store v.table v'.mem.store v'.table
-
-abbrev pub SettlesOn : GroundView → GroundView → RoleMap → ℕ → List AreaRule → MeaningStore → Condemned → Parts → Parts → Type 0
-SettlesOn v v' = settling.SettlesOn v.mem.store v.table v'.mem.store v'.table
 
 -- the word that is returned is the one that was at an address, or that with a live address in place of an old one
 abbrev pub SettlesWordAt : GroundView → GroundView → ℕ → Parts → Type 0
@@ -108,7 +92,11 @@ MovesAtMost v v' = moving.MovesAtMost v.mem.store v.table v'.mem.store v'.table
 
 -- whatever the ground represented, it represents by a later map, by which the new word has each value of the old one
 abbrev pub SettlesAlways : GroundView → GroundView → Parts → Parts → Type 0
-SettlesAlways v v' word new = (k : RoleMap) (top : ℕ) (areas : List AreaRule) (registers : List Value) (s : MeaningStore) (aim : Condemned) (value : Value) → CanSettle v k top areas registers s aim word value → SettlesOn v v' k top areas s aim word new
+SettlesAlways v v' = settling.SettlesAlways v.mem.store v.table v'.mem.store v'.table
+
+-- whatever the ground represented, if the word could be settled, it represents by a later map
+abbrev pub RemainsRepresented : GroundView → GroundView → Parts → Type 0
+RemainsRepresented v v' = settling.RemainsRepresented v.mem.store v.table v'.mem.store v'.table
 
 -- what the barrier does to a ground, whatever the word: at most one transport, in a table that only grows; live words are unchanged, scanned words stay or are fresh, and marks follow the changes
 pub record KeepsBarrier (v v' : GroundView) : Type 0 where

@@ -1,12 +1,8 @@
 //! Settling (the read barrier): an old address in a word becomes that of the transported object.
-ghost use Rattle.std.specs.Prelude.{◌≡◌, ℕ, List, ◌+◌, ◌-◌, ◌*◌, ◌/◌, ◌<◌, ◌≤◌, ◌^◌, IfOk, OnOk, OnErr, Some, length};
+ghost use Rattle.std.specs.Prelude.{◌≡◌, ℕ, ◌+◌, ◌-◌, ◌*◌, ◌/◌, ◌<◌, ◌≤◌, ◌^◌, IfOk, OnOk, OnErr, Some, length};
 ghost use Rattle.mem_port.specs.View.{AccountsForFaults, shown};
 ghost use Rattle.area_space.specs.View.{view};
-ghost use Rattle.transporter.specs.Views.{NoOldAddresses, CanSettle, FetchMoves, HasOldAt, IsSettleable, KeepsBarrier, RepresentedByLaterMap, LiveWordsUnchanged, LiveWordsUnchangedExcept, MarksFollow, MovesAtMost, MovesFor, SettlesAlways, SettlesWordAt, WordsUnchanged, PreservesScanned};
-ghost use Rattle.area_space.specs.lisp_graph.declared.object.Value.{Value};
-ghost use Rattle.area_space.specs.lisp_graph.declared.world.AreaRule.{AreaRule};
-ghost use Rattle.lisp_ground.specs.lisp_meaning.State.{Condemned, Store};
-ghost use Rattle.lisp_ground.specs.lisp_meaning.Roles.{RoleMap};
+ghost use Rattle.transporter.specs.Views.{NoOldAddresses, FetchMoves, HasOldAt, IsSettleable, KeepsBarrier, LiveWordsUnchanged, LiveWordsUnchangedExcept, MarksFollow, MovesAtMost, MovesFor, RemainsRepresented, SettlesAlways, SettlesWordAt, WordsUnchanged, PreservesScanned};
 ghost use Rattle.mem_port.specs.Store.{StoresNothing};
 ghost use Rattle.area_space.specs.Table.{IsOld};
 ghost use Rattle.obj_layout.specs.Forwards.{word_at};
@@ -157,9 +153,7 @@ pub fn fetch<M: Memory, L: Ledger>(
     ensures stays_fresh { (HasOldAt (view ground.old) at → ⊥) → NoOldAddresses (view ground.old) → NoOldAddresses (view ground.new) }
 
     // What holds after a swap error, and that it is counted.
-    ensures fault { OnErr result ((k : RoleMap) (top : ℕ) (areas : List AreaRule) (registers : List Value) (s : Store) (aim : Condemned) (v : Value)
-        → CanSettle (view ground.old) k top areas registers s aim (word_at (view ground.old).mem.store.words at) v
-        → RepresentedByLaterMap (view ground.old) (view ground.new) k top areas s aim) }
+    ensures fault { OnErr result (RemainsRepresented (view ground.old) (view ground.new) (word_at (view ground.old).mem.store.words at)) }
     ensures accounted { AccountsForFaults (view ground.old).mem (view ground.new).mem steps.old steps.new result }
 
     // What is placed, and the cost.

@@ -1,12 +1,8 @@
 //! Transport: an object moves out of an old region.
-ghost use Rattle.std.specs.Prelude.{◌≡◌, ℕ, List, ◌+◌, ◌-◌, ◌*◌, ◌<◌, ◌≤◌, IfOk, IfSome, OnOk, OnErr};
+ghost use Rattle.std.specs.Prelude.{◌≡◌, ℕ, ◌+◌, ◌-◌, ◌*◌, ◌<◌, ◌≤◌, IfOk, IfSome, OnOk, OnErr};
 ghost use Rattle.mem_port.specs.View.{AccountsForFaults};
 ghost use Rattle.area_space.specs.View.{view};
-ghost use Rattle.transporter.specs.Views.{CanTransport, IsMovable, IsTransportable, LiveWordsUnchanged, MarksFollow, MovesAtMost, MovesFrom, MovesHere, OpensAtMost, ReachesOn, WordsUnchanged, PreservesScanned};
-ghost use Rattle.area_space.specs.lisp_graph.declared.object.Value.{Value};
-ghost use Rattle.area_space.specs.lisp_graph.declared.world.AreaRule.{AreaRule};
-ghost use Rattle.lisp_ground.specs.lisp_meaning.State.{Condemned, Store};
-ghost use Rattle.lisp_ground.specs.lisp_meaning.Roles.{Kind, RoleMap};
+ghost use Rattle.transporter.specs.Views.{IsMovable, IsTransportable, LiveWordsUnchanged, MarksFollow, MovesAtMost, MovesFrom, MovesHere, OpensAtMost, ReachesAlways, WordsUnchanged, PreservesScanned};
 ghost use Rattle.transporter.specs.Growth.{Grows};
 ghost use Rattle.obj_layout.specs.Forwards.{word_at};
 ghost use Rattle.transporter.specs.Parcels.{StandsWhole};
@@ -41,9 +37,7 @@ pub fn transport<M: Memory, L: Ledger>(
     requires { IsTransportable (view ground.old) at }
 
     // The address of the object, and which words moved.
-    ensures settles { IfOk result (λ to. (k : RoleMap) (top : ℕ) (areas : List AreaRule) (registers : List Value) (s : Store) (aim : Condemned) (kind : Kind) (n : ℕ)
-        → CanTransport (view ground.old) k top areas registers s aim kind at n
-        → ReachesOn (view ground.old) (view ground.new) k top areas s aim kind to n) }
+    ensures settles { IfOk result (ReachesAlways (view ground.old) (view ground.new) at) }
     ensures words { IfOk result (MovesFrom (view ground.old) (view ground.new) at) }
     ensures moves { MovesAtMost (view ground.old) (view ground.new) 1 }
 

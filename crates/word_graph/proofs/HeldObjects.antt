@@ -13,14 +13,13 @@ use Rattle.lisp_graph.specs.declared.object.Value.TheVariants as V
 use Rattle.lisp_graph.specs.declared.object.Body.{Body}
 use Rattle.lisp_graph.specs.declared.object.Body.TheVariants.{Cons, Block}
 use Rattle.lisp_graph.specs.declared.object.Object.{Object}
-use Rattle.lisp_graph.specs.declared.world.AreaRule.{AreaRule}
 use Rattle.lisp_graph.specs.Graph.{object_at, is_ref, refers_in, body_refers, width}
 use Rattle.lisp_graph.specs.KeyedGraph.{part_of, keyed_value, seen_body, code_of, is_cons, Shows}
 use Rattle.mem_port.specs.Store as Memory
 use Rattle.mem_port.specs.Store.{StoresNothing}
 use Rattle.area_space.specs.Table.{Table}
 use Rattle.lisp_ground.specs.lisp_meaning.Maps.{some_below}
-use Rattle.lisp_ground.specs.lisp_meaning.State.{Store, Condemned, object, is_held, in_use}
+use Rattle.lisp_ground.specs.lisp_meaning.State.{Store, object, is_held, in_use}
 use Rattle.lisp_ground.specs.lisp_meaning.Roles.{RoleMap, value_of}
 use Rattle.lisp_ground.proofs.lisp_meaning.closure.Closure.{closure_start, closure_closed, closure_inside}
 use Rattle.lisp_ground.proofs.lisp_meaning.closure.ClosedSets.{refers_at, refers_each, is_ref-same}
@@ -28,6 +27,7 @@ use Rattle.lisp_ground.proofs.lisp_meaning.sums.SomeBelow.{some_below-true, some
 use Rattle.lisp_ground.specs.lisp_meaning.Invariant.{MemoryInvariant}
 use Rattle.lisp_ground.specs.Image.{ground_image}
 use Rattle.lisp_ground.specs.GroundInvariant.{GroundInvariant}
+use Rattle.lisp_ground.specs.lisp_meaning.Interpretation.{Interpretation}
 use Rattle.area_space.proofs.GroundLaws.{ground_same, named_same}
 use Rattle.lisp_ground.proofs.words.FinalAddresses.{place_inside}
 use Rattle.word_graph.specs.Shown.{value_in, object_in, objects_in, is_reached, shown_by, told}
@@ -107,45 +107,45 @@ placed_ref at (V.Fix i) a e = absurd cc
 placed_ref at V.Nil a e = absurd cc
 placed_ref at (V.Ref q) a e = (q, refl, (let x : V.Ref (at q) ≡ V.Ref a = e in cc))
 
-module _ (m : Memory.Store) (t : Table) (k : RoleMap) (top : ℕ) (areas : List AreaRule) (s : Store) (aim : Condemned) (on : GroundInvariant m t k top areas s aim) where
-  pub who_is_held : (a : ℕ) → held_at k s a ≡ true → (n : ℕ) × in_use s n × (k.at n ≡ a)
+module _ (m : Memory.Store) (t : Table) (it : Interpretation) (on : GroundInvariant m t it) where
+  pub who_is_held : (a : ℕ) → held_at it.map it.store a ≡ true → (n : ℕ) × in_use it.store n × (it.map.at n ≡ a)
   who_is_held a e =
-      let w = some_below-which (λ n. is_held s n && (k.at n == a)) (length s.objects) e in
-      let p = both (is_held s w.0) (k.at w.0 == a) w.2 in
-      (w.0, p.0, same_number (k.at w.0) a p.1)
+      let w = some_below-which (λ n. is_held it.store n && (it.map.at n == a)) (length it.store.objects) e in
+      let p = both (is_held it.store w.0) (it.map.at w.0 == a) w.2 in
+      (w.0, p.0, same_number (it.map.at w.0) a p.1)
 
-  is_held_at : (n : ℕ) → in_use s n → held_at k s (k.at n) ≡ true
-  is_held_at n used = some_below-true (λ x. is_held s x && (k.at x == k.at n)) (length s.objects) n (on.kept.names n used) (ap (λ (b : Bool). b && (k.at n == k.at n)) used ∙ is_same (k.at n))
+  is_held_at : (n : ℕ) → in_use it.store n → held_at it.map it.store (it.map.at n) ≡ true
+  is_held_at n used = some_below-true (λ x. is_held it.store x && (it.map.at x == it.map.at n)) (length it.store.objects) n (on.kept.names n used) (ap (λ (b : Bool). b && (it.map.at n == it.map.at n)) used ∙ is_same (it.map.at n))
 
   -- a value of a word refers to a held place
-  placed_held : (c : Content) (v : Value) (a : ℕ) → value_of k.role c ≡ Some v → value_in m.words c ≡ V.Ref a → held_at k s a ≡ true
+  placed_held : (c : Content) (v : Value) (a : ℕ) → value_of it.map.role c ≡ Some v → value_in m.words c ≡ V.Ref a → held_at it.map it.store a ≡ true
   placed_held c v a is e =
-      let r = placed_ref k.at v a (sym (value_place m t k top areas s aim on c v is) ∙ e) in
-      subst (λ (x : ℕ). held_at k s x ≡ true) r.2 (is_held_at r.0 (value_used m t k top areas s aim on c v r.0 is r.1))
+      let r = placed_ref it.map.at v a (sym (value_place m t it on c v is) ∙ e) in
+      subst (λ (x : ℕ). held_at it.map it.store x ≡ true) r.2 (is_held_at r.0 (value_used m t it on c v r.0 is r.1))
 
   -- so do the parts of a held object
-  parts_held : (n i a : ℕ) → in_use s n → i < width (placed_body k.at (object s n).body) → part_of (placed_body k.at (object s n).body) i ≡ V.Ref a → held_at k s a ≡ true
+  parts_held : (n i a : ℕ) → in_use it.store n → i < width (placed_body it.map.at (object it.store n).body) → part_of (placed_body it.map.at (object it.store n).body) i ≡ V.Ref a → held_at it.map it.store a ≡ true
   parts_held n i a used l e =
-      let low : i < width (object s n).body = (let w = width_placed k.at (object s n).body in omega arith) in
-      let r = placed_ref k.at (part_of (object s n).body i) a (sym (part_placed k.at (object s n).body i low) ∙ e) in
-      subst (λ (x : ℕ). held_at k s x ≡ true) r.2 (is_held_at r.0 (part_used m t k top areas s aim on n i r.0 used low r.1))
+      let low : i < width (object it.store n).body = (let w = width_placed it.map.at (object it.store n).body in omega arith) in
+      let r = placed_ref it.map.at (part_of (object it.store n).body i) a (sym (part_placed it.map.at (object it.store n).body i low) ∙ e) in
+      subst (λ (x : ℕ). held_at it.map it.store x ≡ true) r.2 (is_held_at r.0 (part_used m t it on n i r.0 used low r.1))
 
   -- what is at a held address refers to held addresses
-  pub body_held : (a b : ℕ) → held_at k s a ≡ true → body_refers b (object_at (objects_in m t) a).body ≡ true → held_at k s b ≡ true
+  pub body_held : (a b : ℕ) → held_at it.map it.store a ≡ true → body_refers b (object_at (objects_in m t) a).body ≡ true → held_at it.map it.store b ≡ true
   body_held a b held r =
       let w = who_is_held a held in
-      let is : object_at (objects_in m t) a ≡ placed_object k.at (object s w.0) =
-      sym (ap (object_at (objects_in m t)) w.2) ∙ object_there m t k top areas s aim on w.0 w.1 in
-      refers_part (held_at k s) (placed_body k.at (object s w.0).body) (λ i x l e. parts_held w.0 i x w.1 l e) b (sym (ap (λ (o : Object). body_refers b o.body) is) ∙ r)
+      let is : object_at (objects_in m t) a ≡ placed_object it.map.at (object it.store w.0) =
+      sym (ap (object_at (objects_in m t)) w.2) ∙ object_there m t it on w.0 w.1 in
+      refers_part (held_at it.map it.store) (placed_body it.map.at (object it.store w.0).body) (λ i x l e. parts_held w.0 i x w.1 l e) b (sym (ap (λ (o : Object). body_refers b o.body) is) ∙ r)
 
-  pub held_inside : (a : ℕ) → held_at k s a ≡ true → a < length m.words
-  held_inside a held = let w = who_is_held a held in subst (λ (x : ℕ). x < length m.words) w.2 (place_inside m t k top areas s aim on w.0 w.1)
+  pub held_inside : (a : ℕ) → held_at it.map it.store a ≡ true → a < length m.words
+  held_inside a held = let w = who_is_held a held in subst (λ (x : ℕ). x < length m.words) w.2 (place_inside m t it on w.0 w.1)
 
-  module _ (registers : List Parts) (values : List Value) (means : MeanValues k registers values) where
-    start : (a : ℕ) → refers_in a (map (word_value m) registers) ≡ true → held_at k s a ≡ true
-    start a e = refers_each (held_at k s) (map (word_value m) registers) each a e
+  module _ (registers : List Parts) (values : List Value) (means : MeanValues it.map registers values) where
+    start : (a : ℕ) → refers_in a (map (word_value m) registers) ≡ true → held_at it.map it.store a ≡ true
+    start a e = refers_each (held_at it.map it.store) (map (word_value m) registers) each a e
       where
-        each : (i x : ℕ) → i < length (map (word_value m) registers) → is_ref x (get_or (map (word_value m) registers) i V.Nil) ≡ true → held_at k s x ≡ true
+        each : (i x : ℕ) → i < length (map (word_value m) registers) → is_ref x (get_or (map (word_value m) registers) i V.Nil) ≡ true → held_at it.map it.store x ≡ true
         each i x l is =
             let low : i < length registers = (let c = length-map registers (word_value m) in omega arith) in
             let count = means.count in
@@ -153,10 +153,10 @@ module _ (m : Memory.Store) (t : Table) (k : RoleMap) (top : ℕ) (areas : List 
             let at : get_or (map (word_value m) registers) i V.Nil ≡ value_in m.words (get_or registers i null_word).content = get_or-map (word_value m) registers i null_word V.Nil low in
             placed_held (get_or registers i null_word).content (get_or values i V.Nil) x v (sym at ∙ ref_is (get_or (map (word_value m) registers) i V.Nil) x is)
 
-    reached_held_at : (a : ℕ) → is_reached m t registers a ≡ true → held_at k s a ≡ true
-    reached_held_at a e = closure_inside (objects_in m t) (held_at k s) (λ x. refers_in x (map (word_value m) registers)) (λ x y l held r. body_held x y held r) start a e
+    reached_held_at : (a : ℕ) → is_reached m t registers a ≡ true → held_at it.map it.store a ≡ true
+    reached_held_at a e = closure_inside (objects_in m t) (held_at it.map it.store) (λ x. refers_in x (map (word_value m) registers)) (λ x y l held r. body_held x y held r) start a e
 
-    pub reached_held : (a : ℕ) → is_reached m t registers a ≡ true → (n : ℕ) × in_use s n × (k.at n ≡ a)
+    pub reached_held : (a : ℕ) → is_reached m t registers a ≡ true → (n : ℕ) × in_use it.store n × (it.map.at n ≡ a)
     reached_held a e = who_is_held a (reached_held_at a e)
 
     -- a part of what is reached is reached
@@ -170,7 +170,7 @@ module _ (m : Memory.Store) (t : Table) (k : RoleMap) (top : ℕ) (areas : List 
         closure_closed (objects_in m t) (λ x. refers_in x (map (word_value m) registers)) a b (omega arith) (omega arith) reached refers
 
 pub reached_are_held : ReachedAreHeld
-reached_are_held m t k top areas s aim registers values on means a e = reached_held m t k top areas s aim on registers values means a e
+reached_are_held m t it registers values on means a e = reached_held m t it on registers values means a e
 
 -- What a walk returns
 
@@ -199,18 +199,14 @@ register_shows m t registers w r l = shows_value m t registers (value_in m.words
 pub field_shows : (m : Memory.Store) (t : Table) (registers : List Parts) → CanWalk m t registers → (key : ℕ) → is_reached m t registers key ≡ true → (index : ℕ)
     → Shows (shown_by m t registers) (keyed_value (objects_in m t) (part_of (object_at (objects_in m t) key).body index))
 field_shows m t registers w key reached index = shows_value m t registers (part_of (object_at (objects_in m t) key).body index)
-    (λ a e. part_reached m t w.map w.top w.areas w.objects w.aim w.kept registers w.values w.means key index a reached e)
+    (λ a e. part_reached m t w.it w.kept registers w.values w.means key index a reached e)
 
 pub reached_show : ReachedShow
 reached_show = record { registers = register_shows; fields = field_shows }
 
 register_can : (m : Memory.Store) (t : Table) (registers : List Parts) → CanWalk m t registers → (r : ℕ) → r < length registers → CanSee m t (get_or registers r null_word).content
 register_can m t registers w r l = record {
-  map = w.map;
-  top = w.top;
-  areas = w.areas;
-  objects = w.objects;
-  aim = w.aim;
+  it = w.it;
   kept = w.kept;
   value = get_or w.values r V.Nil;
   value_is = w.means.each r (let c = w.means.count in omega arith);
@@ -230,11 +226,11 @@ registers_are_told = record { count = registers_count; can = register_can; is = 
 
 key_can : (m : Memory.Store) (t : Table) (registers : List Parts) → CanWalk m t registers → (key : ℕ) → is_reached m t registers key ≡ true → HasObject m t key
 key_can m t registers w key reached =
-    let h = reached_held m t w.map w.top w.areas w.objects w.aim w.kept registers w.values w.means key reached in
-    record { map = w.map; top = w.top; areas = w.areas; objects = w.objects; aim = w.aim; kept = w.kept; name = h.0; used = h.1; place = h.2 }
+    let h = reached_held m t w.it w.kept registers w.values w.means key reached in
+    record { it = w.it; kept = w.kept; name = h.0; used = h.1; place = h.2 }
 
 key_inside : (m : Memory.Store) (t : Table) (registers : List Parts) → CanWalk m t registers → (key : ℕ) → is_reached m t registers key ≡ true → key < length m.words
-key_inside m t registers w key reached = held_inside m t w.map w.top w.areas w.objects w.aim w.kept key (reached_held_at m t w.map w.top w.areas w.objects w.aim w.kept registers w.values w.means key reached)
+key_inside m t registers w key reached = held_inside m t w.it w.kept key (reached_held_at m t w.it w.kept registers w.values w.means key reached)
 
 pub keys_are_objects : KeysAreObjects
 keys_are_objects = record { can = key_can; inside = key_inside }
@@ -247,13 +243,9 @@ reads_show_the_same m m' t registers stays = ap (λ (words : List Parts). shown_
 
 pub walks_go_on : WalksGoOn
 walks_go_on m m' t registers words levels top w = record {
-  map = w.map;
-  top = w.top;
-  areas = w.areas;
-  objects = w.objects;
-  aim = w.aim;
+  it = w.it;
   kept = record {
-    kept = subst (λ (ws : List Parts). MemoryInvariant (ground_image (with_words m ws) t) w.map w.top w.areas w.objects w.aim) (sym words) w.kept.kept;
+    kept = subst (λ (ws : List Parts). MemoryInvariant (ground_image (with_words m ws) t) w.it) (sym words) w.kept.kept;
     ground = ground_same m m' t words levels top w.kept.ground;
     named = named_same m m' t words w.kept.named;
     table = w.kept.table;

@@ -10,16 +10,16 @@ use Rattle.lisp_graph.specs.declared.object.Value.{Value}
 use Rattle.lisp_graph.specs.declared.object.Value.TheVariants as V
 use Rattle.lisp_graph.specs.declared.object.Body.{Body}
 use Rattle.lisp_graph.specs.declared.object.Body.TheVariants.{Cons, Block}
-use Rattle.lisp_graph.specs.declared.world.AreaRule.{AreaRule}
 use Rattle.lisp_graph.specs.Graph.{object_at, no_object, width}
 use Rattle.lisp_graph.specs.KeyedGraph.{part_of}
 use Rattle.mem_port.specs.Store as Memory
 use Rattle.area_space.specs.Table.{Table}
-use Rattle.lisp_ground.specs.lisp_meaning.State.{Store, Condemned, object, in_use}
-use Rattle.lisp_ground.specs.lisp_meaning.Roles.{Kind, AsCons, AsBlock, names_as, as_ref, value_of, RoleMap, kind_of, Begins, Role}
+use Rattle.lisp_ground.specs.lisp_meaning.State.{object, in_use}
+use Rattle.lisp_ground.specs.lisp_meaning.Roles.{Kind, AsCons, AsBlock, names_as, as_ref, value_of, kind_of, Begins, Role}
 use Rattle.obj_layout.specs.Forwards.{word_at, forward_of, here, on}
 use Rattle.obj_layout.specs.Shapes.{charge_at}
 use Rattle.lisp_ground.specs.GroundInvariant.{GroundInvariant}
+use Rattle.lisp_ground.specs.lisp_meaning.Interpretation.{Interpretation}
 use Rattle.lisp_ground.specs.Leading.{IsConsIn, IsBlockIn, car_in, cdr_in}
 use Rattle.lisp_ground.proofs.words.FinalAddresses.{final_place, name_in_use, place_inside}
 use Rattle.lisp_ground.proofs.words.References.{references_lead}
@@ -85,21 +85,21 @@ either_value : (role : ℕ → Role) (b : Bool) (x y : Content) (v w : Value) �
 either_value role true x y v w e f = e
 either_value role false x y v w e f = f
 
-module _ (m : Memory.Store) (t : Table) (k : RoleMap) (top : ℕ) (areas : List AreaRule) (s : Store) (aim : Condemned) (on_ground : GroundInvariant m t k top areas s aim) where
-  place_is : (kind : Kind) (a n : ℕ) → names_as kind (k.role a) ≡ Some n → place_of m.words a ≡ k.at n
+module _ (m : Memory.Store) (t : Table) (it : Interpretation) (on_ground : GroundInvariant m t it) where
+  place_is : (kind : Kind) (a n : ℕ) → names_as kind (it.map.role a) ≡ Some n → place_of m.words a ≡ it.map.at n
   place_is kind a n named =
-      let f = final_place m t k top areas s aim on_ground kind a n named in
-      leads_there m.words 12 f.0 a (k.at n) f.2 (let few = f.1 in few)
+      let f = final_place m t it on_ground kind a n named in
+      leads_there m.words 12 f.0 a (it.map.at n) f.2 (let few = f.1 in few)
 
-  by_reference : (kind : Kind) (a : ℕ) (v : Value) → as_ref (names_as kind (k.role a)) ≡ Some v → V.Ref (place_of m.words a) ≡ placed k.at v
+  by_reference : (kind : Kind) (a : ℕ) (v : Value) → as_ref (names_as kind (it.map.role a)) ≡ Some v → V.Ref (place_of m.words a) ≡ placed it.map.at v
   by_reference kind a v e =
-      let r = ref_named (names_as kind (k.role a)) v e in
-      ap V.Ref (place_is kind a r.0 r.1) ∙ sym (ap (placed k.at) r.2)
+      let r = ref_named (names_as kind (it.map.role a)) v e in
+      ap V.Ref (place_is kind a r.0 r.1) ∙ sym (ap (placed it.map.at) r.2)
 
-  pub value_place : (c : Content) (v : Value) → value_of k.role c ≡ Some v → value_in m.words c ≡ placed k.at v
+  pub value_place : (c : Content) (v : Value) → value_of it.map.role c ≡ Some v → value_in m.words c ≡ placed it.map.at v
   value_place Null v e = absurd cc
-  value_place NilWord v e = ap (placed k.at) (some_same V.Nil v e)
-  value_place (Fixnum i) v e = ap (placed k.at) (some_same (V.Fix i) v e)
+  value_place NilWord v e = ap (placed it.map.at) (some_same V.Nil v e)
+  value_place (Fixnum i) v e = ap (placed it.map.at) (some_same (V.Fix i) v e)
   value_place (ListAt a) v e = by_reference AsCons a v e
   value_place (StructAt a) v e = by_reference AsBlock a v e
   value_place (Header code n) v e = absurd cc
@@ -107,99 +107,99 @@ module _ (m : Memory.Store) (t : Table) (k : RoleMap) (top : ℕ) (areas : List 
   value_place (GcForward a) v e = absurd cc
 
   -- the name in a value of a word is used
-  pub value_used : (c : Content) (v : Value) (q : ℕ) → value_of k.role c ≡ Some v → v ≡ V.Ref q → in_use s q
+  pub value_used : (c : Content) (v : Value) (q : ℕ) → value_of it.map.role c ≡ Some v → v ≡ V.Ref q → in_use it.store q
   value_used Null v q e r = absurd cc
   value_used NilWord v q e r = absurd cc
   value_used (Fixnum i) v q e r = absurd cc
-  value_used (ListAt a) v q e r = name_in_use m t k top areas s aim on_ground AsCons a q (named_by (names_as AsCons (k.role a)) q (e ∙ ap Some r))
-  value_used (StructAt a) v q e r = name_in_use m t k top areas s aim on_ground AsBlock a q (named_by (names_as AsBlock (k.role a)) q (e ∙ ap Some r))
+  value_used (ListAt a) v q e r = name_in_use m t it on_ground AsCons a q (named_by (names_as AsCons (it.map.role a)) q (e ∙ ap Some r))
+  value_used (StructAt a) v q e r = name_in_use m t it on_ground AsBlock a q (named_by (names_as AsBlock (it.map.role a)) q (e ∙ ap Some r))
   value_used (Header code n) v q e r = absurd cc
   value_used (HeaderForward a) v q e r = absurd cc
   value_used (GcForward a) v q e r = absurd cc
 
   -- Bodies
 
-  cons_in : (n : ℕ) → in_use s n → kind_of (object s n).body ≡ AsCons → IsConsIn m.words k s n
-  cons_in n used is = references_lead.conses m t k top areas s aim on_ground n used is
+  cons_in : (n : ℕ) → in_use it.store n → kind_of (object it.store n).body ≡ AsCons → IsConsIn m.words it.map it.store n
+  cons_in n used is = references_lead.conses m t it on_ground n used is
 
-  block_in : (n : ℕ) → in_use s n → kind_of (object s n).body ≡ AsBlock → IsBlockIn m.words k s n
-  block_in n used is = references_lead.blocks m t k top areas s aim on_ground n used is
+  block_in : (n : ℕ) → in_use it.store n → kind_of (object it.store n).body ≡ AsBlock → IsBlockIn m.words it.map it.store n
+  block_in n used is = references_lead.blocks m t it on_ground n used is
 
-  cons_body : (n : ℕ) → IsConsIn m.words k s n → body_by m.words (k.at n) (word_at m.words (k.at n)).content ≡ placed_body k.at (object s n).body
+  cons_body : (n : ℕ) → IsConsIn m.words it.map it.store n → body_by m.words (it.map.at n) (word_at m.words (it.map.at n)).content ≡ placed_body it.map.at (object it.store n).body
   cons_body n c =
-      no_header_body m.words k.role (word_at m.words (k.at n)).content c.car (k.at n) c.car_value
-      ∙ ap (λ (x : Value). Cons x (value_in m.words (cdr_in m.words (k.at n)))) (value_place (car_in m.words (k.at n)) c.car c.car_value)
-      ∙ ap (λ (x : Value). Cons (placed k.at c.car) x) (value_place (cdr_in m.words (k.at n)) c.cdr c.cdr_value)
-      ∙ sym (ap (placed_body k.at) c.body)
+      no_header_body m.words it.map.role (word_at m.words (it.map.at n)).content c.car (it.map.at n) c.car_value
+      ∙ ap (λ (x : Value). Cons x (value_in m.words (cdr_in m.words (it.map.at n)))) (value_place (car_in m.words (it.map.at n)) c.car c.car_value)
+      ∙ ap (λ (x : Value). Cons (placed it.map.at c.car) x) (value_place (cdr_in m.words (it.map.at n)) c.cdr c.cdr_value)
+      ∙ sym (ap (placed_body it.map.at) c.body)
 
   -- the fields of a block, one by one
-  fields_same : (fields : List Value) (f : ℕ → Value) → ((i : ℕ) → i < length fields → f i ≡ placed k.at (get_or fields i V.Nil)) → map f (range_with_len 0 (length fields)) ≡ map (placed k.at) fields
-  fields_same fields f each = ext_get_or V.Nil (map f (range_with_len 0 (length fields))) (map (placed k.at) fields)
-      (length-map-range_with_len f 0 (length fields) ∙ sym (length-map fields (placed k.at)))
+  fields_same : (fields : List Value) (f : ℕ → Value) → ((i : ℕ) → i < length fields → f i ≡ placed it.map.at (get_or fields i V.Nil)) → map f (range_with_len 0 (length fields)) ≡ map (placed it.map.at) fields
+  fields_same fields f each = ext_get_or V.Nil (map f (range_with_len 0 (length fields))) (map (placed it.map.at) fields)
+      (length-map-range_with_len f 0 (length fields) ∙ sym (length-map fields (placed it.map.at)))
       (λ i l. (let low : i < length fields = (let n = length-map-range_with_len f 0 (length fields) in omega arith) in
-      get_or-map-range_with_len f 0 (length fields) i i V.Nil low (omega arith) ∙ each i low ∙ sym (get_or-map (placed k.at) fields i V.Nil V.Nil low)))
+      get_or-map-range_with_len f 0 (length fields) i i V.Nil low (omega arith) ∙ each i low ∙ sym (get_or-map (placed it.map.at) fields i V.Nil V.Nil low)))
 
-  block_body : (n : ℕ) → IsBlockIn m.words k s n → body_by m.words (k.at n) (word_at m.words (k.at n)).content ≡ placed_body k.at (object s n).body
+  block_body : (n : ℕ) → IsBlockIn m.words it.map it.store n → body_by m.words (it.map.at n) (word_at m.words (it.map.at n)).content ≡ placed_body it.map.at (object it.store n).body
   block_body n b =
-      ap (body_by m.words (k.at n)) b.header
-      ∙ ap (Block b.code) (fields_same b.fields (λ i. value_in m.words (word_at m.words (suc (k.at n) + i)).content) (λ i l. value_place (word_at m.words (suc (k.at n) + i)).content (get_or b.fields i V.Nil) (b.field_values i l)))
-      ∙ sym (ap (placed_body k.at) b.body)
+      ap (body_by m.words (it.map.at n)) b.header
+      ∙ ap (Block b.code) (fields_same b.fields (λ i. value_in m.words (word_at m.words (suc (it.map.at n) + i)).content) (λ i l. value_place (word_at m.words (suc (it.map.at n) + i)).content (get_or b.fields i V.Nil) (b.field_values i l)))
+      ∙ sym (ap (placed_body it.map.at) b.body)
 
-  pub body_place : (n : ℕ) → in_use s n → body_by m.words (k.at n) (word_at m.words (k.at n)).content ≡ placed_body k.at (object s n).body
-  body_place n used = go (kind_of (object s n).body) refl
+  pub body_place : (n : ℕ) → in_use it.store n → body_by m.words (it.map.at n) (word_at m.words (it.map.at n)).content ≡ placed_body it.map.at (object it.store n).body
+  body_place n used = go (kind_of (object it.store n).body) refl
     where
-      go : (kind : Kind) → kind_of (object s n).body ≡ kind → body_by m.words (k.at n) (word_at m.words (k.at n)).content ≡ placed_body k.at (object s n).body
+      go : (kind : Kind) → kind_of (object it.store n).body ≡ kind → body_by m.words (it.map.at n) (word_at m.words (it.map.at n)).content ≡ placed_body it.map.at (object it.store n).body
       go AsCons is = cons_body n (cons_in n used is)
       go AsBlock is = block_body n (block_in n used is)
 
   -- the word of a part of a held object has the part's value
-  cons_part : (n index : ℕ) → IsConsIn m.words k s n → value_of k.role (part_in m.words (k.at n) index (word_at m.words (k.at n)).content) ≡ Some (part_of (object s n).body index)
+  cons_part : (n index : ℕ) → IsConsIn m.words it.map it.store n → value_of it.map.role (part_in m.words (it.map.at n) index (word_at m.words (it.map.at n)).content) ≡ Some (part_of (object it.store n).body index)
   cons_part n index c =
-      ap (value_of k.role) (no_header_part m.words k.role (word_at m.words (k.at n)).content c.car (k.at n) index c.car_value)
-      ∙ either_value k.role (index == 0) (car_in m.words (k.at n)) (cdr_in m.words (k.at n)) c.car c.cdr c.car_value c.cdr_value
+      ap (value_of it.map.role) (no_header_part m.words it.map.role (word_at m.words (it.map.at n)).content c.car (it.map.at n) index c.car_value)
+      ∙ either_value it.map.role (index == 0) (car_in m.words (it.map.at n)) (cdr_in m.words (it.map.at n)) c.car c.cdr c.car_value c.cdr_value
       ∙ sym (ap (λ (b : Body). Some (part_of b index)) c.body)
 
-  block_part : (n index : ℕ) → index < width (object s n).body → IsBlockIn m.words k s n → value_of k.role (part_in m.words (k.at n) index (word_at m.words (k.at n)).content) ≡ Some (part_of (object s n).body index)
+  block_part : (n index : ℕ) → index < width (object it.store n).body → IsBlockIn m.words it.map it.store n → value_of it.map.role (part_in m.words (it.map.at n) index (word_at m.words (it.map.at n)).content) ≡ Some (part_of (object it.store n).body index)
   block_part n index l b =
-      ap (λ (c : Content). value_of k.role (part_in m.words (k.at n) index c)) b.header
+      ap (λ (c : Content). value_of it.map.role (part_in m.words (it.map.at n) index c)) b.header
       ∙ b.field_values index (subst (λ (x : Body). index < width x) b.body l)
       ∙ sym (ap (λ (x : Body). Some (part_of x index)) b.body)
 
-  pub part_value : (n index : ℕ) → in_use s n → index < width (object s n).body → value_of k.role (part_in m.words (k.at n) index (word_at m.words (k.at n)).content) ≡ Some (part_of (object s n).body index)
-  part_value n index used l = go (kind_of (object s n).body) refl
+  pub part_value : (n index : ℕ) → in_use it.store n → index < width (object it.store n).body → value_of it.map.role (part_in m.words (it.map.at n) index (word_at m.words (it.map.at n)).content) ≡ Some (part_of (object it.store n).body index)
+  part_value n index used l = go (kind_of (object it.store n).body) refl
     where
-      go : (kind : Kind) → kind_of (object s n).body ≡ kind → value_of k.role (part_in m.words (k.at n) index (word_at m.words (k.at n)).content) ≡ Some (part_of (object s n).body index)
+      go : (kind : Kind) → kind_of (object it.store n).body ≡ kind → value_of it.map.role (part_in m.words (it.map.at n) index (word_at m.words (it.map.at n)).content) ≡ Some (part_of (object it.store n).body index)
       go AsCons is = cons_part n index (cons_in n used is)
       go AsBlock is = block_part n index l (block_in n used is)
 
   -- so the names in it are used
-  pub part_used : (n index q : ℕ) → in_use s n → index < width (object s n).body → part_of (object s n).body index ≡ V.Ref q → in_use s q
-  part_used n index q used l e = value_used (part_in m.words (k.at n) index (word_at m.words (k.at n)).content) (part_of (object s n).body index) q (part_value n index used l) e
+  pub part_used : (n index q : ℕ) → in_use it.store n → index < width (object it.store n).body → part_of (object it.store n).body index ≡ V.Ref q → in_use it.store q
+  part_used n index q used l e = value_used (part_in m.words (it.map.at n) index (word_at m.words (it.map.at n)).content) (part_of (object it.store n).body index) q (part_value n index used l) e
 
   -- Objects
 
-  charge_place : (n : ℕ) → in_use s n → charge_at m.words (k.at n) ≡ (object s n).charge
-  charge_place n used = go (kind_of (object s n).body) (on_ground.kept.roled.begins n used)
+  charge_place : (n : ℕ) → in_use it.store n → charge_at m.words (it.map.at n) ≡ (object it.store n).charge
+  charge_place n used = go (kind_of (object it.store n).body) (on_ground.kept.roled.begins n used)
     where
-      go : (kind : Kind) → Begins kind (k.role (k.at n)) n → charge_at m.words (k.at n) ≡ (object s n).charge
-      go AsCons (inl r) = pair_charged m t k top areas s aim on_ground (k.at n) n r
-      go AsCons (inr r) = cell_charged m t k top areas s aim on_ground (k.at n) n r.0 r.1
-      go AsBlock r = head_charged m t k top areas s aim on_ground (k.at n) n r
+      go : (kind : Kind) → Begins kind (it.map.role (it.map.at n)) n → charge_at m.words (it.map.at n) ≡ (object it.store n).charge
+      go AsCons (inl r) = pair_charged m t it on_ground (it.map.at n) n r
+      go AsCons (inr r) = cell_charged m t it on_ground (it.map.at n) n r.0 r.1
+      go AsBlock r = head_charged m t it on_ground (it.map.at n) n r
 
-  pub object_place : (n : ℕ) → in_use s n → object_in m t (k.at n) ≡ placed_object k.at (object s n)
+  pub object_place : (n : ℕ) → in_use it.store n → object_in m t (it.map.at n) ≡ placed_object it.map.at (object it.store n)
   object_place n used =
-      ap (λ (a : ℕ). record { area = a; charge = charge_at m.words (k.at n); body = body_by m.words (k.at n) (word_at m.words (k.at n)).content }) (on_ground.kept.classes_of.area n used)
-      ∙ ap (λ (c : ℕ). record { area = (object s n).area; charge = c; body = body_by m.words (k.at n) (word_at m.words (k.at n)).content }) (charge_place n used)
-      ∙ ap (λ (b : Body). record { area = (object s n).area; charge = (object s n).charge; body = b }) (body_place n used)
+      ap (λ (a : ℕ). record { area = a; charge = charge_at m.words (it.map.at n); body = body_by m.words (it.map.at n) (word_at m.words (it.map.at n)).content }) (on_ground.kept.classes_of.area n used)
+      ∙ ap (λ (c : ℕ). record { area = (object it.store n).area; charge = c; body = body_by m.words (it.map.at n) (word_at m.words (it.map.at n)).content }) (charge_place n used)
+      ∙ ap (λ (b : Body). record { area = (object it.store n).area; charge = (object it.store n).charge; body = b }) (body_place n used)
 
   -- in the graph it is at its place
-  pub object_there : (n : ℕ) → in_use s n → object_at (objects_in m t) (k.at n) ≡ placed_object k.at (object s n)
+  pub object_there : (n : ℕ) → in_use it.store n → object_at (objects_in m t) (it.map.at n) ≡ placed_object it.map.at (object it.store n)
   object_there n used =
-      get_or-map-range_with_len (object_in m t) 0 (length m.words) (k.at n) (k.at n) no_object (place_inside m t k top areas s aim on_ground n used) (omega arith)
+      get_or-map-range_with_len (object_in m t) 0 (length m.words) (it.map.at n) (it.map.at n) no_object (place_inside m t it on_ground n used) (omega arith)
       ∙ object_place n used
 
 pub values_are_places : ValuesArePlaces
-values_are_places m t k top areas s aim on_ground c v e = value_place m t k top areas s aim on_ground c v e
+values_are_places m t it on_ground c v e = value_place m t it on_ground c v e
 
 pub objects_are_places : ObjectsArePlaces
-objects_are_places m t k top areas s aim on_ground n used = object_place m t k top areas s aim on_ground n used
+objects_are_places m t it on_ground n used = object_place m t it on_ground n used

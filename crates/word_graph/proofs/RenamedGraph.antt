@@ -16,13 +16,14 @@ use Rattle.lisp_graph.specs.Graph.{object_at, width}
 use Rattle.lisp_graph.specs.KeyedGraph.{KeyedGraph, Shows, keyed, part_of, keyed_value, seen_body, code_of, is_cons}
 use Rattle.mem_port.specs.Store as Memory
 use Rattle.area_space.specs.Table.{Table}
-use Rattle.lisp_ground.specs.lisp_meaning.State.{Store, State, object, is_held, in_use, aim_of}
+use Rattle.lisp_ground.specs.lisp_meaning.State.{Store, State, object, is_held, in_use}
 use Rattle.lisp_ground.specs.lisp_meaning.Flip.{graph_of}
 use Rattle.lisp_ground.specs.lisp_meaning.Units.{lowest}
 use Rattle.lisp_ground.specs.lisp_meaning.Roles.{RoleMap, value_of, owner, name_or, kind_of}
 use Rattle.lisp_ground.proofs.lisp_meaning.reading.NextUnits.{lowest-passes, lowest-none}
 use Rattle.lisp_ground.proofs.lisp_meaning.maps.Patches.{begins_owner}
 use Rattle.lisp_ground.specs.GroundInvariant.{GroundInvariant}
+use Rattle.lisp_ground.specs.lisp_meaning.Interpretation.{interpretation}
 use Rattle.world_text.specs.Numbering.{is_numbered, seen_as}
 use Rattle.world_text.specs.Dump.{IsDump}
 use Rattle.dump_laws.specs.Renamed.{renamed, IsRenamed, HasSameCharges}
@@ -54,7 +55,7 @@ word_value m w = value_in m.words w.content
 abbrev stands_at : RoleMap → Store → ℕ → ℕ → Bool
 stands_at k s a n = is_held s n && (k.at n == a)
 
-module _ (m : Memory.Store) (t : Table) (registers : List Parts) (k : RoleMap) (s : State) (on : GroundInvariant m t k s.space.levels s.areas s.store (aim_of s.phase)) (means : MeanValues k registers s.registers) where
+module _ (m : Memory.Store) (t : Table) (registers : List Parts) (k : RoleMap) (s : State) (on : GroundInvariant m t (interpretation k s)) (means : MeanValues k registers s.registers) where
   abbrev name : ℕ → ℕ
   name = name_of k s.store
 
@@ -90,13 +91,13 @@ module _ (m : Memory.Store) (t : Table) (registers : List Parts) (k : RoleMap) (
   value_renamed (V.Fix i) used = refl
   value_renamed V.Nil used = refl
   value_renamed (V.Ref q) used =
-      ap (λ (o : Object). renamed name (seen_body (k.at q) o.body)) (object_there m t k s.space.levels s.areas s.store (aim_of s.phase) on q (used q refl))
+      ap (λ (o : Object). renamed name (seen_body (k.at q) o.body)) (object_there m t (interpretation k s) on q (used q refl))
       ∙ seen_renamed name k.at q (object s.store q).body (name_is q (used q refl))
 
   word_renamed : (c : Content) (v : Value) → value_of k.role c ≡ Some v → renamed name (told m t c) ≡ keyed_value s.store.objects v
   word_renamed c v is =
-      ap (λ (x : Value). renamed name (keyed_value (objects_in m t) x)) (value_place m t k s.space.levels s.areas s.store (aim_of s.phase) on c v is)
-      ∙ value_renamed v (λ q e. value_used m t k s.space.levels s.areas s.store (aim_of s.phase) on c v q is e)
+      ap (λ (x : Value). renamed name (keyed_value (objects_in m t) x)) (value_place m t (interpretation k s) on c v is)
+      ∙ value_renamed v (λ q e. value_used m t (interpretation k s) on c v q is e)
 
   registers_renamed : (keyed (graph_of s)).registers ≡ map (renamed name) (shown_by m t registers).registers
   registers_renamed = ext_get_or S.Nil (map (keyed_value s.store.objects) s.registers) (map (renamed name) (map (keyed_value (objects_in m t)) (map (word_value m) registers))) counts each
@@ -130,8 +131,8 @@ module _ (m : Memory.Store) (t : Table) (registers : List Parts) (k : RoleMap) (
 
   object_is : (key : ℕ) → is_reached m t registers key ≡ true → (n : ℕ) × in_use s.store n × (name key ≡ n) × (k.at n ≡ key) × (object_at (objects_in m t) key ≡ placed_object k.at (object s.store n))
   object_is key reached =
-      let h = reached_held m t k s.space.levels s.areas s.store (aim_of s.phase) on registers s.registers means key reached in
-      (h.0, h.1, sym (ap name h.2) ∙ name_is h.0 h.1, h.2, sym (ap (object_at (objects_in m t)) h.2) ∙ object_there m t k s.space.levels s.areas s.store (aim_of s.phase) on h.0 h.1)
+      let h = reached_held m t (interpretation k s) on registers s.registers means key reached in
+      (h.0, h.1, sym (ap name h.2) ∙ name_is h.0 h.1, h.2, sym (ap (object_at (objects_in m t)) h.2) ∙ object_there m t (interpretation k s) on h.0 h.1)
 
   module _ (keys : List ℕ) (reached : (key : ℕ) → is_numbered keys key ≡ true → is_reached m t registers key ≡ true) where
     apart : (one two : ℕ) → is_numbered keys one ≡ true → is_numbered keys two ≡ true → name one ≡ name two → one ≡ two
@@ -159,7 +160,7 @@ module _ (m : Memory.Store) (t : Table) (registers : List Parts) (k : RoleMap) (
         let wide : width (object_at (objects_in m t) key).body ≡ width (object s.store x.0).body = ap (λ (o : Object). width o.body) x.4 ∙ width_placed k.at (object s.store x.0).body in
         let low : index < width (object s.store x.0).body = omega arith in
         ap (λ (n : ℕ). keyed_value s.store.objects (part_of (object_at s.store.objects n).body index)) x.2
-        ∙ sym (value_renamed (part_of (object s.store x.0).body index) (λ q e. part_used m t k s.space.levels s.areas s.store (aim_of s.phase) on x.0 index q x.1 low e))
+        ∙ sym (value_renamed (part_of (object s.store x.0).body index) (λ q e. part_used m t (interpretation k s) on x.0 index q x.1 low e))
         ∙ sym (ap (λ (v : Value). renamed name (keyed_value (objects_in m t) v)) (part_placed k.at (object s.store x.0).body index low))
         ∙ sym (ap (λ (o : Object). renamed name (keyed_value (objects_in m t) (part_of o.body index))) x.4)
 

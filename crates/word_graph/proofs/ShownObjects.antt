@@ -17,15 +17,14 @@ use Rattle.mem_port.specs.Store.{Store, StoresNothing}
 use Rattle.area_space.specs.declared.classes.Class.{Class}
 use Rattle.area_space.specs.Table.{Table, levels_of, slot_of, chain, class_from, class_number, IsUnclassed}
 use Rattle.lisp_ground.specs.lisp_meaning.Image.{Region, is_free, region}
-use Rattle.lisp_ground.specs.lisp_meaning.State.{Condemned, in_use, object}
-use Rattle.lisp_ground.specs.lisp_meaning.State as M
+use Rattle.lisp_ground.specs.lisp_meaning.State.{in_use, object}
 use Rattle.lisp_ground.proofs.lisp_meaning.maps.Patches.{begins_owner}
-use Rattle.lisp_graph.specs.declared.world.AreaRule.{AreaRule}
-use Rattle.lisp_ground.specs.lisp_meaning.Roles.{AsCons, AsBlock, Kind, Role, Blank, RoleMap, kind_of, owner, value_of, Begins}
+use Rattle.lisp_ground.specs.lisp_meaning.Roles.{AsCons, AsBlock, Kind, Role, Blank, kind_of, owner, value_of, Begins}
 use Rattle.obj_layout.specs.Forwards.{word_at, forward_of, Final, HasFinal}
 use Rattle.obj_layout.specs.Shapes.{charge_at, IsWhole}
 use Rattle.lisp_ground.specs.Image.{ground_image, no_rest}
 use Rattle.lisp_ground.specs.GroundInvariant.{GroundInvariant}
+use Rattle.lisp_ground.specs.lisp_meaning.Interpretation.{Interpretation}
 use Rattle.lisp_ground.specs.Leading.{Refers, HasCdr, car_in, cdr_in, reference}
 use Rattle.lisp_ground.proofs.words.FinalAddresses.{place_inside}
 use Rattle.lisp_ground.proofs.words.References.{references_lead}
@@ -56,12 +55,12 @@ kind_placed at (Cons car cdr) = refl
 kind_placed at (Block code fields) = refl
 
 module _ (m : Store) (t : Table) where
-  refers : (kind : Kind) (a : ℕ) (can : CanSee m t (reference kind a)) → Refers m.words can.map can.objects kind a can.value
-  refers kind a can = references_lead.values m t can.map can.top can.areas can.objects can.aim can.kept kind a can.value can.value_is
+  refers : (kind : Kind) (a : ℕ) (can : CanSee m t (reference kind a)) → Refers m.words can.it.map can.it.store kind a can.value
+  refers kind a can = references_lead.values m t can.it can.kept kind a can.value can.value_is
 
   -- a reference has a final address
   has_final : (kind : Kind) (a : ℕ) → CanSee m t (reference kind a) → HasFinal m.words a
-  has_final kind a can = let r = refers kind a can in (can.map.at r.name, r.leads.inside, r.leads.final)
+  has_final kind a can = let r = refers kind a can in (can.it.map.at r.name, r.leads.inside, r.leads.final)
 
   pub list_final : (c : Content) (a : ℕ) → CanSee m t c → c ≡ ListAt a → HasFinal m.words a
   list_final c a can is = has_final AsCons a (subst (CanSee m t) is can)
@@ -73,12 +72,12 @@ module _ (m : Store) (t : Table) where
   told_there : (kind : Kind) (a to : ℕ) (can : CanSee m t (reference kind a)) → Final m.words a to → (body : Body) × (kind_of body ≡ kind) × (told m t (reference kind a) ≡ seen_body to body)
   told_there kind a to can final =
       let r = refers kind a can in
-      let body = (object can.objects r.name).body in (
-        placed_body can.map.at body,
-        kind_placed can.map.at body ∙ r.leads.kind_is,
-        ap (keyed_value (objects_in m t)) (value_place m t can.map can.top can.areas can.objects can.aim can.kept (reference kind a) can.value can.value_is ∙ ap (placed can.map.at) r.value)
-            ∙ ap (λ (o : Object). seen_body (can.map.at r.name) o.body) (object_there m t can.map can.top can.areas can.objects can.aim can.kept r.name r.leads.used)
-            ∙ ap (λ (x : ℕ). seen_body x (placed_body can.map.at body)) (sym (r.leads.only to final)),
+      let body = (object can.it.store r.name).body in (
+        placed_body can.it.map.at body,
+        kind_placed can.it.map.at body ∙ r.leads.kind_is,
+        ap (keyed_value (objects_in m t)) (value_place m t can.it can.kept (reference kind a) can.value can.value_is ∙ ap (placed can.it.map.at) r.value)
+            ∙ ap (λ (o : Object). seen_body (can.it.map.at r.name) o.body) (object_there m t can.it can.kept r.name r.leads.used)
+            ∙ ap (λ (x : ℕ). seen_body x (placed_body can.it.map.at body)) (sym (r.leads.only to final)),
       )
 
   pub told_cons : (c : Content) (a to : ℕ) → CanSee m t c → c ≡ ListAt a → Final m.words a to → S.Cons to ≡ told m t c
@@ -141,46 +140,46 @@ cons_part_inside words role at index (Header code n) v e cdr = absurd cc
 cons_part_inside words role at index (HeaderForward a) v e cdr = absurd cc
 cons_part_inside words role at index (GcForward a) v e cdr = absurd cc
 
-module _ (m : Store) (t : Table) (k : RoleMap) (top : ℕ) (areas : List AreaRule) (s : M.Store) (aim : Condemned) (on : GroundInvariant m t k top areas s aim) (n : ℕ) (used : in_use s n) where
-  place_whole : IsWhole m.words (k.at n)
-  place_whole = go (kind_of (object s n).body) (on.kept.roled.begins n used)
+module _ (m : Store) (t : Table) (it : Interpretation) (on : GroundInvariant m t it) (n : ℕ) (used : in_use it.store n) where
+  place_whole : IsWhole m.words (it.map.at n)
+  place_whole = go (kind_of (object it.store n).body) (on.kept.roled.begins n used)
     where
-      go : (kind : Kind) → Begins kind (k.role (k.at n)) n → IsWhole m.words (k.at n)
-      go AsCons (inl r) = pair_whole m t k top areas s aim on (k.at n) n r
-      go AsCons (inr r) = cell_whole m t k top areas s aim on (k.at n) n r.0 r.1
-      go AsBlock r = head_whole m t k top areas s aim on (k.at n) n r
+      go : (kind : Kind) → Begins kind (it.map.role (it.map.at n)) n → IsWhole m.words (it.map.at n)
+      go AsCons (inl r) = pair_whole m t it on (it.map.at n) n r
+      go AsCons (inr r) = cell_whole m t it on (it.map.at n) n r.0 r.1
+      go AsBlock r = head_whole m t it on (it.map.at n) n r
 
-  place_part : (index : ℕ) → index < width (object s n).body → HasPart m.words (k.at n) index (word_at m.words (k.at n)).content
-  place_part index l = go (kind_of (object s n).body) refl
+  place_part : (index : ℕ) → index < width (object it.store n).body → HasPart m.words (it.map.at n) index (word_at m.words (it.map.at n)).content
+  place_part index l = go (kind_of (object it.store n).body) refl
     where
-      go : (kind : Kind) → kind_of (object s n).body ≡ kind → HasPart m.words (k.at n) index (word_at m.words (k.at n)).content
+      go : (kind : Kind) → kind_of (object it.store n).body ≡ kind → HasPart m.words (it.map.at n) index (word_at m.words (it.map.at n)).content
       go AsCons is =
-          let c = references_lead.conses m t k top areas s aim on n used is in
-          cons_part_inside m.words k.role (k.at n) index (word_at m.words (k.at n)).content c.car c.car_value c.second
+          let c = references_lead.conses m t it on n used is in
+          cons_part_inside m.words it.map.role (it.map.at n) index (word_at m.words (it.map.at n)).content c.car c.car_value c.second
       go AsBlock is =
-          let b = references_lead.blocks m t k top areas s aim on n used is in
+          let b = references_lead.blocks m t it on n used is in
           let low : index < length b.fields = subst (λ (x : Body). index < width x) b.body l in
           let inside = b.inside in
-          let there : suc (k.at n) + index < length m.words = omega arith in
-          subst (HasPart m.words (k.at n) index) (sym b.header) there
+          let there : suc (it.map.at n) + index < length m.words = omega arith in
+          subst (HasPart m.words (it.map.at n) index) (sym b.header) there
 
-  place_classed : IsUnclassed t (k.at n / 4096) → ⊥
+  place_classed : IsUnclassed t (it.map.at n / 4096) → ⊥
   place_classed free =
-      let blank : k.role (k.at n) ≡ Blank = on.kept.covered.free (k.at n) (ap is_free (free_standing m t no_rest on.table (k.at n) free)) in
-      let owned : owner (k.role (k.at n)) ≡ Some n = begins_owner (kind_of (object s n).body) (k.role (k.at n)) n (on.kept.roled.begins n used) in
+      let blank : it.map.role (it.map.at n) ≡ Blank = on.kept.covered.free (it.map.at n) (ap is_free (free_standing m t no_rest on.table (it.map.at n) free)) in
+      let owned : owner (it.map.role (it.map.at n)) ≡ Some n = begins_owner (kind_of (object it.store n).body) (it.map.role (it.map.at n)) n (on.kept.roled.begins n used) in
       let none : None ≡ Some n = sym (ap owner blank) ∙ owned in
       cc
 
 module _ (m : Store) (t : Table) (at : ℕ) (o : HasObject m t at) where
   pub object_inside : at < length m.words
-  object_inside = subst (λ (x : ℕ). x < length m.words) o.place (place_inside m t o.map o.top o.areas o.objects o.aim o.kept o.name o.used)
+  object_inside = subst (λ (x : ℕ). x < length m.words) o.place (place_inside m t o.it o.kept o.name o.used)
 
   pub object_whole : IsWhole m.words at
-  object_whole = subst (IsWhole m.words) o.place (place_whole m t o.map o.top o.areas o.objects o.aim o.kept o.name o.used)
+  object_whole = subst (IsWhole m.words) o.place (place_whole m t o.it o.kept o.name o.used)
 
   -- its region has a class
   pub object_classed : IsUnclassed t (at / 4096) → ⊥
-  object_classed free = place_classed m t o.map o.top o.areas o.objects o.aim o.kept o.name o.used (subst (λ (x : ℕ). IsUnclassed t (x / 4096)) (sym o.place) free)
+  object_classed free = place_classed m t o.it o.kept o.name o.used (subst (λ (x : ℕ). IsUnclassed t (x / 4096)) (sym o.place) free)
 
   -- the area of that class is its area
   pub class_area : (class : Class) → Contains (chain t (class_number t class)) (at / 4096) → class.level < levels_of t → (region (ground_image m t) at).area ≡ class.area
@@ -208,38 +207,34 @@ module _ (m : Store) (t : Table) (at : ℕ) (o : HasObject m t at) where
 
   -- Its parts
 
-  body_there : (object_at (objects_in m t) at).body ≡ placed_body o.map.at (object o.objects o.name).body
-  body_there = ap (λ (x : Object). x.body) (sym (ap (object_at (objects_in m t)) o.place) ∙ object_there m t o.map o.top o.areas o.objects o.aim o.kept o.name o.used)
+  body_there : (object_at (objects_in m t) at).body ≡ placed_body o.it.map.at (object o.it.store o.name).body
+  body_there = ap (λ (x : Object). x.body) (sym (ap (object_at (objects_in m t)) o.place) ∙ object_there m t o.it o.kept o.name o.used)
 
-  low_index : (index : ℕ) → index < parts_in m t at → index < width (object o.objects o.name).body
-  low_index index l = let same : parts_in m t at ≡ width (object o.objects o.name).body = ap width body_there ∙ width_placed o.map.at (object o.objects o.name).body in omega arith
+  low_index : (index : ℕ) → index < parts_in m t at → index < width (object o.it.store o.name).body
+  low_index index l = let same : parts_in m t at ≡ width (object o.it.store o.name).body = ap width body_there ∙ width_placed o.it.map.at (object o.it.store o.name).body in omega arith
 
   pub object_part : (index : ℕ) → index < parts_in m t at → HasPart m.words at index (word_at m.words at).content
-  object_part index l = subst (λ (x : ℕ). HasPart m.words x index (word_at m.words x).content) o.place (place_part m t o.map o.top o.areas o.objects o.aim o.kept o.name o.used index (low_index index l))
+  object_part index l = subst (λ (x : ℕ). HasPart m.words x index (word_at m.words x).content) o.place (place_part m t o.it o.kept o.name o.used index (low_index index l))
 
-  part_means : (index : ℕ) → index < parts_in m t at → value_of o.map.role (part_in m.words at index (word_at m.words at).content) ≡ Some (part_of (object o.objects o.name).body index)
-  part_means index l = subst (λ (x : ℕ). value_of o.map.role (part_in m.words x index (word_at m.words x).content) ≡ Some (part_of (object o.objects o.name).body index)) o.place
-      (part_value m t o.map o.top o.areas o.objects o.aim o.kept o.name index o.used (low_index index l))
+  part_means : (index : ℕ) → index < parts_in m t at → value_of o.it.map.role (part_in m.words at index (word_at m.words at).content) ≡ Some (part_of (object o.it.store o.name).body index)
+  part_means index l = subst (λ (x : ℕ). value_of o.it.map.role (part_in m.words x index (word_at m.words x).content) ≡ Some (part_of (object o.it.store o.name).body index)) o.place
+      (part_value m t o.it o.kept o.name index o.used (low_index index l))
 
   pub part_can : (m' : Store) (index : ℕ) (c : Content) → index < parts_in m t at → StoresNothing m m' → c ≡ part_in m.words at index (word_at m.words at).content → CanSee m' t c
   part_can m' index c l stays is = record {
-    map = o.map;
-    top = o.top;
-    areas = o.areas;
-    objects = o.objects;
-    aim = o.aim;
-    kept = kept_on_same m m' t o.map o.top o.areas o.objects o.aim o.kept stays;
-    value = part_of (object o.objects o.name).body index;
-    value_is = ap (value_of o.map.role) is ∙ part_means index l;
+    it = o.it;
+    kept = kept_on_same m m' t o.it o.kept stays;
+    value = part_of (object o.it.store o.name).body index;
+    value_is = ap (value_of o.it.map.role) is ∙ part_means index l;
   }
 
   pub part_told : (m' : Store) (index : ℕ) (c : Content) → index < parts_in m t at → StoresNothing m m' → c ≡ part_in m.words at index (word_at m.words at).content → told m' t c ≡ field_in m t at index
   part_told m' index c l stays is =
-      let part = part_of (object o.objects o.name).body index in
+      let part = part_of (object o.it.store o.name).body index in
       ap (λ (words : List Parts). told (with_words m words) t c) stays.words
       ∙ ap (told m t) is
-      ∙ ap (keyed_value (objects_in m t)) (value_place m t o.map o.top o.areas o.objects o.aim o.kept (part_in m.words at index (word_at m.words at).content) part (part_means index l)
-      ∙ sym (part_placed o.map.at (object o.objects o.name).body index (low_index index l))
+      ∙ ap (keyed_value (objects_in m t)) (value_place m t o.it o.kept (part_in m.words at index (word_at m.words at).content) part (part_means index l)
+      ∙ sym (part_placed o.it.map.at (object o.it.store o.name).body index (low_index index l))
       ∙ sym (ap (λ (b : Body). part_of b index) body_there))
 
 -- the word of the cdr of a cons

@@ -12,13 +12,14 @@ use Rattle.lisp_graph.specs.declared.world.AreaRule.{AreaRule}
 use Rattle.lisp_graph.specs.KeyedGraph.{keyed, Shows}
 use Rattle.mem_port.specs.Store.{Store, StoresNothing}
 use Rattle.area_space.specs.Table.{Table}
-use Rattle.lisp_ground.specs.lisp_meaning.State.{Condemned, State, in_use, is_held, object, aim_of}
+use Rattle.lisp_ground.specs.lisp_meaning.State.{State, in_use, is_held, object}
 use Rattle.lisp_ground.specs.lisp_meaning.State as M
 use Rattle.lisp_ground.specs.lisp_meaning.Flip.{graph_of}
 use Rattle.lisp_ground.specs.lisp_meaning.Roles.{RoleMap, name_or, value_of}
 use Rattle.lisp_ground.specs.lisp_meaning.Units.{lowest}
 use Rattle.obj_layout.specs.Forwards.{Leads}
 use Rattle.lisp_ground.specs.GroundInvariant.{GroundInvariant}
+use Rattle.lisp_ground.specs.lisp_meaning.Interpretation.{Interpretation, interpretation}
 use Rattle.world_text.specs.Numbering.{is_numbered}
 use Rattle.world_text.specs.Dump.{IsDump}
 use Rattle.dump_laws.specs.Renamed.{IsRenamed, HasSameCharges}
@@ -46,19 +47,19 @@ LeadsThere = (words : List Parts) (fuel count at to : ℕ) → Leads words count
 
 -- a word's value is shown by the place of its object
 abbrev pub ValuesArePlaces : Type 0
-ValuesArePlaces = (m : Store) (t : Table) (k : RoleMap) (top : ℕ) (areas : List AreaRule) (s : M.Store) (aim : Condemned) → GroundInvariant m t k top areas s aim
-    → (c : Content) (v : Value) → value_of k.role c ≡ Some v → value_in m.words c ≡ placed k.at v
+ValuesArePlaces = (m : Store) (t : Table) (it : Interpretation) → GroundInvariant m t it
+    → (c : Content) (v : Value) → value_of it.map.role c ≡ Some v → value_in m.words c ≡ placed it.map.at v
 
 -- at its place a held object is shown: its area, its charge and its parts
 abbrev pub ObjectsArePlaces : Type 0
-ObjectsArePlaces = (m : Store) (t : Table) (k : RoleMap) (top : ℕ) (areas : List AreaRule) (s : M.Store) (aim : Condemned) → GroundInvariant m t k top areas s aim
-    → (n : ℕ) → in_use s n → object_in m t (k.at n) ≡ placed_object k.at (object s n)
+ObjectsArePlaces = (m : Store) (t : Table) (it : Interpretation) → GroundInvariant m t it
+    → (n : ℕ) → in_use it.store n → object_in m t (it.map.at n) ≡ placed_object it.map.at (object it.store n)
 
 -- each address that is reached is the place of a held object
 abbrev pub ReachedAreHeld : Type 0
-ReachedAreHeld = (m : Store) (t : Table) (k : RoleMap) (top : ℕ) (areas : List AreaRule) (s : M.Store) (aim : Condemned) (registers : List Parts) (values : List Value)
-    → GroundInvariant m t k top areas s aim → MeanValues k registers values
-    → (a : ℕ) → IsTrue (is_reached m t registers a) → ((n : ℕ) × in_use s n × (k.at n ≡ a))
+ReachedAreHeld = (m : Store) (t : Table) (it : Interpretation) (registers : List Parts) (values : List Value)
+    → GroundInvariant m t it → MeanValues it.map registers values
+    → (a : ℕ) → IsTrue (is_reached m t registers a) → ((n : ℕ) × in_use it.store n × (it.map.at n ≡ a))
 
 -- By any map by which a ground represents objects, its words show these objects by their places, and what the registers reach is held.
 pub record WordsShowObjects : Type 0 where
@@ -110,14 +111,14 @@ name_of k s a = name_or (lowest (λ n. is_held s n && (k.at n == a)) (length s.o
 
 -- The graph shown is that of a state that the ground and the registers represent, with other names, and with the same charges.
 pub record WalkShowsState : Type 0 where
-  pub renamed : (m : Store) (t : Table) (registers : List Parts) (k : RoleMap) (s : State) → GroundInvariant m t k s.space.levels s.areas s.store (aim_of s.phase) → MeanValues k registers s.registers
+  pub renamed : (m : Store) (t : Table) (registers : List Parts) (k : RoleMap) (s : State) → GroundInvariant m t (interpretation k s) → MeanValues k registers s.registers
       → (keys : List ℕ) → ((key : ℕ) → is_numbered keys key ≡ true → (shown_by m t registers).has key ≡ true) → IsRenamed (name_of k s.store) keys (shown_by m t registers) (keyed (graph_of s))
-  pub charges : (m : Store) (t : Table) (registers : List Parts) (k : RoleMap) (s : State) → GroundInvariant m t k s.space.levels s.areas s.store (aim_of s.phase) → MeanValues k registers s.registers
+  pub charges : (m : Store) (t : Table) (registers : List Parts) (k : RoleMap) (s : State) → GroundInvariant m t (interpretation k s) → MeanValues k registers s.registers
       → (keys : List ℕ) → ((key : ℕ) → is_numbered keys key ≡ true → (shown_by m t registers).has key ≡ true) → HasSameCharges (name_of k s.store) keys (shown_by m t registers) (keyed (graph_of s))
 
 -- so a dump of what is shown is a dump of the state
 abbrev pub DumpIsOfState : Type 0
-DumpIsOfState = (m : Store) (t : Table) (registers : List Parts) (k : RoleMap) (s : State) → GroundInvariant m t k s.space.levels s.areas s.store (aim_of s.phase) → MeanValues k registers s.registers
+DumpIsOfState = (m : Store) (t : Table) (registers : List Parts) (k : RoleMap) (s : State) → GroundInvariant m t (interpretation k s) → MeanValues k registers s.registers
     → (space : Space) (areas : List AreaRule) (text : List ℕ) → IsDump (shown_by m t registers) space areas text → IsDump (keyed (graph_of s)) space areas text
 
 -- The graph that the words show is that of each state that they represent, and so is its dump.

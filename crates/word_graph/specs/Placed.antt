@@ -4,13 +4,12 @@ use Rattle.store_word.specs.Words.{Parts, null_word}
 use Rattle.store_word.specs.declared.word.Content.{Content}
 use Rattle.lisp_graph.specs.declared.object.Value.{Value}
 use Rattle.lisp_graph.specs.declared.object.Value.TheVariants as V
-use Rattle.lisp_graph.specs.declared.world.AreaRule.{AreaRule}
 use Rattle.mem_port.specs.Store.{Store}
 use Rattle.area_space.specs.Table.{Table}
-use Rattle.lisp_ground.specs.lisp_meaning.State.{Condemned, in_use}
-use Rattle.lisp_ground.specs.lisp_meaning.State as M
+use Rattle.lisp_ground.specs.lisp_meaning.State.{in_use}
 use Rattle.lisp_ground.specs.lisp_meaning.Roles.{RoleMap, value_of}
 use Rattle.lisp_ground.specs.GroundInvariant.{GroundInvariant}
+use Rattle.lisp_ground.specs.lisp_meaning.Interpretation.{Interpretation}
 
 -- the registers' words have these values
 pub record MeanValues (k : RoleMap) (registers : List Parts) (values : List Value) : Type 0 where
@@ -19,34 +18,22 @@ pub record MeanValues (k : RoleMap) (registers : List Parts) (values : List Valu
 
 -- the ground represents some objects, and the registers' words represent values
 pub record CanWalk (m : Store) (t : Table) (registers : List Parts) : Type 0 where
-  pub map : RoleMap
-  pub top : ℕ
-  pub areas : List AreaRule
-  pub objects : M.Store
-  pub aim : Condemned
-  pub kept : GroundInvariant m t map top areas objects aim
+  pub it : Interpretation
+  pub kept : GroundInvariant m t it
   pub values : List Value
-  pub means : MeanValues map registers values
+  pub means : MeanValues it.map registers values
 
 -- the ground represents some objects, and a word with this content represents a value
 pub record CanSee (m : Store) (t : Table) (content : Content) : Type 0 where
-  pub map : RoleMap
-  pub top : ℕ
-  pub areas : List AreaRule
-  pub objects : M.Store
-  pub aim : Condemned
-  pub kept : GroundInvariant m t map top areas objects aim
+  pub it : Interpretation
+  pub kept : GroundInvariant m t it
   pub value : Value
-  pub value_is : value_of map.role content ≡ Some value
+  pub value_is : value_of it.map.role content ≡ Some value
 
 -- the ground represents some objects, and one that is held is at this address
 pub record HasObject (m : Store) (t : Table) (at : ℕ) : Type 0 where
-  pub map : RoleMap
-  pub top : ℕ
-  pub areas : List AreaRule
-  pub objects : M.Store
-  pub aim : Condemned
-  pub kept : GroundInvariant m t map top areas objects aim
+  pub it : Interpretation
+  pub kept : GroundInvariant m t it
   pub name : ℕ
-  pub used : in_use objects name
-  pub place : map.at name ≡ at
+  pub used : in_use it.store name
+  pub place : it.map.at name ≡ at

@@ -12,7 +12,7 @@ use Rattle.area_space.specs.Frees.{Frees}
 use Rattle.area_space.specs.Sound.{IsTable}
 use Rattle.area_space.specs.Room.{RoomRule}
 use Rattle.area_space.specs.Ground.{IsGround}
-use Rattle.lisp_meaning.specs.State.{Phase, Idle, State, aim_of}
+use Rattle.lisp_meaning.specs.State.{Phase, Idle, State}
 use Rattle.lisp_meaning.specs.Flip.{flipped}
 use Rattle.lisp_meaning.specs.Image.{word}
 use Rattle.lisp_meaning.specs.Roles.{RoleMap}
@@ -21,6 +21,7 @@ use Rattle.lisp_meaning.specs.Invariant.{MachineInvariant}
 use Rattle.lisp_meaning.proofs.invariant.Collections.{flipped_is, reclaimed_is}
 use Rattle.lisp_ground.specs.Image.{Rest, image_of}
 use Rattle.lisp_ground.specs.GroundInvariant.{Agrees, SameForm}
+use Rattle.lisp_meaning.specs.Interpretation.{interpretation}
 use Rattle.lisp_ground.specs.Collecting.{StandsOn, FitsOn, FlippedOn, ReclaimedOn, ScannedNamesNoOld}
 use Rattle.lisp_ground.proofs.regions.Owners.{region_cases}
 use Rattle.lisp_ground.proofs.words.Words.{get_or_here}
@@ -53,7 +54,7 @@ pub strong_ground : (m : Store) (t : Table) (rest : Rest) (k : RoleMap) (s : Sta
 strong_ground m t rest k s strong f room agrees = record {
   strong = strong;
   ground = record {
-    kept = kept_ground m t rest k s.space.levels s.areas s.store (aim_of s.phase) strong.kept f.table f.named;
+    kept = kept_ground m t rest (interpretation k s) strong.kept f.table f.named;
     ground = f.ground;
     named = f.named;
     table = f.table;

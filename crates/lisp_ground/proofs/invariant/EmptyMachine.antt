@@ -17,11 +17,11 @@ use Rattle.area_space.proofs.FreeSets.{empties}
 use Rattle.area_space.proofs.GroundLaws.{ground_fresh, named_fresh}
 use Rattle.lisp_meaning.specs.Empty.{IsEmpty}
 use Rattle.lisp_meaning.specs.Empty.{IsBare, blank_map}
-use Rattle.lisp_meaning.specs.State.{no_aim}
 use Rattle.lisp_meaning.specs.Opening.{opening}
 use Rattle.lisp_meaning.proofs.invariant.EmptyMachine.{empty_strong}
 use Rattle.lisp_ground.specs.Image.{Rest, no_rest, by_class, image_of}
 use Rattle.lisp_ground.specs.GroundInvariant.{GroundInvariant}
+use Rattle.lisp_meaning.specs.Interpretation.{interpretation}
 use Rattle.lisp_ground.proofs.invariant.OfImage.{kept_ground}
 use Rattle.lisp_ground.proofs.regions.Regions.{region_is, region_free}
 use Rattle.lisp_ground.proofs.sums.Charges.{by_class_at, by_class_past}
@@ -64,7 +64,7 @@ nil_registers n = record no_rest { registers = replicate n (record { cdr = CdrNi
 
 -- so a new ground represents a world without objects
 pub fresh_kept_on : (s : Store) (w : World) (regions : ℕ) → IsFresh s regions w.space.levels → IsTable (fresh regions w.space.levels w.areas) → RoomRule (fresh regions w.space.levels w.areas) → IsBare w
-    → GroundInvariant s (fresh regions w.space.levels w.areas) blank_map w.space.levels w.areas (opening w).store no_aim
+    → GroundInvariant s (fresh regions w.space.levels w.areas) (interpretation blank_map (opening w))
 fresh_kept_on s w regions f v room bare =
     let t = fresh regions w.space.levels w.areas in
     let n = length w.roots in
@@ -72,7 +72,7 @@ fresh_kept_on s w regions f v room bare =
     let empty = fresh_empty s regions w.space.levels w.areas f v (nil_registers n) n (length-replicate n (record { cdr = CdrNil; content = NilWord })) (λ r l. ap (λ (p : Parts). p.content) (get_or-replicate n r (record { cdr = CdrNil; content = NilWord }) null_word l)) in
     let strong = empty_strong (image_of s t (nil_registers n)) w empty bare in
     record {
-      kept = kept_ground s t (nil_registers n) blank_map w.space.levels w.areas (opening w).store no_aim strong.kept v named;
+      kept = kept_ground s t (nil_registers n) (interpretation blank_map (opening w)) strong.kept v named;
       ground = ground_fresh s regions w.space.levels w.areas f;
       named = named;
       table = v;

@@ -15,14 +15,15 @@ use Rattle.lisp_meaning.specs.Marks.{Marks}
 use Rattle.lisp_meaning.specs.Invariant.{MemoryInvariant}
 use Rattle.lisp_ground.specs.Image.{Rest, image_of, ground_image}
 use Rattle.lisp_ground.specs.GroundInvariant.{Agrees, SameForm, GroundInvariant}
+use Rattle.lisp_meaning.specs.Interpretation.{Interpretation}
 use Rattle.lisp_ground.specs.After.{AfterOn}
 use Rattle.lisp_ground.proofs.invariant.Marks.{ground_marks, image_marks}
 
 -- registers, units and marks are no part of the invariant, except for the law of marks
-pub kept_beside : (g h : Image) (k : RoleMap) (top : ℕ) (areas : List AreaRule) (s : M.Store) (aim : Condemned)
+pub kept_beside : (g h : Image) (it : Interpretation)
     → (let same : Image = record g { registers = h.registers; collection = h.collection; register_left = h.register_left; word_left = h.word_left; last_moved = h.last_moved; marks = h.marks } in
-    MemoryInvariant g k top areas s aim → Marks same → MemoryInvariant same k top areas s aim)
-kept_beside g h k top areas s aim kept marks = record {
+    MemoryInvariant g it → Marks same → MemoryInvariant same it)
+kept_beside g h it kept marks = record {
   roled = kept.roled;
   covered = record { used = kept.covered.used; unused = kept.covered.unused; free = kept.covered.free; done = kept.covered.done };
   names = kept.names;
@@ -43,15 +44,15 @@ kept_beside g h k top areas s aim kept marks = record {
 }
 
 -- the invariant of a machine with this ground
-pub kept_image : (m : Store) (t : Table) (rest : Rest) (k : RoleMap) (top : ℕ) (areas : List AreaRule) (s : M.Store) (aim : Condemned)
-    → GroundInvariant m t k top areas s aim → MarksHold m → MemoryInvariant (image_of m t rest) k top areas s aim
-kept_image m t rest k top areas s aim on marks =
-    kept_beside (ground_image m t) (image_of m t rest) k top areas s aim on.kept (image_marks m t rest on.table on.ground on.named marks)
+pub kept_image : (m : Store) (t : Table) (rest : Rest) (it : Interpretation)
+    → GroundInvariant m t it → MarksHold m → MemoryInvariant (image_of m t rest) it
+kept_image m t rest it on marks =
+    kept_beside (ground_image m t) (image_of m t rest) it on.kept (image_marks m t rest on.table on.ground on.named marks)
 
 -- and from it
-pub kept_ground : (m : Store) (t : Table) (rest : Rest) (k : RoleMap) (top : ℕ) (areas : List AreaRule) (s : M.Store) (aim : Condemned)
-    → MemoryInvariant (image_of m t rest) k top areas s aim → IsTable t → NamesNoFree m t → MemoryInvariant (ground_image m t) k top areas s aim
-kept_ground m t rest k top areas s aim kept v named = kept_beside (image_of m t rest) (ground_image m t) k top areas s aim kept (ground_marks m t v named)
+pub kept_ground : (m : Store) (t : Table) (rest : Rest) (it : Interpretation)
+    → MemoryInvariant (image_of m t rest) it → IsTable t → NamesNoFree m t → MemoryInvariant (ground_image m t) it
+kept_ground m t rest it kept v named = kept_beside (image_of m t rest) (ground_image m t) it kept (ground_marks m t v named)
 
 -- Another table of the same form
 
@@ -65,25 +66,25 @@ pub same_agrees : (t u : Table) (top : ℕ) (areas : List AreaRule) → SameForm
 same_agrees t u top areas f a = record { levels = f.top ∙ a.levels; quotas = f.quotas ∙ a.quotas; kinds = f.kinds ∙ a.kinds }
 
 -- what is kept of the image after a change is kept on the ground
-pub kept_on_after : (m m' : Store) (t u : Table) (k map : RoleMap) (top : ℕ) (areas : List AreaRule) (s s' : M.Store) (aim aim' : Condemned)
-    → GroundInvariant m t k top areas s aim → SameForm t u → IsTable u → IsGround m' u → NamesNoFree m' u → MemoryInvariant (ground_image m' u) map top areas s' aim'
-    → GroundInvariant m' u map top areas s' aim'
-kept_on_after m m' t u k map top areas s s' aim aim' on f w ground named kept = record {
+pub kept_on_after : (m m' : Store) (t u : Table) (it : Interpretation) (map : RoleMap) (s' : M.Store) (aim' : Condemned)
+    → GroundInvariant m t it → SameForm t u → IsTable u → IsGround m' u → NamesNoFree m' u → MemoryInvariant (ground_image m' u) (record it { map = map; store = s'; aim = aim' })
+    → GroundInvariant m' u (record it { map = map; store = s'; aim = aim' })
+kept_on_after m m' t u it map s' aim' on f w ground named kept = record {
   kept = kept;
   ground = ground;
   named = named;
   table = w;
   room = same_room t u f on.room;
-  agrees = same_agrees t u top areas f on.agrees;
+  agrees = same_agrees t u it.top it.areas f on.agrees;
 }
 
 -- so is what a later map keeps
-pub after_on : (m m' : Store) (t u : Table) (k : RoleMap) (top : ℕ) (areas : List AreaRule) (s s' : M.Store) (aim : Condemned) (moved : ℕ) (kind : Kind) (b count : ℕ) (name : ℕ → ℕ)
-    → GroundInvariant m t k top areas s aim → SameForm t u → IsTable u → IsGround m' u → NamesNoFree m' u
-    → After (ground_image m t) (ground_image m' u) k top areas s s' aim moved kind b count name → AfterOn m t m' u k top areas s s' aim moved kind b count name
-after_on m m' t u k top areas s s' aim moved kind b count name on f w ground named after = record {
+pub after_on : (m m' : Store) (t u : Table) (it : Interpretation) (s' : M.Store) (moved : ℕ) (kind : Kind) (b count : ℕ) (name : ℕ → ℕ)
+    → GroundInvariant m t it → SameForm t u → IsTable u → IsGround m' u → NamesNoFree m' u
+    → After (ground_image m t) (ground_image m' u) it s' moved kind b count name → AfterOn m t m' u it s' moved kind b count name
+after_on m m' t u it s' moved kind b count name on f w ground named after = record {
   map = after.map;
-  kept = kept_on_after m m' t u k after.map top areas s s' aim aim on f w ground named after.kept;
+  kept = kept_on_after m m' t u it after.map s' it.aim on f w ground named after.kept;
   refines = after.refines;
   there = after.there;
   old = after.old;

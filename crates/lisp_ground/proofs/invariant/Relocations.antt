@@ -7,19 +7,18 @@ use Rattle.area_space.specs.store_word.declared.word.CdrCode.TheVariants.{Next a
 use Rattle.area_space.specs.store_word.declared.word.Content.{Content}
 use Rattle.area_space.specs.store_word.declared.word.Content.TheVariants.{Nil as NilWord, Header}
 use Rattle.area_space.specs.lisp_graph.declared.object.Body.TheVariants.{Cons}
-use Rattle.area_space.specs.lisp_graph.declared.world.AreaRule.{AreaRule}
 use Rattle.area_space.specs.lisp_graph.Effect.{grown_length, grown_block}
 use Rattle.area_space.specs.mem_port.Store.{Store}
 use Rattle.area_space.specs.declared.classes.Origin.TheVariants.{New, Reserve}
 use Rattle.area_space.specs.Table.{Table, levels_of, slot_of, live, chain}
 use Rattle.area_space.specs.Ground.{IsGround, NamesNoFree}
 use Rattle.area_space.proofs.UsedEnds.{end_in_chain}
-use Rattle.lisp_meaning.specs.State.{Condemned, object}
+use Rattle.lisp_meaning.specs.State.{object}
 use Rattle.lisp_meaning.specs.State as M
 use Rattle.lisp_meaning.specs.Changes.{put_body, with_grown}
 use Rattle.lisp_meaning.specs.Image.{Live, word, is_used, with_words}
 use Rattle.lisp_meaning.specs.Classes.{Class, classes}
-use Rattle.lisp_meaning.specs.Roles.{Kind, AsCons, AsBlock, Head, Field, RoleMap, owner, value_of, header_of}
+use Rattle.lisp_meaning.specs.Roles.{Kind, AsCons, AsBlock, Head, Field, owner, value_of, header_of}
 use Rattle.lisp_meaning.specs.Placed.{Recharged}
 use Rattle.lisp_meaning.specs.After.{After}
 use Rattle.lisp_meaning.specs.Rewriting.{Relays}
@@ -29,6 +28,7 @@ use Rattle.lisp_meaning.proofs.invariant.Rewrites.{cell_relaid, block_grown}
 use Rattle.obj_layout.specs.Forwards.{word_at}
 use Rattle.lisp_ground.specs.Image.{no_rest, ground_image}
 use Rattle.lisp_ground.specs.GroundInvariant.{GroundInvariant, NamesUsed}
+use Rattle.lisp_meaning.specs.Interpretation.{Interpretation}
 use Rattle.lisp_ground.specs.Writes.{Within}
 use Rattle.lisp_ground.specs.Laying.{Lays}
 use Rattle.lisp_ground.specs.After.{AfterOn}
@@ -50,7 +50,7 @@ use Rattle.lisp_ground.proofs.invariant.OfImage.{after_on}
 abbrev live_class : ℕ → ℕ → Class
 live_class area level = record { area = area; level = level; standing = Live }
 
-module _ (m mid m' : Store) (t u : Table) (k : RoleMap) (top : ℕ) (areas : List AreaRule) (s : M.Store) (aim : Condemned) (on : GroundInvariant m t k top areas s aim)
+module _ (m mid m' : Store) (t u : Table) (it : Interpretation) (on : GroundInvariant m t it)
     (a b count area level blank : ℕ) (r : RelaysOn m t mid m' u a b count area level blank) (x : Extends t u b count)
     (safe : (c : ℕ) (w : Parts) → Within b count c → slice_get mid.words c ≡ Some w → NamesUsed t w.content)
     (used : (c : ℕ) → Within a (suc blank) c → IsTrue (is_used (ground_image m t) c)) where
@@ -112,32 +112,32 @@ module _ (m mid m' : Store) (t u : Table) (k : RoleMap) (top : ℕ) (areas : Lis
       class_is = ap (λ (n : ℕ). live_class n (slot_of t area level % levels_of t)) (slot_area t area level r.level_in) ∙ ap (live_class area) (slot_level t area level r.level_in)
 
   -- what the image keeps after it the ground keeps
-  pub relaid_on : (s' : M.Store) (kind : Kind) (n : ℕ) → After (ground_image m t) (with_words (ground_image mid u) m'.words) k top areas s s' aim 0 kind b 1 (λ i. n)
-      → AfterOn m t m' u k top areas s s' aim 0 kind b 1 (λ i. n)
-  relaid_on s' kind n after = after_on m m' t u k top areas s s' aim 0 kind b 1 (λ i. n) on x.form r.sound ground named after
+  pub relaid_on : (s' : M.Store) (kind : Kind) (n : ℕ) → After (ground_image m t) (with_words (ground_image mid u) m'.words) it s' 0 kind b 1 (λ i. n)
+      → AfterOn m t m' u it s' 0 kind b 1 (λ i. n)
+  relaid_on s' kind n after = after_on m m' t u it s' 0 kind b 1 (λ i. n) on x.form r.sound ground named after
 
 pub cell_relaid_on : CellRelaidOn
-cell_relaid_on m mid m' t t' k top areas s aim a b n area level car cdr new first second on st code body r commit first_at first_code car_is second_at second_code new_is =
+cell_relaid_on m mid m' t t' it a b n area level car cdr new first second on st code body r commit first_at first_code car_is second_at second_code new_is =
     let x = committed_extends t t' (slot_of t area level) b 2 0 Reserve commit in
-    let l = lays m mid m' t t' k top areas s aim on a b 2 area level 0 r x safe used in
+    let l = lays m mid m' t t' it on a b 2 area level 0 r x safe used in
     let charged = laid_reserved m mid t t' b 2 0 area level on.table l 3 commit in
     let one = get_or_here mid.words b first null_word first_at in
     let two = get_or_here mid.words (suc b) second null_word second_at in
-    relaid_on m mid m' t t' k top areas s aim on a b 2 area level 0 r x safe used (put_body s n (Cons car new)) AsCons n
-    (cell_relaid (ground_image m t) (ground_image mid t') m'.words k top areas s aim a b n area level car cdr new on.kept st code body
-    (relays m mid m' t t' k top areas s aim on a b 2 area level 0 r x safe used 3 3 0 charged)
-    (ap (λ (w : Parts). value_of k.role w.content) one ∙ car_is) (ap (λ (w : Parts). w.cdr) one ∙ first_code)
-    (ap (λ (w : Parts). value_of k.role w.content) two ∙ new_is) (ap (λ (w : Parts). w.cdr) two ∙ second_code))
+    relaid_on m mid m' t t' it on a b 2 area level 0 r x safe used (put_body it.store n (Cons car new)) AsCons n
+    (cell_relaid (ground_image m t) (ground_image mid t') m'.words it a b n area level car cdr new on.kept st code body
+    (relays m mid m' t t' it on a b 2 area level 0 r x safe used 3 3 0 charged)
+    (ap (λ (w : Parts). value_of it.map.role w.content) one ∙ car_is) (ap (λ (w : Parts). w.cdr) one ∙ first_code)
+    (ap (λ (w : Parts). value_of it.map.role w.content) two ∙ new_is) (ap (λ (w : Parts). w.cdr) two ∙ second_code))
   where
     safe : (c : ℕ) (w : Parts) → Within b 2 c → slice_get mid.words c ≡ Some w → NamesUsed t w.content
     safe c w inside got =
         let from = inside.0 in
         let to = inside.1 in
         elim (cases_eq c b) [
-          | inl e ↦ subst (λ (p : Parts). NamesUsed t p.content) (the_word mid.words c first w (ap (slice_get mid.words) e ∙ first_at) got) (value_names_used m t k top areas s aim on first.content car car_is)
+          | inl e ↦ subst (λ (p : Parts). NamesUsed t p.content) (the_word mid.words c first w (ap (slice_get mid.words) e ∙ first_at) got) (value_names_used m t it on first.content car car_is)
           | inr ne ↦ (
               let e : c ≡ suc b = omega arith in
-              subst (λ (p : Parts). NamesUsed t p.content) (the_word mid.words c second w (ap (slice_get mid.words) e ∙ second_at) got) (value_names_used m t k top areas s aim on second.content new new_is))
+              subst (λ (p : Parts). NamesUsed t p.content) (the_word mid.words c second w (ap (slice_get mid.words) e ∙ second_at) got) (value_names_used m t it on second.content new new_is))
         ]
 
     used : (c : ℕ) → Within a 1 c → IsTrue (is_used (ground_image m t) c)
@@ -145,42 +145,42 @@ cell_relaid_on m mid m' t t' k top areas s aim a b n area level car cdr new firs
         let from = inside.0 in
         let to = inside.1 in
         let e : c ≡ a = omega arith in
-        let role = cell_there (word (ground_image m t)) (classes (ground_image m t)) k s on.kept.roled a n st.named st.here code in
-        subst (λ (i : ℕ). IsTrue (is_used (ground_image m t) i)) (sym e) (part_used m t k top areas s aim on a n (ap owner role.1))
+        let role = cell_there (word (ground_image m t)) (classes (ground_image m t)) it.map it.store on.kept.roled a n st.named st.here code in
+        subst (λ (i : ℕ). IsTrue (is_used (ground_image m t) i)) (sym e) (part_used m t it on a n (ap owner role.1))
 
 pub block_grown_on : BlockGrownOn
-block_grown_on m mid m' t c t' k top areas s aim a b n code wanted area level fields on st body wider few fits r commit husk enough w =
+block_grown_on m mid m' t c t' it a b n code wanted area level fields on st body wider few fits r commit husk enough w =
     let wide = grown_length (length fields) wanted in
     let first = committed_extends t c (slot_of t area level) b (suc (grown_length (length fields) wanted)) (suc (grown_length (length fields) wanted)) New commit in
     let x = husked_extends t c t' (live (slot_of t area level)) (suc (length fields)) b (suc (grown_length (length fields) wanted)) first husk in
-    let l = lays m mid m' t t' k top areas s aim on a b (suc (grown_length (length fields) wanted)) area level (length fields) r x safe used in
+    let l = lays m mid m' t t' it on a b (suc (grown_length (length fields) wanted)) area level (length fields) r x safe used in
     let charged = laid_recharged m mid t c t' b (suc (grown_length (length fields) wanted)) (suc (grown_length (length fields) wanted)) (suc (length fields)) area level on.table l commit husk enough in
     let header = get_or_here mid.words b (record { cdr = CdrNext; content = Header code (grown_length (length fields) wanted) }) null_word w.header_at in
-    relaid_on m mid m' t t' k top areas s aim on a b (suc (grown_length (length fields) wanted)) area level (length fields) r x safe used
-    (with_grown s n (grown_block area code fields (grown_length (length fields) wanted)) area level (suc (length fields))) AsBlock n
-    (block_grown (ground_image m t) (ground_image mid t') m'.words k top areas s aim a b n code wanted area level fields on.kept st body wider few fits
-    (relays m mid m' t t' k top areas s aim on a b (suc (grown_length (length fields) wanted)) area level (length fields) r x safe used (suc (length fields)) (suc (grown_length (length fields) wanted)) (suc (length fields)) charged)
+    relaid_on m mid m' t t' it on a b (suc (grown_length (length fields) wanted)) area level (length fields) r x safe used
+    (with_grown it.store n (grown_block area code fields (grown_length (length fields) wanted)) area level (suc (length fields))) AsBlock n
+    (block_grown (ground_image m t) (ground_image mid t') m'.words it a b n code wanted area level fields on.kept st body wider few fits
+    (relays m mid m' t t' it on a b (suc (grown_length (length fields) wanted)) area level (length fields) r x safe used (suc (length fields)) (suc (grown_length (length fields) wanted)) (suc (length fields)) charged)
     (record { header = ap (λ (p : Parts). p.content) header; header_code = ap (λ (p : Parts). p.cdr) header; copied = w.copied; nils = w.nils }))
   where
-    role : k.role a ≡ Head n
-    role = block_stands m t k top areas s aim on a n st
+    role : it.map.role a ≡ Head n
+    role = block_stands m t it on a n st
 
-    size : (block_fits (word (ground_image m t)) (classes (ground_image m t)) k s on.kept.roled n a role).size ≡ length fields
-    size = let f = block_fits (word (ground_image m t)) (classes (ground_image m t)) k s on.kept.roled n a role in
-        same_header_size (header_of (object s n).body) (f.kind, f.size) (code, length fields) f.header (ap header_of body)
+    size : (block_fits (word (ground_image m t)) (classes (ground_image m t)) it.map it.store on.kept.roled n a role).size ≡ length fields
+    size = let f = block_fits (word (ground_image m t)) (classes (ground_image m t)) it.map it.store on.kept.roled n a role in
+        same_header_size (header_of (object it.store n).body) (f.kind, f.size) (code, length fields) f.header (ap header_of body)
 
-    field_role : (i : ℕ) → i < length fields → k.role (suc a + i) ≡ Field n i
-    field_role i low = let f = block_fits (word (ground_image m t)) (classes (ground_image m t)) k s on.kept.roled n a role in let e = size in f.fields i (omega arith)
+    field_role : (i : ℕ) → i < length fields → it.map.role (suc a + i) ≡ Field n i
+    field_role i low = let f = block_fits (word (ground_image m t)) (classes (ground_image m t)) it.map it.store on.kept.roled n a role in let e = size in f.fields i (omega arith)
 
     used : (i : ℕ) → Within a (suc (length fields)) i → IsTrue (is_used (ground_image m t) i)
     used i inside =
         let from = inside.0 in
         let to = inside.1 in
         elim (cases_eq i a) [
-          | inl e ↦ subst (λ (j : ℕ). IsTrue (is_used (ground_image m t) j)) (sym e) (part_used m t k top areas s aim on a n (ap owner role))
+          | inl e ↦ subst (λ (j : ℕ). IsTrue (is_used (ground_image m t) j)) (sym e) (part_used m t it on a n (ap owner role))
           | inr ne ↦ (
               let e : i ≡ suc a + (i - suc a) = omega arith in
-              subst (λ (j : ℕ). IsTrue (is_used (ground_image m t) j)) (sym e) (part_used m t k top areas s aim on (suc a + (i - suc a)) n (ap owner (field_role (i - suc a) (omega arith)))))
+              subst (λ (j : ℕ). IsTrue (is_used (ground_image m t) j)) (sym e) (part_used m t it on (suc a + (i - suc a)) n (ap owner (field_role (i - suc a) (omega arith)))))
         ]
 
     -- the words of the wider block are a header, copies of words of the memory, and NIL
@@ -190,7 +190,7 @@ block_grown_on m mid m' t c t' k top areas s aim a b n code wanted area level fi
         subst (NamesUsed t) (sym is ∙ ap (λ (q : Parts). q.content) same) ok
 
     copy_safe : (j : ℕ) → NamesUsed t (word_at m.words (suc a + j)).content
-    copy_safe j = λ to has. word_names_used m t k top areas s aim on (suc a + j) (word_at m.words (suc a + j)) (with_address m.words (suc a + j) to has) to has
+    copy_safe j = λ to has. word_names_used m t it on (suc a + j) (word_at m.words (suc a + j)) (with_address m.words (suc a + j) to has) to has
 
     safe : (i : ℕ) (p : Parts) → Within b (suc (grown_length (length fields) wanted)) i → slice_get mid.words i ≡ Some p → NamesUsed t p.content
     safe i p inside got =

@@ -4,21 +4,20 @@ use Rattle.std.proofs.lemmas.Bool.{ltb-true, cases_lt}
 use Rattle.std.proofs.lemmas.List.{get_or_past}
 use Rattle.area_space.specs.store_word.Words.{Parts, null_word}
 use Rattle.area_space.specs.lisp_graph.declared.object.Value.{Value}
-use Rattle.area_space.specs.lisp_graph.declared.world.AreaRule.{AreaRule}
 use Rattle.area_space.specs.mem_port.Store.{Store, Stores, StoresNothing}
 use Rattle.area_space.specs.Table.{Table, used_of}
 use Rattle.area_space.specs.Sound.{IsTable}
 use Rattle.area_space.specs.Ground.{IsGround, NamesNoFree}
 use Rattle.area_space.proofs.GroundLaws.{ground_same, named_same}
-use Rattle.lisp_meaning.specs.State.{Condemned}
 use Rattle.lisp_meaning.specs.State as M
 use Rattle.lisp_meaning.specs.Image.{word, is_used, with_words}
-use Rattle.lisp_meaning.specs.Roles.{RoleMap, value_of}
+use Rattle.lisp_meaning.specs.Roles.{value_of}
 use Rattle.lisp_meaning.specs.Rewriting.{StoresAt}
 use Rattle.lisp_meaning.specs.After.{AfterWord}
 use Rattle.lisp_meaning.specs.Invariant.{MemoryInvariant}
 use Rattle.lisp_ground.specs.Image.{no_rest, ground_image}
 use Rattle.lisp_ground.specs.GroundInvariant.{GroundInvariant, NamesUsed}
+use Rattle.lisp_meaning.specs.Interpretation.{Interpretation}
 use Rattle.lisp_ground.specs.Writes.{Within, WritesWithin}
 use Rattle.lisp_ground.specs.After.{AfterStore}
 use Rattle.lisp_ground.proofs.words.Words.{get_or_here, get_or_same}
@@ -29,9 +28,9 @@ use Rattle.lisp_ground.proofs.words.Values.{value_names_used}
 use Rattle.lisp_ground.proofs.invariant.OfImage.{kept_on_after}
 
 -- reads, holds and evictions change nothing
-pub kept_on_same : (m m' : Store) (t : Table) (k : RoleMap) (top : ℕ) (areas : List AreaRule) (s : M.Store) (aim : Condemned) → GroundInvariant m t k top areas s aim → StoresNothing m m' → GroundInvariant m' t k top areas s aim
-kept_on_same m m' t k top areas s aim on n = record {
-  kept = subst (λ (ws : List Parts). MemoryInvariant (ground_image (record m { words = ws }) t) k top areas s aim) (sym n.words) on.kept;
+pub kept_on_same : (m m' : Store) (t : Table) (it : Interpretation) → GroundInvariant m t it → StoresNothing m m' → GroundInvariant m' t it
+kept_on_same m m' t it on n = record {
+  kept = subst (λ (ws : List Parts). MemoryInvariant (ground_image (record m { words = ws }) t) it) (sym n.words) on.kept;
   ground = ground_same m m' t n.words n.levels n.top on.ground;
   named = named_same m m' t n.words on.named;
   table = on.table;
@@ -54,8 +53,8 @@ used_inside m t a v g u =
       | inr past ↦ (let none = get_or_past t.used (a / 4096) 0 (omega arith) in absurd (omega arith))
     ]
 
-module _ (m m' : Store) (t : Table) (k : RoleMap) (top : ℕ) (areas : List AreaRule) (s : M.Store) (aim : Condemned) (on : GroundInvariant m t k top areas s aim)
-    (a : ℕ) (w : Parts) (v : Value) (stores : Stores m m' a w) (used : IsTrue (is_used (ground_image m t) a)) (value : value_of k.role w.content ≡ Some v) where
+module _ (m m' : Store) (t : Table) (it : Interpretation) (on : GroundInvariant m t it)
+    (a : ℕ) (w : Parts) (v : Value) (stores : Stores m m' a w) (used : IsTrue (is_used (ground_image m t) a)) (value : value_of it.map.role w.content ≡ Some v) where
   writes : WritesWithin m m' a 1
   writes = stores_within m m' a w stores
 
@@ -75,22 +74,22 @@ module _ (m m' : Store) (t : Table) (k : RoleMap) (top : ℕ) (areas : List Area
       safe c word x got =
           let both : Some w ≡ Some word = sym here ∙ (ap (slice_get m'.words) (sym (only_there c x)) ∙ got) in
           let same : w ≡ word = cc in
-          subst (λ (p : Parts). NamesUsed t p.content) same (value_names_used m t k top areas s aim on w.content v value)
+          subst (λ (p : Parts). NamesUsed t p.content) same (value_names_used m t it on w.content v value)
 
   -- the store, as the image has it
-  pub stores_at : w.cdr ≡ (word (ground_image m t) a).cdr → StoresAt (ground_image m t) m'.words k a v
+  pub stores_at : w.cdr ≡ (word (ground_image m t) a).cdr → StoresAt (ground_image m t) m'.words it.map a v
   stores_at code =
       let is : word (ground_image m' t) a ≡ w = get_or_here m'.words a w null_word here in
       record {
-        value_is = ap (λ (p : Parts). value_of k.role p.content) is ∙ value;
+        value_is = ap (λ (p : Parts). value_of it.map.role p.content) is ∙ value;
         code = ap (λ (p : Parts). p.cdr) is ∙ code;
         others = λ c ne. get_or_same m'.words m.words c null_word (writes.others c (λ x. ne (only_there c x)));
         marks = ground_marks m' t on.table named;
       }
 
   -- what the image keeps after it the ground keeps
-  pub stored_on : (s' : M.Store) → AfterWord (ground_image m t) (with_words (ground_image m t) m'.words) k top areas s s' aim → AfterStore m t m' k top areas s s' aim
+  pub stored_on : (s' : M.Store) → AfterWord (ground_image m t) (with_words (ground_image m t) m'.words) it s' → AfterStore m t m' it s'
   stored_on s' after = record {
-    kept = kept_on_after m m' t t k k top areas s s' aim aim on (record { regions = refl; top = refl; quotas = refl; kinds = refl }) on.table ground named after.kept;
+    kept = kept_on_after m m' t t it it.map s' it.aim on (record { regions = refl; top = refl; quotas = refl; kinds = refl }) on.table ground named after.kept;
     old = after.old;
   }

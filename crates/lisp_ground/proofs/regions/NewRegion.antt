@@ -4,7 +4,6 @@ use Rattle.std.specs.Prelude.{Contains}
 use Rattle.std.proofs.lemmas.Bool.{cases_eq}
 use Rattle.area_space.proofs.index_lists.ListUpdates.{Contains-push_back, Contains-push_new}
 use Rattle.area_space.specs.store_word.Words.{Parts, null_word}
-use Rattle.area_space.specs.lisp_graph.declared.world.AreaRule.{AreaRule}
 use Rattle.area_space.specs.lisp_graph.Totals.{if_true}
 use Rattle.area_space.specs.mem_port.Store.{Store}
 use Rattle.area_space.specs.Table.{Table, areas_of, levels_of, slot_of, live, chain, IsUnclassed}
@@ -12,14 +11,12 @@ use Rattle.area_space.specs.Sound.{IsTable}
 use Rattle.area_space.specs.Places.{opened}
 use Rattle.area_space.specs.Ground.{IsGround, NamesNoFree, with_level}
 use Rattle.area_space.proofs.NewRegions.{slot_below, chain_opened, chain_opened_other, contains_opened}
-use Rattle.lisp_meaning.specs.State.{Condemned}
-use Rattle.lisp_meaning.specs.State as M
 use Rattle.lisp_meaning.specs.Image.{Live, Region, no_region, region, is_free, used_words}
 use Rattle.lisp_meaning.specs.Classes.{Class, class_of, classes, of_class, old_of}
-use Rattle.lisp_meaning.specs.Roles.{RoleMap}
 use Rattle.lisp_meaning.specs.Placed.{Placed, Charged}
 use Rattle.lisp_ground.specs.Image.{no_rest, class_with, region_at, ground_image}
 use Rattle.lisp_ground.specs.GroundInvariant.{GroundInvariant}
+use Rattle.lisp_meaning.specs.Interpretation.{Interpretation}
 use Rattle.lisp_ground.proofs.regions.Owners.{class_has, class_free, free_class, has_class}
 use Rattle.lisp_ground.proofs.regions.Regions.{region_is, region_free, region_live, region_of_slot}
 use Rattle.lisp_ground.proofs.words.UsedWords.{is_used_as, used_where, used_words_changed, used_is}
@@ -132,14 +129,14 @@ module _ (s s' : Store) (t : Table) (r area level : ℕ)
   }
 
 -- the ground represents the same objects
-pub opened_kept_on : (s s' : Store) (t u : Table) (r area level : ℕ) (k : RoleMap) (top : ℕ) (areas : List AreaRule) (o : M.Store) (aim : Condemned)
-    → GroundInvariant s t k top areas o aim → area < areas_of t → level < levels_of t → IsUnclassed t r → u ≡ opened t (live (slot_of t area level)) r → s' ≡ with_level s r level
-    → IsTable u → IsGround s' u → NamesNoFree s' u → GroundInvariant s' u k top areas o aim
-opened_kept_on s s' t u r area level k top areas o aim on area_in low free is level_is w ground named =
+pub opened_kept_on : (s s' : Store) (t u : Table) (r area level : ℕ) (it : Interpretation)
+    → GroundInvariant s t it → area < areas_of t → level < levels_of t → IsUnclassed t r → u ≡ opened t (live (slot_of t area level)) r → s' ≡ with_level s r level
+    → IsTable u → IsGround s' u → NamesNoFree s' u → GroundInvariant s' u it
+opened_kept_on s s' t u r area level it on area_in low free is level_is w ground named =
     let w_there : IsTable (opened t (live (slot_of t area level)) r) = subst IsTable is w in
     let words : s'.words ≡ s.words = ap (λ (x : Store). x.words) level_is in
-    let there : GroundInvariant s' (opened t (live (slot_of t area level)) r) k top areas o aim =
-    kept_on_after s s' t (opened t (live (slot_of t area level)) r) k k top areas o o aim aim on (record { regions = refl; top = refl; quotas = refl; kinds = refl }) w_there (subst (IsGround s') is ground) (subst (NamesNoFree s') is named)
-    (kept_opened (ground_image s t) (ground_image s' (opened t (live (slot_of t area level)) r)) k top areas o aim on.kept (4096 * r) area level
+    let there : GroundInvariant s' (opened t (live (slot_of t area level)) r) it =
+    kept_on_after s s' t (opened t (live (slot_of t area level)) r) it it.map it.store it.aim on (record { regions = refl; top = refl; quotas = refl; kinds = refl }) w_there (subst (IsGround s') is ground) (subst (NamesNoFree s') is named)
+    (kept_opened (ground_image s t) (ground_image s' (opened t (live (slot_of t area level)) r)) it on.kept (4096 * r) area level
     (opened_placed s s' t r area level on.table w_there area_in low free words) (opened_charged s s' t r area level on.table w_there area_in low free words) (ground_marks s' (opened t (live (slot_of t area level)) r) w_there (subst (NamesNoFree s') is named))) in
-    subst (λ (x : Table). GroundInvariant s' x k top areas o aim) (sym is) there
+    subst (λ (x : Table). GroundInvariant s' x it) (sym is) there

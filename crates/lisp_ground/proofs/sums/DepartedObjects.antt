@@ -1,22 +1,20 @@
 -- What moves out of an old class is charged there.
-use Rattle.std.proofs.Common.{◌≡◌, ℕ, zero, suc, ◌+◌, ◌<◌, ◌≤◌, ◌⊎◌, inl, inr, Bool, true, false, ◌&&◌, ◌||◌, ◌==◌, nat_eq, List, length, refl, sym, ◌∙◌, ap, arith}
+use Rattle.std.proofs.Common.{◌≡◌, ℕ, zero, suc, ◌+◌, ◌<◌, ◌≤◌, ◌⊎◌, inl, inr, Bool, true, false, ◌&&◌, ◌||◌, ◌==◌, nat_eq, length, refl, sym, ◌∙◌, ap, arith}
 use Rattle.std.proofs.lemmas.Bool.{cases_Bool, eq-eqb, ne_eqb, eqb-true}
-use Rattle.area_space.specs.lisp_graph.declared.world.AreaRule.{AreaRule}
 use Rattle.area_space.specs.lisp_graph.Totals.{total, if_true}
 use Rattle.area_space.proofs.lisp_graph.Totals.{total-zero, total-suc, total-at, total-le, total-cong}
 use Rattle.area_space.specs.mem_port.Store.{Store}
 use Rattle.area_space.specs.Table.{Table}
 use Rattle.lisp_meaning.specs.Maps.{some_below}
-use Rattle.lisp_meaning.specs.State.{Condemned, in_use, is_held, object}
-use Rattle.lisp_meaning.specs.State as M
+use Rattle.lisp_meaning.specs.State.{in_use, is_held, object}
 use Rattle.lisp_meaning.specs.Image.{Image, Old}
 use Rattle.lisp_meaning.specs.Classes.{Class, classes, class_at, in_old_class}
 use Rattle.lisp_meaning.specs.ChargesIn.{charge_in}
-use Rattle.lisp_meaning.specs.Roles.{RoleMap}
 use Rattle.lisp_meaning.proofs.sums.Charges.{total-none}
 use Rattle.lisp_meaning.proofs.sums.SomeBelow.{some_below-which}
 use Rattle.lisp_ground.specs.Image.{ground_image}
 use Rattle.lisp_ground.specs.GroundInvariant.{GroundInvariant}
+use Rattle.lisp_meaning.specs.Interpretation.{Interpretation}
 
 -- A sum over some numbers, no two of them the same, is at most the sum over all
 
@@ -67,25 +65,25 @@ some_of_all f name n count one below =
 
 -- The objects in one class, from one address on, are charged there
 
-module _ (m : Store) (t : Table) (k : RoleMap) (top : ℕ) (areas : List AreaRule) (s : M.Store) (aim : Condemned) (on : GroundInvariant m t k top areas s aim) where
+module _ (m : Store) (t : Table) (it : Interpretation) (on : GroundInvariant m t it) where
   abbrev g : Image
   g = ground_image m t
 
-  pub standing_charged : (a count area level : ℕ) (name : ℕ → ℕ) → ((i : ℕ) → i < count → in_use s (name i)) → ((i : ℕ) → i < count → k.at (name i) ≡ a + i)
+  pub standing_charged : (a count area level : ℕ) (name : ℕ → ℕ) → ((i : ℕ) → i < count → in_use it.store (name i)) → ((i : ℕ) → i < count → it.map.at (name i) ≡ a + i)
       → ((i : ℕ) → i < count → class_at (classes g) (a + i) ≡ record { area = area; level = level; standing = Old })
-      → total (λ i. (object s (name i)).charge) count ≤ g.old_charge area level
+      → total (λ i. (object it.store (name i)).charge) count ≤ g.old_charge area level
   standing_charged a count area level name used place class =
-      let f : ℕ → ℕ = charge_in s k.at (classes g) (in_old_class area level) in
-      let sum = some_of_all (charge_in s k.at (classes g) (in_old_class area level)) name (length s.objects) count
-      (λ i j l q e. (let x = place i l in let y = place j q in let z = ap k.at e in omega arith)) (λ i l. on.kept.names (name i) (used i l)) in
-      let same = total-cong (λ i. charge_in s k.at (classes g) (in_old_class area level) (name i)) (λ i. (object s (name i)).charge) count (λ i l. here i l) in
+      let f : ℕ → ℕ = charge_in it.store it.map.at (classes g) (in_old_class area level) in
+      let sum = some_of_all (charge_in it.store it.map.at (classes g) (in_old_class area level)) name (length it.store.objects) count
+      (λ i j l q e. (let x = place i l in let y = place j q in let z = ap it.map.at e in omega arith)) (λ i l. on.kept.names (name i) (used i l)) in
+      let same = total-cong (λ i. charge_in it.store it.map.at (classes g) (in_old_class area level) (name i)) (λ i. (object it.store (name i)).charge) count (λ i l. here i l) in
       let all = on.kept.old_charges area level in
       omega arith
     where
-      here : (i : ℕ) → i < count → charge_in s k.at (classes g) (in_old_class area level) (name i) ≡ (object s (name i)).charge
+      here : (i : ℕ) → i < count → charge_in it.store it.map.at (classes g) (in_old_class area level) (name i) ≡ (object it.store (name i)).charge
       here i l =
-          let u : is_held s (name i) ≡ true = used i l in
-          let c : class_at (classes g) (k.at (name i)) ≡ record { area = area; level = level; standing = Old } = ap (class_at (classes g)) (place i l) ∙ class i l in
-          ap (λ (b : Bool). if_true (b && in_old_class area level (name i) (class_at (classes g) (k.at (name i)))) (object s (name i)).charge) u
-          ∙ (ap (λ (x : Class). if_true (in_old_class area level (name i) x) (object s (name i)).charge) c
-          ∙ ap (λ (b : Bool). if_true b (object s (name i)).charge) (ap (λ (b : Bool). b && nat_eq level level) (eq-eqb area area refl) ∙ eq-eqb level level refl))
+          let u : is_held it.store (name i) ≡ true = used i l in
+          let c : class_at (classes g) (it.map.at (name i)) ≡ record { area = area; level = level; standing = Old } = ap (class_at (classes g)) (place i l) ∙ class i l in
+          ap (λ (b : Bool). if_true (b && in_old_class area level (name i) (class_at (classes g) (it.map.at (name i)))) (object it.store (name i)).charge) u
+          ∙ (ap (λ (x : Class). if_true (in_old_class area level (name i) x) (object it.store (name i)).charge) c
+          ∙ ap (λ (b : Bool). if_true b (object it.store (name i)).charge) (ap (λ (b : Bool). b && nat_eq level level) (eq-eqb area area refl) ∙ eq-eqb level level refl))

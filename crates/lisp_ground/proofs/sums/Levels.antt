@@ -17,6 +17,7 @@ use Rattle.lisp_meaning.specs.Roles.{RoleMap}
 use Rattle.lisp_meaning.proofs.sums.Charges.{total-none, total-one, total-swap}
 use Rattle.lisp_ground.specs.Image.{region_at, no_rest, ground_image}
 use Rattle.lisp_ground.specs.GroundInvariant.{GroundInvariant}
+use Rattle.lisp_meaning.specs.Interpretation.{interpretation}
 use Rattle.lisp_ground.specs.Laws.{LevelTotalsOn}
 use Rattle.lisp_meaning.proofs.reading.Adequacy.{where_held}
 use Rattle.lisp_ground.proofs.sums.Accounts.{levels_agree, areas_agree}
@@ -25,7 +26,7 @@ use Rattle.lisp_ground.proofs.sums.Charges.{by_class_at}
 use Rattle.lisp_ground.proofs.regions.Owners.{region_cases}
 use Rattle.lisp_ground.proofs.regions.Regions.{region_is, region_free, region_live, region_old}
 
-module _ (m : Store) (t : Table) (k : RoleMap) (s : State) (on : GroundInvariant m t k s.space.levels s.areas s.store no_aim) (level : ℕ) (low : level < suc s.space.levels) where
+module _ (m : Store) (t : Table) (k : RoleMap) (s : State) (on : GroundInvariant m t (record (interpretation k s) { aim = no_aim })) (level : ℕ) (low : level < suc s.space.levels) where
   abbrev g : Image
   g = ground_image m t
 
@@ -41,18 +42,18 @@ module _ (m : Store) (t : Table) (k : RoleMap) (s : State) (on : GroundInvariant
 
       by_chain : IsUnclassed t (k.at n / 4096) ⊎ (IsLive t (k.at n / 4096) ⊎ IsOld t (k.at n / 4096)) → (object s.store n).area < length s.areas
       by_chain (inl free) =
-          let not : is_free (region g (k.at n)).standing ≡ false = (where_held g k s.space.levels s.areas s.store no_aim on.kept n u).2 in
+          let not : is_free (region g (k.at n)).standing ≡ false = (where_held g (record (interpretation k s) { aim = no_aim }) on.kept n u).2 in
           let yes : is_free (region g (k.at n)).standing ≡ true = ap (λ (x : Region). is_free x.standing) (region_is m t no_rest (k.at n / 4096) on.table ∙ region_free t (k.at n / 4096) free) in
           absurd (cc)
       by_chain (inr (inl l)) =
           let e = is _ (region_live t (k.at n / 4096) l.0 on.table l.1) in
           let a = area_inside l.0 (slot_inside t (live l.0) l.0 (k.at n / 4096) on.table (omega arith) l.1) in
-          let b = areas_agree m t k s.space.levels s.areas s.store no_aim on in
+          let b = areas_agree m t (record (interpretation k s) { aim = no_aim }) on in
           omega arith
       by_chain (inr (inr o)) =
           let e = is _ (region_old t (k.at n / 4096) o.0 on.table o.1) in
           let a = area_inside o.0 (slot_inside t (2 * o.0 + 1) o.0 (k.at n / 4096) on.table (omega arith) o.1) in
-          let b = areas_agree m t k s.space.levels s.areas s.store no_aim on in
+          let b = areas_agree m t (record (interpretation k s) { aim = no_aim }) on in
           omega arith
 
   -- over all areas a name counts once, at its level
@@ -83,14 +84,14 @@ module _ (m : Store) (t : Table) (k : RoleMap) (s : State) (on : GroundInvariant
 
   totals_agree : level_total t level ≡ M.level_total s level
   totals_agree =
-      ap (total (λ area. debt t (live (slot_of t area level)))) (areas_agree m t k s.space.levels s.areas s.store no_aim on)
+      ap (total (λ area. debt t (live (slot_of t area level)))) (areas_agree m t (record (interpretation k s) { aim = no_aim }) on)
       ∙ total-cong (λ area. debt t (live (slot_of t area level))) (λ area. charges_in s.store k.at (classes g) (in_class area level) + s.store.husks area level) (length s.areas) both
       ∙ total-add (λ area. charges_in s.store k.at (classes g) (in_class area level)) (λ area. s.store.husks area level) (length s.areas)
       ∙ ap (λ (x : ℕ). x + total (λ area. s.store.husks area level) (length s.areas)) charges_agree
     where
       both : (area : ℕ) → area < length s.areas → debt t (live (slot_of t area level)) ≡ charges_in s.store k.at (classes (ground_image m t)) (in_class area level) + s.store.husks area level
       both area l =
-          let levels = levels_agree m t k s.space.levels s.areas s.store no_aim on in
+          let levels = levels_agree m t (record (interpretation k s) { aim = no_aim }) on in
           let a = by_class_at t live t.charges area level (omega arith) in
           let b = by_class_at t live t.husks area level (omega arith) in
           let c = on.kept.live_charges area level in

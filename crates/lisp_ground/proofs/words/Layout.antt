@@ -3,7 +3,6 @@ use Rattle.std.proofs.Common.{◌≡◌, ◌≢◌, ℕ, ◌/◌, ◌%◌, ◌<�
 use Rattle.std.specs.Prelude.{Contains}
 use Rattle.std.proofs.lemmas.Bool.{cases_eq}
 use Rattle.area_space.specs.index_lists.Chains.{list_at}
-use Rattle.area_space.specs.lisp_graph.declared.world.AreaRule.{AreaRule}
 use Rattle.area_space.specs.mem_port.Store.{Store}
 use Rattle.area_space.specs.declared.classes.Origin.TheVariants.{New, Moved, Reserve}
 use Rattle.area_space.specs.Table.{Table, levels_of, slot_of, live, stale, used_of}
@@ -13,14 +12,14 @@ use Rattle.area_space.specs.Ground.{IsGround, NamesNoFree}
 use Rattle.area_space.proofs.UsedEnds.{end_region}
 use Rattle.area_space.proofs.GroundLaws.{ground_raised, named_again}
 use Rattle.area_space.proofs.NewRegions.{slot_below}
-use Rattle.lisp_meaning.specs.State.{Condemned}
 use Rattle.lisp_meaning.specs.State as M
-use Rattle.lisp_meaning.specs.Roles.{Kind, RoleMap}
+use Rattle.lisp_meaning.specs.Roles.{Kind}
 use Rattle.lisp_meaning.specs.After.{After}
 use Rattle.lisp_meaning.specs.Marks.{Marks}
 use Rattle.lisp_meaning.specs.Placed.{Placed, Charged, Rehomed, Recharged}
 use Rattle.lisp_ground.specs.Image.{ground_image}
 use Rattle.lisp_ground.specs.GroundInvariant.{GroundInvariant, NamesUsed}
+use Rattle.lisp_meaning.specs.Interpretation.{Interpretation}
 use Rattle.lisp_ground.specs.Writes.{Within}
 use Rattle.lisp_ground.specs.Laying.{Lays}
 use Rattle.lisp_ground.specs.After.{AfterOn}
@@ -70,11 +69,11 @@ module _ (m m' : Store) (t u : Table) (b count area level : ℕ) (v : IsTable t)
   laid_placed = placed_image m m' t u b count area level v l.sound l.level_in l.end x l.writes
 
 -- what the image keeps after it the ground keeps
-pub laid_on : (m m' : Store) (t u : Table) (b count area level : ℕ) (k : RoleMap) (top : ℕ) (areas : List AreaRule) (s s' : M.Store) (aim : Condemned) (moved : ℕ) (kind : Kind) (from names : ℕ) (name : ℕ → ℕ)
-    → GroundInvariant m t k top areas s aim → Lays m t m' u b count area level → Extends t u b count
-    → After (ground_image m t) (ground_image m' u) k top areas s s' aim moved kind from names name → AfterOn m t m' u k top areas s s' aim moved kind from names name
-laid_on m m' t u b count area level k top areas s s' aim moved kind from names name on l x after =
-    after_on m m' t u k top areas s s' aim moved kind from names name on x.form l.sound (laid_ground m m' t u b count area level on.table on.ground on.named l x) (laid_named m m' t u b count area level on.table on.ground on.named l x) after
+pub laid_on : (m m' : Store) (t u : Table) (b count area level : ℕ) (it : Interpretation) (s' : M.Store) (moved : ℕ) (kind : Kind) (from names : ℕ) (name : ℕ → ℕ)
+    → GroundInvariant m t it → Lays m t m' u b count area level → Extends t u b count
+    → After (ground_image m t) (ground_image m' u) it s' moved kind from names name → AfterOn m t m' u it s' moved kind from names name
+laid_on m m' t u b count area level it s' moved kind from names name on l x after =
+    after_on m m' t u it s' moved kind from names name on x.form l.sound (laid_ground m m' t u b count area level on.table on.ground on.named l x) (laid_named m m' t u b count area level on.table on.ground on.named l x) after
 
 -- The charges, by the commit
 

@@ -8,7 +8,6 @@ use Rattle.lisp_graph.specs.declared.object.Body.{Body}
 use Rattle.lisp_graph.specs.declared.object.Body.TheVariants.{Cons, Block}
 use Rattle.lisp_graph.specs.declared.object.Object.{Object}
 use Rattle.lisp_graph.specs.declared.object.Value.{Value}
-use Rattle.lisp_graph.specs.declared.world.AreaRule.{AreaRule}
 use Rattle.lisp_meaning.specs.machine.Charges.{account, charges, per_area}
 use Rattle.lisp_meaning.specs.invariants.ChargesIn.{charge_in, charges_in, spare_in, spares_in, is_cell, is_of_husk}
 use Rattle.lisp_meaning.specs.reading.Classes.{Class, class_at, is_old_at, region_of, in_class, in_old_class, classes}
@@ -18,6 +17,7 @@ use Rattle.lisp_meaning.specs.reading.Image.{Image, word, region, is_free, is_us
 use Rattle.lisp_meaning.specs.invariants.Invariant.{Covered, MemoryInvariant, MachineInvariant}
 use Rattle.lisp_meaning.specs.machine.Reach.{Closed}
 use Rattle.lisp_meaning.specs.invariants.Roles.{Kind, AsCons, AsBlock, Role, Blank, Scratch, RoleMap, names_as, as_ref, value_of, kind_of, car_of, cdr_of, field_of, Begins, PairHead, Cell, Head}
+use Rattle.lisp_meaning.specs.invariants.Interpretation.{Interpretation}
 use Rattle.lisp_meaning.specs.machine.State.{Store, State, Condemned, no_aim, object, is_held, in_use, survivor}
 use Rattle.lisp_meaning.specs.keeping.TableChanges.{free_class, cleared, TableFreed}
 use Rattle.lisp_graph.specs.store_word.Words.{Parts, null_word, address_of}
@@ -113,41 +113,41 @@ pub record Settled (g : Image) (k : RoleMap) (top : ℕ) (s s' : Store) (aim : C
   pub spared : (n level : ℕ) → s.held n ≡ Some level → aim.condemned n ≡ false → is_old_at (classes g) (k.at n) ≡ false → s'.held n ≡ Some level
   pub moved : (n level : ℕ) → s.held n ≡ Some level → aim.condemned n ≡ true → is_old_at (classes g) (k.at n) ≡ false → s'.held n ≡ Some (survivor top aim.what level)
 
-module _ (g g' : Image) (k : RoleMap) (top : ℕ) (areas : List AreaRule) (s s' : Store) (aim : Condemned) (h : MemoryInvariant g k top areas s aim) (t : TableFreed g g') (d : Settled g k top s s' aim)
-    (fresh : (a b : ℕ) (v : Value) → is_old_at (classes g) a ≡ false → value_of k.role (word g a).content ≡ Some v → address_of (word g a).content ≡ Some b → is_old_at (classes g) b ≡ false) where
-  object_same : (n : ℕ) → object s' n ≡ object s n
+module _ (g g' : Image) (it : Interpretation) (s' : Store) (h : MemoryInvariant g it) (t : TableFreed g g') (d : Settled g it.map it.top it.store s' it.aim)
+    (fresh : (a b : ℕ) (v : Value) → is_old_at (classes g) a ≡ false → value_of it.map.role (word g a).content ≡ Some v → address_of (word g a).content ≡ Some b → is_old_at (classes g) b ≡ false) where
+  object_same : (n : ℕ) → object s' n ≡ object it.store n
   object_same n = ap (λ (os : List Object). get_or os n no_object) d.objects
 
-  stays : (n : ℕ) → in_use s n → is_old_at (classes g) (k.at n) ≡ false → in_use s' n
-  stays n u e = go (s.held n) refl u (cases_Bool (aim.condemned n))
+  stays : (n : ℕ) → in_use it.store n → is_old_at (classes g) (it.map.at n) ≡ false → in_use s' n
+  stays n u e = go (it.store.held n) refl u (cases_Bool (it.aim.condemned n))
     where
-      go : (o : Option ℕ) → s.held n ≡ o → IsTrue (is_some o) → (aim.condemned n ≡ true) ⊎ (aim.condemned n ≡ false) → in_use s' n
+      go : (o : Option ℕ) → it.store.held n ≡ o → IsTrue (is_some o) → (it.aim.condemned n ≡ true) ⊎ (it.aim.condemned n ≡ false) → in_use s' n
       go None z u c = absurd (let x : false ≡ true = u in cc)
       go (Some l) z u (inl c) = ap is_some (d.moved n l z c e)
       go (Some l) z u (inr c) = ap is_some (d.spared n l z c e)
 
-  were : (n : ℕ) → in_use s' n → in_use s n × (is_old_at (classes g) (k.at n) ≡ false)
-  were n u = (held (s.held n) refl, live (cases_Bool (is_old_at (classes g) (k.at n))))
+  were : (n : ℕ) → in_use s' n → in_use it.store n × (is_old_at (classes g) (it.map.at n) ≡ false)
+  were n u = (held (it.store.held n) refl, live (cases_Bool (is_old_at (classes g) (it.map.at n))))
     where
-      held : (o : Option ℕ) → s.held n ≡ o → in_use s n
+      held : (o : Option ℕ) → it.store.held n ≡ o → in_use it.store n
       held None z = let x = ap is_some (d.unheld n z) in let y : is_some (s'.held n) ≡ true = u in cc
       held (Some l) z = ap is_some z
 
-      live : (is_old_at (classes g) (k.at n) ≡ true) ⊎ (is_old_at (classes g) (k.at n) ≡ false) → is_old_at (classes g) (k.at n) ≡ false
+      live : (is_old_at (classes g) (it.map.at n) ≡ true) ⊎ (is_old_at (classes g) (it.map.at n) ≡ false) → is_old_at (classes g) (it.map.at n) ≡ false
       live (inl z) = let x = ap is_some (d.gone n z) in let y : is_some (s'.held n) ≡ true = u in cc
       live (inr z) = z
 
-  roled : Roled (word g') (classes g') (dropped (classes g) k) s'
+  roled : Roled (word g') (classes g') (dropped (classes g) it.map) s'
   roled =
-      let P : (ℕ → Parts) → Type 0 = λ W. Roled W (classes g') (dropped (classes g) k) s' in
-      let Q : (ℕ → Class) → Type 0 = λ C. Roled (cleared (classes g) (word g)) C (dropped (classes g) k) s' in
-      subst P (λ i a. sym (t.words a) i) (subst Q (λ i r. sym (t.classes_free r) i) (drop (word g) (classes g) k s s' h.roled fresh object_same stays were))
+      let P : (ℕ → Parts) → Type 0 = λ W. Roled W (classes g') (dropped (classes g) it.map) s' in
+      let Q : (ℕ → Class) → Type 0 = λ C. Roled (cleared (classes g) (word g)) C (dropped (classes g) it.map) s' in
+      subst P (λ i a. sym (t.words a) i) (subst Q (λ i r. sym (t.classes_free r) i) (drop (word g) (classes g) it.map it.store s' h.roled fresh object_same stays were))
 
-  role_stays : (a : ℕ) → is_old_at (classes g) a ≡ false → (dropped (classes g) k).role a ≡ k.role a
-  role_stays a e = ap (λ (b : Bool). if b then Blank else k.role a) e
+  role_stays : (a : ℕ) → is_old_at (classes g) a ≡ false → (dropped (classes g) it.map).role a ≡ it.map.role a
+  role_stays a e = ap (λ (b : Bool). if b then Blank else it.map.role a) e
 
-  role_gone : (a : ℕ) → is_old_at (classes g) a ≡ true → (dropped (classes g) k).role a ≡ Blank
-  role_gone a e = ap (λ (b : Bool). if b then Blank else k.role a) e
+  role_gone : (a : ℕ) → is_old_at (classes g) a ≡ true → (dropped (classes g) it.map).role a ≡ Blank
+  role_gone a e = ap (λ (b : Bool). if b then Blank else it.map.role a) e
 
   class_stays : (a : ℕ) → is_old_at (classes g) a ≡ false → class_at (classes g') a ≡ class_at (classes g) a
   class_stays a e = t.classes_free (region_of a) ∙ ap (λ (b : Bool). if b then free_class else class_at (classes g) a) e
@@ -155,7 +155,7 @@ module _ (g g' : Image) (k : RoleMap) (top : ℕ) (areas : List AreaRule) (s s' 
   class_gone : (a : ℕ) → is_old_at (classes g) a ≡ true → class_at (classes g') a ≡ free_class
   class_gone a e = t.classes_free (region_of a) ∙ ap (λ (b : Bool). if b then free_class else class_at (classes g) a) e
 
-  covered : Covered g' (dropped (classes g) k)
+  covered : Covered g' (dropped (classes g) it.map)
   covered = record {
     used = λ a u e. used a u e (cases_Bool (is_old_at (classes g) a));
     unused = λ a u. unused a u (cases_Bool (is_old_at (classes g) a));
@@ -163,55 +163,55 @@ module _ (g g' : Image) (k : RoleMap) (top : ℕ) (areas : List AreaRule) (s s' 
     done = λ a e. done a e (cases_Bool (is_old_at (classes g) a));
   }
     where
-      used : (a : ℕ) → IsTrue (is_used g' a) → (dropped (classes g) k).role a ≡ Blank → (is_old_at (classes g) a ≡ true) ⊎ (is_old_at (classes g) a ≡ false) → ⊥
+      used : (a : ℕ) → IsTrue (is_used g' a) → (dropped (classes g) it.map).role a ≡ Blank → (is_old_at (classes g) a ≡ true) ⊎ (is_old_at (classes g) a ≡ false) → ⊥
       used a u e (inl o) = let x = t.used_old a o in let y : is_used g' a ≡ true = u in cc
       used a u e (inr o) = h.covered.used a (sym (t.used_live a o) ∙ u) (sym (role_stays a o) ∙ e)
 
-      unused : (a : ℕ) → is_used g' a ≡ false → (is_old_at (classes g) a ≡ true) ⊎ (is_old_at (classes g) a ≡ false) → (dropped (classes g) k).role a ≡ Blank
+      unused : (a : ℕ) → is_used g' a ≡ false → (is_old_at (classes g) a ≡ true) ⊎ (is_old_at (classes g) a ≡ false) → (dropped (classes g) it.map).role a ≡ Blank
       unused a u (inl o) = role_gone a o
       unused a u (inr o) = role_stays a o ∙ h.covered.unused a (sym (t.used_live a o) ∙ u)
 
-      free : (a : ℕ) → is_free (region g' a).standing ≡ true → (is_old_at (classes g) a ≡ true) ⊎ (is_old_at (classes g) a ≡ false) → (dropped (classes g) k).role a ≡ Blank
+      free : (a : ℕ) → is_free (region g' a).standing ≡ true → (is_old_at (classes g) a ≡ true) ⊎ (is_old_at (classes g) a ≡ false) → (dropped (classes g) it.map).role a ≡ Blank
       free a u (inl o) = role_gone a o
       free a u (inr o) = role_stays a o ∙ h.covered.free a (sym (ap (λ (c : Class). is_free c.standing) (class_stays a o)) ∙ u)
 
-      done : (a : ℕ) → (dropped (classes g) k).role a ≡ Scratch → (is_old_at (classes g) a ≡ true) ⊎ (is_old_at (classes g) a ≡ false) → ⊥
+      done : (a : ℕ) → (dropped (classes g) it.map).role a ≡ Scratch → (is_old_at (classes g) a ≡ true) ⊎ (is_old_at (classes g) a ≡ false) → ⊥
       done a e (inl o) = let x = role_gone a o in cc
       done a e (inr o) = h.covered.done a (sym (role_stays a o) ∙ e)
 
   -- the level that a name is held at is that of its place
-  level_now : (n l : ℕ) → s'.held n ≡ Some l → ((region g' (k.at n)).standing ≡ Live) × ((region g' (k.at n)).level ≡ l)
-  level_now n l e = go (s.held n) refl (cases_Bool (aim.condemned n))
+  level_now : (n l : ℕ) → s'.held n ≡ Some l → ((region g' (it.map.at n)).standing ≡ Live) × ((region g' (it.map.at n)).level ≡ l)
+  level_now n l e = go (it.store.held n) refl (cases_Bool (it.aim.condemned n))
     where
-      q : in_use s n × (is_old_at (classes g) (k.at n) ≡ false)
+      q : in_use it.store n × (is_old_at (classes g) (it.map.at n) ≡ false)
       q = were n (ap is_some e)
 
-      r : class_at (classes g') (k.at n) ≡ class_at (classes g) (k.at n)
-      r = class_stays (k.at n) q.1
+      r : class_at (classes g') (it.map.at n) ≡ class_at (classes g) (it.map.at n)
+      r = class_stays (it.map.at n) q.1
 
-      give : (l0 : ℕ) → (region g (k.at n)).standing ≡ Live → (region g (k.at n)).level ≡ l0 → s'.held n ≡ Some l0 → ((region g' (k.at n)).standing ≡ Live) × ((region g' (k.at n)).level ≡ l)
+      give : (l0 : ℕ) → (region g (it.map.at n)).standing ≡ Live → (region g (it.map.at n)).level ≡ l0 → s'.held n ≡ Some l0 → ((region g' (it.map.at n)).standing ≡ Live) × ((region g' (it.map.at n)).level ≡ l)
       give l0 x y z = (ap (λ (c : Class). c.standing) r ∙ x, ap (λ (c : Class). c.level) r ∙ y ∙ (let v : Some l0 ≡ Some l = sym z ∙ e in let u : l0 ≡ l = cc in u))
 
-      go : (o : Option ℕ) → s.held n ≡ o → (aim.condemned n ≡ true) ⊎ (aim.condemned n ≡ false) → ((region g' (k.at n)).standing ≡ Live) × ((region g' (k.at n)).level ≡ l)
+      go : (o : Option ℕ) → it.store.held n ≡ o → (it.aim.condemned n ≡ true) ⊎ (it.aim.condemned n ≡ false) → ((region g' (it.map.at n)).standing ≡ Live) × ((region g' (it.map.at n)).level ≡ l)
       go None z c = let x = d.unheld n z in cc
       go (Some l0) z (inr c) = let x = h.classes_of.spared n l0 z c in give l0 x.0 x.1 (d.spared n l0 z c q.1)
       go (Some l0) z (inl c) = doomed (h.classes_of.doomed n l0 z c)
         where
-          doomed : (((region g (k.at n)).standing ≡ Old) × ((region g (k.at n)).level ≡ l0)) ⊎ (((region g (k.at n)).standing ≡ Live) × ((region g (k.at n)).level ≡ survivor top aim.what l0) × (aim.bound n ≡ true))
-              → ((region g' (k.at n)).standing ≡ Live) × ((region g' (k.at n)).level ≡ l)
+          doomed : (((region g (it.map.at n)).standing ≡ Old) × ((region g (it.map.at n)).level ≡ l0)) ⊎ (((region g (it.map.at n)).standing ≡ Live) × ((region g (it.map.at n)).level ≡ survivor it.top it.aim.what l0) × (it.aim.bound n ≡ true))
+              → ((region g' (it.map.at n)).standing ≡ Live) × ((region g' (it.map.at n)).level ≡ l)
           doomed (inl x) = let y = ap is_old x.0 in let v = q.1 in cc
-          doomed (inr x) = give (survivor top aim.what l0) x.0 x.1 (d.moved n l0 z c q.1)
+          doomed (inr x) = give (survivor it.top it.aim.what l0) x.0 x.1 (d.moved n l0 z c q.1)
 
-  held_now : (n : ℕ) → is_old_at (classes g) (k.at n) ≡ false → is_held s' n ≡ is_held s n
-  held_now n e = go (cases_Bool (is_held s n)) (cases_Bool (is_held s' n))
+  held_now : (n : ℕ) → is_old_at (classes g) (it.map.at n) ≡ false → is_held s' n ≡ is_held it.store n
+  held_now n e = go (cases_Bool (is_held it.store n)) (cases_Bool (is_held s' n))
     where
-      go : (is_held s n ≡ true) ⊎ (is_held s n ≡ false) → (is_held s' n ≡ true) ⊎ (is_held s' n ≡ false) → is_held s' n ≡ is_held s n
+      go : (is_held it.store n ≡ true) ⊎ (is_held it.store n ≡ false) → (is_held s' n ≡ true) ⊎ (is_held s' n ≡ false) → is_held s' n ≡ is_held it.store n
       go (inl u) v = stays n u e ∙ sym u
-      go (inr u) (inl v) = v ∙ sym (let y : is_held s n ≡ true = (were n v).0 in y)
+      go (inr u) (inl v) = v ∙ sym (let y : is_held it.store n ≡ true = (were n v).0 in y)
       go (inr u) (inr v) = v ∙ sym u
 
-  live_same : (x y n : ℕ) → (is_held s' n && in_class x y n (class_at (classes g') (k.at n))) ≡ (is_held s n && in_class x y n (class_at (classes g) (k.at n)))
-  live_same x y n = go (cases_Bool (is_old_at (classes g) (k.at n)))
+  live_same : (x y n : ℕ) → (is_held s' n && in_class x y n (class_at (classes g') (it.map.at n))) ≡ (is_held it.store n && in_class x y n (class_at (classes g) (it.map.at n)))
+  live_same x y n = go (cases_Bool (is_old_at (classes g) (it.map.at n)))
     where
       no_more : (b : Bool) → (b && false) ≡ false
       no_more true = refl
@@ -222,29 +222,29 @@ module _ (g g' : Image) (k : RoleMap) (top : ℕ) (areas : List AreaRule) (s s' 
       old_not Live b e = cc
       old_not Free b e = cc
 
-      go : (is_old_at (classes g) (k.at n) ≡ true) ⊎ (is_old_at (classes g) (k.at n) ≡ false) → (is_held s' n && in_class x y n (class_at (classes g') (k.at n))) ≡ (is_held s n && in_class x y n (class_at (classes g) (k.at n)))
-      go (inr e) = ap (λ (b : Bool). b && in_class x y n (class_at (classes g') (k.at n))) (held_now n e) ∙ ap (λ (c : Class). is_held s n && in_class x y n c) (class_stays (k.at n) e)
+      go : (is_old_at (classes g) (it.map.at n) ≡ true) ⊎ (is_old_at (classes g) (it.map.at n) ≡ false) → (is_held s' n && in_class x y n (class_at (classes g') (it.map.at n))) ≡ (is_held it.store n && in_class x y n (class_at (classes g) (it.map.at n)))
+      go (inr e) = ap (λ (b : Bool). b && in_class x y n (class_at (classes g') (it.map.at n))) (held_now n e) ∙ ap (λ (c : Class). is_held it.store n && in_class x y n c) (class_stays (it.map.at n) e)
       go (inl e) =
-          ap (λ (c : Class). is_held s' n && in_class x y n c) (class_gone (k.at n) e) ∙ no_more (is_held s' n)
-          ∙ sym (ap (λ (b : Bool). is_held s n && b) (old_not (class_at (classes g) (k.at n)).standing (nat_eq (class_at (classes g) (k.at n)).area x && nat_eq (class_at (classes g) (k.at n)).level y) e) ∙ no_more (is_held s n))
+          ap (λ (c : Class). is_held s' n && in_class x y n c) (class_gone (it.map.at n) e) ∙ no_more (is_held s' n)
+          ∙ sym (ap (λ (b : Bool). is_held it.store n && b) (old_not (class_at (classes g) (it.map.at n)).standing (nat_eq (class_at (classes g) (it.map.at n)).area x && nat_eq (class_at (classes g) (it.map.at n)).level y) e) ∙ no_more (is_held it.store n))
 
-  live_sum : (x y : ℕ) → charges_in s' k.at (classes g') (in_class x y) ≡ charges_in s k.at (classes g) (in_class x y)
-  live_sum x y = charges_same s s' k.at k.at (classes g) (classes g') (in_class x y) (in_class x y) (ap (λ (os : List Object). length os) d.objects) object_same (live_same x y)
+  live_sum : (x y : ℕ) → charges_in s' it.map.at (classes g') (in_class x y) ≡ charges_in it.store it.map.at (classes g) (in_class x y)
+  live_sum x y = charges_same it.store s' it.map.at it.map.at (classes g) (classes g') (in_class x y) (in_class x y) (ap (λ (os : List Object). length os) d.objects) object_same (live_same x y)
 
-  old_sum : (x y : ℕ) → charges_in s' k.at (classes g') (in_old_class x y) ≡ 0
-  old_sum x y = total-none (charge_in s' k.at (classes g') (in_old_class x y)) (length s'.objects) (λ n l. go n (s'.held n) refl)
+  old_sum : (x y : ℕ) → charges_in s' it.map.at (classes g') (in_old_class x y) ≡ 0
+  old_sum x y = total-none (charge_in s' it.map.at (classes g') (in_old_class x y)) (length s'.objects) (λ n l. go n (s'.held n) refl)
     where
-      go : (n : ℕ) (o : Option ℕ) → s'.held n ≡ o → charge_in s' k.at (classes g') (in_old_class x y) n ≡ 0
-      go n None e = ap (λ (q : Option ℕ). if_true (is_some q && in_old_class x y n (class_at (classes g') (k.at n))) (object s' n).charge) e
+      go : (n : ℕ) (o : Option ℕ) → s'.held n ≡ o → charge_in s' it.map.at (classes g') (in_old_class x y) n ≡ 0
+      go n None e = ap (λ (q : Option ℕ). if_true (is_some q && in_old_class x y n (class_at (classes g') (it.map.at n))) (object s' n).charge) e
       go n (Some l0) e =
           let v = (level_now n l0 e).0 in
-          ap (λ (q : Option ℕ). if_true (is_some q && in_old_class x y n (class_at (classes g') (k.at n))) (object s' n).charge) e
-          ∙ ap (λ (q : Standing). if_true (is_old q && (nat_eq (class_at (classes g') (k.at n)).area x && nat_eq (class_at (classes g') (k.at n)).level y)) (object s' n).charge) v
+          ap (λ (q : Option ℕ). if_true (is_some q && in_old_class x y n (class_at (classes g') (it.map.at n))) (object s' n).charge) e
+          ∙ ap (λ (q : Standing). if_true (is_old q && (nat_eq (class_at (classes g') (it.map.at n)).area x && nat_eq (class_at (classes g') (it.map.at n)).level y)) (object s' n).charge) v
 
-  spares_same : (x y : ℕ) → spares_in s' (dropped (classes g) k) (classes g') (in_class x y) ≡ spares_in s k (classes g) (in_class x y)
+  spares_same : (x y : ℕ) → spares_in s' (dropped (classes g) it.map) (classes g') (in_class x y) ≡ spares_in it.store it.map (classes g) (in_class x y)
   spares_same x y =
-      ap (total (spare_in s' (dropped (classes g) k) (classes g') (in_class x y))) (ap (λ (os : List Object). length os) d.objects)
-      ∙ total-cong (spare_in s' (dropped (classes g) k) (classes g') (in_class x y)) (spare_in s k (classes g) (in_class x y)) (length s.objects) (λ n l. go n (cases_Bool (is_old_at (classes g) (k.at n))))
+      ap (total (spare_in s' (dropped (classes g) it.map) (classes g') (in_class x y))) (ap (λ (os : List Object). length os) d.objects)
+      ∙ total-cong (spare_in s' (dropped (classes g) it.map) (classes g') (in_class x y)) (spare_in it.store it.map (classes g) (in_class x y)) (length it.store.objects) (λ n l. go n (cases_Bool (is_old_at (classes g) (it.map.at n))))
     where
       assoc : (a b c : Bool) → (a && (b && c)) ≡ ((a && b) && c)
       assoc true b c = refl
@@ -258,43 +258,43 @@ module _ (g g' : Image) (k : RoleMap) (top : ℕ) (areas : List AreaRule) (s s' 
       no_more true = refl
       no_more false = refl
 
-      go : (n : ℕ) → (is_old_at (classes g) (k.at n) ≡ true) ⊎ (is_old_at (classes g) (k.at n) ≡ false) → spare_in s' (dropped (classes g) k) (classes g') (in_class x y) n ≡ spare_in s k (classes g) (in_class x y) n
+      go : (n : ℕ) → (is_old_at (classes g) (it.map.at n) ≡ true) ⊎ (is_old_at (classes g) (it.map.at n) ≡ false) → spare_in s' (dropped (classes g) it.map) (classes g') (in_class x y) n ≡ spare_in it.store it.map (classes g) (in_class x y) n
       go n (inr e) =
-          ap (λ (b : Bool). if_true b 2) (assoc (is_held s' n) (in_class x y n (class_at (classes g') (k.at n))) (is_cell ((dropped (classes g) k).role (k.at n))))
-          ∙ ap (λ (b : Bool). if_true (b && is_cell ((dropped (classes g) k).role (k.at n))) 2) (live_same x y n)
-          ∙ ap (λ (r : Role). if_true ((is_held s n && in_class x y n (class_at (classes g) (k.at n))) && is_cell r) 2) (role_stays (k.at n) e)
-          ∙ sym (ap (λ (b : Bool). if_true b 2) (assoc (is_held s n) (in_class x y n (class_at (classes g) (k.at n))) (is_cell (k.role (k.at n)))))
+          ap (λ (b : Bool). if_true b 2) (assoc (is_held s' n) (in_class x y n (class_at (classes g') (it.map.at n))) (is_cell ((dropped (classes g) it.map).role (it.map.at n))))
+          ∙ ap (λ (b : Bool). if_true (b && is_cell ((dropped (classes g) it.map).role (it.map.at n))) 2) (live_same x y n)
+          ∙ ap (λ (r : Role). if_true ((is_held it.store n && in_class x y n (class_at (classes g) (it.map.at n))) && is_cell r) 2) (role_stays (it.map.at n) e)
+          ∙ sym (ap (λ (b : Bool). if_true b 2) (assoc (is_held it.store n) (in_class x y n (class_at (classes g) (it.map.at n))) (is_cell (it.map.role (it.map.at n)))))
       go n (inl e) =
-          let dead : (is_held s' n && in_class x y n (class_at (classes g') (k.at n))) ≡ false = ap (λ (c : Class). is_held s' n && in_class x y n c) (class_gone (k.at n) e) ∙ no_more (is_held s' n) in
-          ap (λ (b : Bool). if_true b 2) (assoc (is_held s' n) (in_class x y n (class_at (classes g') (k.at n))) (is_cell ((dropped (classes g) k).role (k.at n))))
-          ∙ ap (λ (b : Bool). if_true b 2) (no_cell (is_held s' n && in_class x y n (class_at (classes g') (k.at n))) (is_cell ((dropped (classes g) k).role (k.at n))) (is_cell (k.role (k.at n))) dead)
-          ∙ ap (λ (b : Bool). if_true (b && is_cell (k.role (k.at n))) 2) (live_same x y n)
-          ∙ sym (ap (λ (b : Bool). if_true b 2) (assoc (is_held s n) (in_class x y n (class_at (classes g) (k.at n))) (is_cell (k.role (k.at n)))))
+          let dead : (is_held s' n && in_class x y n (class_at (classes g') (it.map.at n))) ≡ false = ap (λ (c : Class). is_held s' n && in_class x y n c) (class_gone (it.map.at n) e) ∙ no_more (is_held s' n) in
+          ap (λ (b : Bool). if_true b 2) (assoc (is_held s' n) (in_class x y n (class_at (classes g') (it.map.at n))) (is_cell ((dropped (classes g) it.map).role (it.map.at n))))
+          ∙ ap (λ (b : Bool). if_true b 2) (no_cell (is_held s' n && in_class x y n (class_at (classes g') (it.map.at n))) (is_cell ((dropped (classes g) it.map).role (it.map.at n))) (is_cell (it.map.role (it.map.at n))) dead)
+          ∙ ap (λ (b : Bool). if_true (b && is_cell (it.map.role (it.map.at n))) 2) (live_same x y n)
+          ∙ sym (ap (λ (b : Bool). if_true b 2) (assoc (is_held it.store n) (in_class x y n (class_at (classes g) (it.map.at n))) (is_cell (it.map.role (it.map.at n)))))
 
-  account_less : (a : ℕ) → account top s' no_aim a ≤ account top s aim a
+  account_less : (a : ℕ) → account it.top s' no_aim a ≤ account it.top it.store it.aim a
   account_less a =
-      let x = total-cong (s'.husks a) (s.husks a) (suc top) (λ l q. d.husks a l) in
-      let y : charges s' (λ n. is_held s' n && per_area s' a n) ≡ total (λ n. if_true (is_held s' n && per_area s a n) (object s n).charge) (length s.objects) =
+      let x = total-cong (s'.husks a) (it.store.husks a) (suc it.top) (λ l q. d.husks a l) in
+      let y : charges s' (λ n. is_held s' n && per_area s' a n) ≡ total (λ n. if_true (is_held s' n && per_area it.store a n) (object it.store n).charge) (length it.store.objects) =
       ap (total (λ n. if_true (is_held s' n && per_area s' a n) (object s' n).charge)) (ap (λ (os : List Object). length os) d.objects)
-      ∙ total-cong (λ n. if_true (is_held s' n && per_area s' a n) (object s' n).charge) (λ n. if_true (is_held s' n && per_area s a n) (object s n).charge) (length s.objects)
+      ∙ total-cong (λ n. if_true (is_held s' n && per_area s' a n) (object s' n).charge) (λ n. if_true (is_held s' n && per_area it.store a n) (object it.store n).charge) (length it.store.objects)
       (λ n l. ap (λ (o : Object). if_true (is_held s' n && nat_eq o.area a) o.charge) (object_same n)) in
-      let z = total-le (λ n. if_true (is_held s' n && per_area s a n) (object s n).charge) (λ n. if_true (is_held s n && per_area s a n) (object s n).charge) (length s.objects)
+      let z = total-le (λ n. if_true (is_held s' n && per_area it.store a n) (object it.store n).charge) (λ n. if_true (is_held it.store n && per_area it.store a n) (object it.store n).charge) (length it.store.objects)
       (λ n l. less n (cases_Bool (is_held s' n))) in
       omega arith
     where
-      less : (n : ℕ) → (is_held s' n ≡ true) ⊎ (is_held s' n ≡ false) → if_true (is_held s' n && per_area s a n) (object s n).charge ≤ if_true (is_held s n && per_area s a n) (object s n).charge
-      less n (inl u) = let e : is_held s' n ≡ is_held s n = u ∙ sym (let v : is_held s n ≡ true = (were n u).0 in v) in let q = ap (λ (b : Bool). if_true (b && per_area s a n) (object s n).charge) e in omega arith
-      less n (inr u) = let q = ap (λ (b : Bool). if_true (b && per_area s a n) (object s n).charge) u in omega arith
+      less : (n : ℕ) → (is_held s' n ≡ true) ⊎ (is_held s' n ≡ false) → if_true (is_held s' n && per_area it.store a n) (object it.store n).charge ≤ if_true (is_held it.store n && per_area it.store a n) (object it.store n).charge
+      less n (inl u) = let e : is_held s' n ≡ is_held it.store n = u ∙ sym (let v : is_held it.store n ≡ true = (were n u).0 in v) in let q = ap (λ (b : Bool). if_true (b && per_area it.store a n) (object it.store n).charge) e in omega arith
+      less n (inr u) = let q = ap (λ (b : Bool). if_true (b && per_area it.store a n) (object it.store n).charge) u in omega arith
 
-  no_new : NoNewHusks (classes g) (classes g') k (dropped (classes g) k)
+  no_new : NoNewHusks (classes g) (classes g') it.map (dropped (classes g) it.map)
   no_new = record { was = λ a e l. was a e (cases_Bool (is_old_at (classes g) a)) }
     where
-      was : (a : ℕ) → is_of_husk ((dropped (classes g) k).role a) ≡ true → (is_old_at (classes g) a ≡ true) ⊎ (is_old_at (classes g) a ≡ false)
-          → (is_of_husk (k.role a) ≡ true) × (class_at (classes g') a ≡ class_at (classes g) a)
+      was : (a : ℕ) → is_of_husk ((dropped (classes g) it.map).role a) ≡ true → (is_old_at (classes g) a ≡ true) ⊎ (is_old_at (classes g) a ≡ false)
+          → (is_of_husk (it.map.role a) ≡ true) × (class_at (classes g') a ≡ class_at (classes g) a)
       was a e (inl o) = let x = ap is_of_husk (role_gone a o) in cc
       was a e (inr o) = (ap is_of_husk (sym (role_stays a o)) ∙ e, class_stays a o)
 
-  pub kept_reclaimed : MemoryInvariant g' (dropped (classes g) k) top areas s' no_aim
+  pub kept_reclaimed : MemoryInvariant g' (record it { map = dropped (classes g) it.map; store = s'; aim = no_aim })
   kept_reclaimed = record {
     roled = roled;
     covered = covered;
@@ -302,18 +302,18 @@ module _ (g g' : Image) (k : RoleMap) (top : ℕ) (areas : List AreaRule) (s s' 
     condemned = λ n e. (let x : false ≡ true = e in cc);
     bound = λ n e. (let x : false ≡ true = e in cc);
     classes_of = record {
-      area = λ n u. (let q = were n u in ap (λ (c : Class). c.area) (class_stays (k.at n) q.1) ∙ h.classes_of.area n q.0 ∙ sym (ap (λ (o : Object). o.area) (object_same n)));
+      area = λ n u. (let q = were n u in ap (λ (c : Class). c.area) (class_stays (it.map.at n) q.1) ∙ h.classes_of.area n q.0 ∙ sym (ap (λ (o : Object). o.area) (object_same n)));
       spared = λ n l e x. level_now n l e;
       doomed = λ n l e x. cc;
     };
-    levels = λ n u. (let q = were n u in let r = ap (λ (c : Class). c.level) (class_stays (k.at n) q.1) in let x = h.levels n q.0 in omega arith);
+    levels = λ n u. (let q = were n u in let r = ap (λ (c : Class). c.level) (class_stays (it.map.at n) q.1) in let x = h.levels n q.0 in omega arith);
     live_charges = λ x y. t.live_charge x y ∙ h.live_charges x y ∙ sym (live_sum x y);
     old_charges = λ x y. t.old_charge x y ∙ sym (old_sum x y);
     live_husks = λ x y. t.live_husks x y ∙ h.live_husks x y ∙ sym (d.husks x y);
-    old_husks = λ x. total-none (g'.old_husks x) (suc top) (λ y l. t.old_husks x y);
+    old_husks = λ x. total-none (g'.old_husks x) (suc it.top) (λ y l. t.old_husks x y);
     quota = λ a l. (let x = h.quota a l in let y = account_less a in omega arith);
     room_live = λ x y. (let a = h.room_live x y in let b = t.live_words x y in let c = t.live_charge x y in let e = t.live_husks x y in let q = spares_same x y in omega arith);
-    room_husks = λ x y i. (let a = husks_stay (classes g) (classes g') k (dropped (classes g) k) no_new x y i in let b = h.room_husks x y i in let c = t.live_husks x y in omega arith);
+    room_husks = λ x y i. (let a = husks_stay (classes g) (classes g') it.map (dropped (classes g) it.map) no_new x y i in let b = h.room_husks x y i in let c = t.live_husks x y in omega arith);
     room_old = λ x. (let a = t.old_words x in omega arith);
     chains = t.chains;
     marks = t.marks;

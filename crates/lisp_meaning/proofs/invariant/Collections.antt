@@ -24,6 +24,7 @@ use Rattle.lisp_meaning.specs.invariants.Roles.{AsCons, AsBlock, Role, Blank, na
 use Rattle.lisp_meaning.specs.invariants.Fits.{Fits}
 use Rattle.lisp_meaning.specs.reading.Stands.{IsScanned, PhaseOf, Work}
 use Rattle.lisp_meaning.specs.invariants.Invariant.{MemoryInvariant, MachineInvariant}
+use Rattle.lisp_meaning.specs.invariants.Interpretation.{Interpretation, interpretation}
 use Rattle.lisp_meaning.specs.keeping.TableChanges.{TableFlipped, freed, free_class, TableFreed, condemned_classes}
 use Rattle.lisp_meaning.specs.keeping.Collecting.{InvariantIsSound, Flipped, Reclaimed}
 use Rattle.lisp_meaning.proofs.sums.Charges.{total-none}
@@ -84,31 +85,31 @@ gone_sum areas s top what x = go (is_static (rule_of areas x).kind)
     go true = sym (total-none (λ y. 0) (suc top) (λ m l. refl))
     go false = refl
 
-module _ (g : Image) (k : RoleMap) (top : ℕ) (areas : List AreaRule) (s : Store) (h : MemoryInvariant g k top areas s no_aim) (what : Condemn) where
+module _ (g : Image) (it : Interpretation) (h : MemoryInvariant g (record it { aim = no_aim })) (what : Condemn) where
   -- a name is condemned if and only if its class is
-  condemned_there : (n : ℕ) → condemned_by areas s what n ≡ (is_held s n && condemned_classes areas what (class_at (classes g) (k.at n)).area (class_at (classes g) (k.at n)).level)
-  condemned_there n = go (s.held n) refl
+  condemned_there : (n : ℕ) → condemned_by it.areas it.store what n ≡ (is_held it.store n && condemned_classes it.areas what (class_at (classes g) (it.map.at n)).area (class_at (classes g) (it.map.at n)).level)
+  condemned_there n = go (it.store.held n) refl
     where
       none : (b : Bool) → (b && false) ≡ false
       none true = refl
       none false = refl
 
-      go : (o : Option ℕ) → s.held n ≡ o → condemned_by areas s what n ≡ (is_held s n && condemned_classes areas what (class_at (classes g) (k.at n)).area (class_at (classes g) (k.at n)).level)
+      go : (o : Option ℕ) → it.store.held n ≡ o → condemned_by it.areas it.store what n ≡ (is_held it.store n && condemned_classes it.areas what (class_at (classes g) (it.map.at n)).area (class_at (classes g) (it.map.at n)).level)
       go None e =
-          ap (λ (o : Option ℕ). not (is_static (rule_of areas (object s n).area).kind) && is_condemned_level what o) e ∙ none (not (is_static (rule_of areas (object s n).area).kind))
-          ∙ sym (ap (λ (o : Option ℕ). is_some o && condemned_classes areas what (class_at (classes g) (k.at n)).area (class_at (classes g) (k.at n)).level) e)
+          ap (λ (o : Option ℕ). not (is_static (rule_of it.areas (object it.store n).area).kind) && is_condemned_level what o) e ∙ none (not (is_static (rule_of it.areas (object it.store n).area).kind))
+          ∙ sym (ap (λ (o : Option ℕ). is_some o && condemned_classes it.areas what (class_at (classes g) (it.map.at n)).area (class_at (classes g) (it.map.at n)).level) e)
       go (Some level) e =
-          let u : in_use s n = ap is_some e in
-          ap (λ (o : Option ℕ). not (is_static (rule_of areas (object s n).area).kind) && is_condemned_level what o) e
-          ∙ ap (λ (a : ℕ). not (is_static (rule_of areas a).kind) && condemns what level) (sym (h.classes_of.area n u))
-          ∙ ap (λ (l : ℕ). not (is_static (rule_of areas (class_at (classes g) (k.at n)).area).kind) && condemns what l) (sym (h.classes_of.spared n level e refl).1)
-          ∙ sym (ap (λ (o : Option ℕ). is_some o && condemned_classes areas what (class_at (classes g) (k.at n)).area (class_at (classes g) (k.at n)).level) e)
+          let u : in_use it.store n = ap is_some e in
+          ap (λ (o : Option ℕ). not (is_static (rule_of it.areas (object it.store n).area).kind) && is_condemned_level what o) e
+          ∙ ap (λ (a : ℕ). not (is_static (rule_of it.areas a).kind) && condemns what level) (sym (h.classes_of.area n u))
+          ∙ ap (λ (l : ℕ). not (is_static (rule_of it.areas (class_at (classes g) (it.map.at n)).area).kind) && condemns what l) (sym (h.classes_of.spared n level e refl).1)
+          ∙ sym (ap (λ (o : Option ℕ). is_some o && condemned_classes it.areas what (class_at (classes g) (it.map.at n)).area (class_at (classes g) (it.map.at n)).level) e)
 
 -- the machine after a flip represents the flipped state
 module _ (g g' : Image) (k : RoleMap) (s : State) (h : MachineInvariant g k s) (idle : s.phase ≡ Idle) (what : Condemn) (pages : ℕ) (t : TableFlipped g g' s.space.levels (condemned_classes s.areas what))
     (registers : g'.registers ≡ g.registers) (collection : g'.collection ≡ Some what) (scanned : IsScanned g' false) (units : units_left g' ≤ s.space.registers + 256 * pages) where
-  kept_idle : MemoryInvariant g k s.space.levels s.areas s.store no_aim
-  kept_idle = let P : Phase → Type 0 = λ p. MemoryInvariant g k s.space.levels s.areas s.store (aim_of p) in subst P idle h.kept
+  kept_idle : MemoryInvariant g (record (interpretation k s) { aim = no_aim })
+  kept_idle = let P : Phase → Type 0 = λ p. MemoryInvariant g (record (interpretation k s) { aim = aim_of p }) in subst P idle h.kept
 
   none_old : (a : ℕ) → is_old_at (classes g) a ≡ false
   none_old = let P : Phase → Type 0 = λ p. PhaseOf g p in (subst P idle h.phase).1
@@ -116,9 +117,9 @@ module _ (g g' : Image) (k : RoleMap) (s : State) (h : MachineInvariant g k s) (
   closed : Closed (graph_of s) (is_held s.store)
   closed = held_closed g k s h
 
-  kept_flip : MemoryInvariant g' k s.space.levels s.areas (record s.store { husks = husks_left s.areas s.store what }) (aim_by s what pages)
-  kept_flip = kept_flipped g g' k s.space.levels s.areas s.store kept_idle (condemned_classes s.areas what) t (husks_left s.areas s.store what) (aim_by s what pages) none_old
-      (husks_by s.areas s.store what) (gone_sum s.areas s.store s.space.levels what) (condemned_there g k s.space.levels s.areas s.store kept_idle what) (bound_held s what closed)
+  kept_flip : MemoryInvariant g' (interpretation k (flipped s what pages))
+  kept_flip = kept_flipped g g' (interpretation k s) kept_idle (condemned_classes s.areas what) t (husks_left s.areas s.store what) (aim_by s what pages) none_old
+      (husks_by s.areas s.store what) (gone_sum s.areas s.store s.space.levels what) (condemned_there g (interpretation k s) kept_idle what) (bound_held s what closed)
 
   -- what is in old regions was condemned, so it is owed
   old_owed : charges (record s.store { husks = husks_left s.areas s.store what }) (λ n. condemned_by s.areas s.store what n && is_old (region g' (k.at n)).standing) ≤ charges s.store (condemned_by s.areas s.store what)
@@ -157,8 +158,8 @@ reclaimed g k s aim = record s { phase = Idle; store = record s.store { held = h
 -- the machine after the reclaim of a finished collection represents that state
 module _ (g g' : Image) (k : RoleMap) (s : State) (c : Collection) (h : MachineInvariant g k s) (running : s.phase ≡ Running c) (over : c.over ≡ true) (t : TableFreed g g')
     (registers : g'.registers ≡ g.registers) (collection : g'.collection ≡ None) where
-  kept_running : MemoryInvariant g k s.space.levels s.areas s.store c.aim
-  kept_running = let P : Phase → Type 0 = λ p. MemoryInvariant g k s.space.levels s.areas s.store (aim_of p) in subst P running h.kept
+  kept_running : MemoryInvariant g (record (interpretation k s) { aim = c.aim })
+  kept_running = let P : Phase → Type 0 = λ p. MemoryInvariant g (record (interpretation k s) { aim = aim_of p }) in subst P running h.kept
 
   scan : IsScanned g c.over
   scan = let P : Phase → Type 0 = λ p. PhaseOf g p in (subst P running h.phase).1
@@ -207,8 +208,8 @@ module _ (g g' : Image) (k : RoleMap) (s : State) (c : Collection) (h : MachineI
     moved = λ n level e d o. live_held n o ∙ doomed_held n d ∙ ap (level_after (survivor s.space.levels c.aim.what)) e;
   }
 
-  kept_after : MemoryInvariant g' (dropped (classes g) k) s.space.levels s.areas (record s.store { held = held_after (classes g) k s.space.levels s.store c.aim }) no_aim
-  kept_after = kept_reclaimed g g' k s.space.levels s.areas s.store (record s.store { held = held_after (classes g) k s.space.levels s.store c.aim }) c.aim kept_running t settled fresh
+  kept_after : MemoryInvariant g' (interpretation (dropped (classes g) k) (reclaimed g k s c.aim))
+  kept_after = kept_reclaimed g g' (record (interpretation k s) { aim = c.aim }) (record s.store { held = held_after (classes g) k s.space.levels s.store c.aim }) kept_running t settled fresh
 
   -- a value with no old address is what it was
   value_after : (w : Content) (v : Value) → ((b : ℕ) → address_of w ≡ Some b → is_old_at (classes g) b ≡ false) → value_of k.role w ≡ Some v → value_of (dropped (classes g) k).role w ≡ Some v

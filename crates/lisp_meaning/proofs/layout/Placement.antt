@@ -1,9 +1,7 @@
 -- Words placed and written: the ground for an object that is laid out there.
-use Rattle.std.specs.Prelude.{List}
 use Rattle.std.proofs.Common.{◌≡◌, ℕ, ◌+◌, ◌<◌, ◌≤◌, ◌⊎◌, inl, inr, Bool, true, false, ◌&&◌, refl, sym, ◌∙◌, ap, arith, Option, Some, None, length, nat_eq}
 use Rattle.std.proofs.lemmas.Bool.{cases_Bool, eqb-true}
 use Rattle.std.proofs.lemmas.Grind.{common_steps}
-use Rattle.lisp_graph.specs.declared.world.AreaRule.{AreaRule}
 use Rattle.lisp_graph.specs.Totals.{if_true}
 use Rattle.lisp_graph.proofs.Totals.{total-cong}
 use Rattle.lisp_meaning.specs.invariants.ChargesIn.{charges_in, spare_in, spares_in, is_cell}
@@ -14,7 +12,8 @@ use Rattle.lisp_meaning.specs.invariants.Invariant.{MemoryInvariant}
 use Rattle.lisp_meaning.specs.invariants.Laid.{scratched}
 use Rattle.lisp_meaning.specs.invariants.Placed.{Placed}
 use Rattle.lisp_meaning.specs.invariants.Roles.{AsCons, Blank, Scratch, Cell, names_as, owner, RoleMap, kind_of}
-use Rattle.lisp_meaning.specs.machine.State.{Store, Condemned, object, is_held, in_use}
+use Rattle.lisp_meaning.specs.invariants.Interpretation.{Interpretation}
+use Rattle.lisp_meaning.specs.machine.State.{Store, object, is_held, in_use}
 use Rattle.lisp_meaning.proofs.maps.Frames.{Frame}
 use Rattle.lisp_meaning.proofs.maps.Patches.{begins_owner}
 use Rattle.lisp_meaning.proofs.roles.RegionChanges.{written, written_frame, role_within, role_beyond, reclassed}
@@ -43,53 +42,53 @@ frame_then k k1 k2 s s1 s2 exempt f h = record {
 
 -- The ground for a new object: words placed, written, not yet used
 
-module _ (g g' : Image) (k : RoleMap) (top : ℕ) (areas : List AreaRule) (s : Store) (aim : Condemned) (h : MemoryInvariant g k top areas s aim) (b count area level : ℕ) (p : Placed g g' b count area level) where
-  blank : (a : ℕ) → b ≤ a → a < b + count → k.role a ≡ Blank
+module _ (g g' : Image) (it : Interpretation) (h : MemoryInvariant g it) (b count area level : ℕ) (p : Placed g g' b count area level) where
+  blank : (a : ℕ) → b ≤ a → a < b + count → it.map.role a ≡ Blank
   blank a l x = h.covered.unused a (p.unused a l x)
 
-  not_free : (a : ℕ) → (k.role a ≡ Blank → ⊥) → is_free (region g a).standing ≡ false
+  not_free : (a : ℕ) → (it.map.role a ≡ Blank → ⊥) → is_free (region g a).standing ≡ false
   not_free a ne = go (cases_Bool (is_free (region g a).standing))
     where
       go : (is_free (region g a).standing ≡ true) ⊎ (is_free (region g a).standing ≡ false) → is_free (region g a).standing ≡ false
       go (inl e) = absurd (ne (h.covered.free a e))
       go (inr e) = e
 
-  pub opened : Roled (word g) (classes g') k s
-  opened = reclassed (word g) (classes g) (classes g') k s h.roled (λ a ne. p.class a (not_free a ne))
+  pub opened : Roled (word g) (classes g') it.map it.store
+  opened = reclassed (word g) (classes g) (classes g') it.map it.store h.roled (λ a ne. p.class a (not_free a ne))
 
   -- the words are there, and belong to nothing
-  pub ground : Roled (word g') (classes g') (scratched k b count) s
-  ground = written (word g) (word g') (classes g') k s opened b count blank p.words
+  pub ground : Roled (word g') (classes g') (scratched it.map b count) it.store
+  ground = written (word g) (word g') (classes g') it.map it.store opened b count blank p.words
 
-  pub scratch_role : (a : ℕ) → (b ≤ a) × (a < b + count) → (scratched k b count).role a ≡ Scratch
-  scratch_role = role_within (word g) (word g') (classes g') k s opened b count blank p.words
+  pub scratch_role : (a : ℕ) → (b ≤ a) × (a < b + count) → (scratched it.map b count).role a ≡ Scratch
+  scratch_role = role_within (word g) (word g') (classes g') it.map it.store opened b count blank p.words
 
-  pub other_role : (a : ℕ) → ((b ≤ a) × (a < b + count) → ⊥) → (scratched k b count).role a ≡ k.role a
-  other_role = role_beyond (word g) (word g') (classes g') k s opened b count blank p.words
+  pub other_role : (a : ℕ) → ((b ≤ a) × (a < b + count) → ⊥) → (scratched it.map b count).role a ≡ it.map.role a
+  other_role = role_beyond (word g) (word g') (classes g') it.map it.store opened b count blank p.words
 
-  pub ground_frame : Frame k (scratched k b count) s s (λ m. false)
-  ground_frame = written_frame (word g) (word g') (classes g') k s opened b count blank p.words
+  pub ground_frame : Frame it.map (scratched it.map b count) it.store it.store (λ m. false)
+  ground_frame = written_frame (word g) (word g') (classes g') it.map it.store opened b count blank p.words
 
-  pub class_else : (m : ℕ) → in_use s m → class_at (classes g') (k.at m) ≡ class_at (classes g) (k.at m)
-  class_else m u = p.class (k.at m) (not_free (k.at m) (λ (z : k.role (k.at m) ≡ Blank).
-      let o = begins_owner (kind_of (object s m).body) (k.role (k.at m)) m (h.roled.begins m u) in let x = ap owner z in cc))
+  pub class_else : (m : ℕ) → in_use it.store m → class_at (classes g') (it.map.at m) ≡ class_at (classes g) (it.map.at m)
+  class_else m u = p.class (it.map.at m) (not_free (it.map.at m) (λ (z : it.map.role (it.map.at m) ≡ Blank).
+      let o = begins_owner (kind_of (object it.store m).body) (it.map.role (it.map.at m)) m (h.roled.begins m u) in let x = ap owner z in cc))
 
   -- what was held counts in the new regions as it did in the old
-  pub charges_before_at : (passes : ℕ → Class → Bool) → charges_in s k.at (classes g') passes ≡ charges_in s k.at (classes g) passes
-  charges_before_at passes = charges_same s s k.at k.at (classes g) (classes g') passes passes refl (λ m. refl) (λ m. each m (cases_Bool (is_held s m)))
+  pub charges_before_at : (passes : ℕ → Class → Bool) → charges_in it.store it.map.at (classes g') passes ≡ charges_in it.store it.map.at (classes g) passes
+  charges_before_at passes = charges_same it.store it.store it.map.at it.map.at (classes g) (classes g') passes passes refl (λ m. refl) (λ m. each m (cases_Bool (is_held it.store m)))
     where
-      each : (m : ℕ) → (is_held s m ≡ true) ⊎ (is_held s m ≡ false) → (is_held s m && passes m (class_at (classes g') (k.at m))) ≡ (is_held s m && passes m (class_at (classes g) (k.at m)))
-      each m (inl u) = ap (λ (q : Class). is_held s m && passes m q) (class_else m u)
-      each m (inr u) = ap (λ (x : Bool). x && passes m (class_at (classes g') (k.at m))) u ∙ ap (λ (x : Bool). x && passes m (class_at (classes g) (k.at m))) (sym u)
+      each : (m : ℕ) → (is_held it.store m ≡ true) ⊎ (is_held it.store m ≡ false) → (is_held it.store m && passes m (class_at (classes g') (it.map.at m))) ≡ (is_held it.store m && passes m (class_at (classes g) (it.map.at m)))
+      each m (inl u) = ap (λ (q : Class). is_held it.store m && passes m q) (class_else m u)
+      each m (inr u) = ap (λ (x : Bool). x && passes m (class_at (classes g') (it.map.at m))) u ∙ ap (λ (x : Bool). x && passes m (class_at (classes g) (it.map.at m))) (sym u)
 
-  pub spares_before_at : (passes : ℕ → Class → Bool) → spares_in s k (classes g') passes ≡ spares_in s k (classes g) passes
-  spares_before_at passes = total-cong (spare_in s k (classes g') passes) (spare_in s k (classes g) passes) (length s.objects) (λ m l. each m (cases_Bool (is_held s m)))
+  pub spares_before_at : (passes : ℕ → Class → Bool) → spares_in it.store it.map (classes g') passes ≡ spares_in it.store it.map (classes g) passes
+  spares_before_at passes = total-cong (spare_in it.store it.map (classes g') passes) (spare_in it.store it.map (classes g) passes) (length it.store.objects) (λ m l. each m (cases_Bool (is_held it.store m)))
     where
-      each : (m : ℕ) → (is_held s m ≡ true) ⊎ (is_held s m ≡ false) → spare_in s k (classes g') passes m ≡ spare_in s k (classes g) passes m
-      each m (inl u) = ap (λ (q : Class). if_true (is_held s m && (passes m q && is_cell (k.role (k.at m)))) 2) (class_else m u)
+      each : (m : ℕ) → (is_held it.store m ≡ true) ⊎ (is_held it.store m ≡ false) → spare_in it.store it.map (classes g') passes m ≡ spare_in it.store it.map (classes g) passes m
+      each m (inl u) = ap (λ (q : Class). if_true (is_held it.store m && (passes m q && is_cell (it.map.role (it.map.at m)))) 2) (class_else m u)
       each m (inr u) =
-          ap (λ (x : Bool). if_true (x && (passes m (class_at (classes g') (k.at m)) && is_cell (k.role (k.at m)))) 2) u
-          ∙ ap (λ (x : Bool). if_true (x && (passes m (class_at (classes g) (k.at m)) && is_cell (k.role (k.at m)))) 2) (sym u)
+          ap (λ (x : Bool). if_true (x && (passes m (class_at (classes g') (it.map.at m)) && is_cell (it.map.role (it.map.at m)))) 2) u
+          ∙ ap (λ (x : Bool). if_true (x && (passes m (class_at (classes g) (it.map.at m)) && is_cell (it.map.role (it.map.at m)))) 2) (sym u)
 
 pub two_numbers : (x y a b : ℕ) → (x ≡ a) ⊎ (x ≡ a → ⊥) → (y ≡ b) ⊎ (y ≡ b → ⊥) → ((x ≡ a) × (y ≡ b)) ⊎ ((x ≡ a) × (y ≡ b) → ⊥)
 two_numbers x y a b (inl u) (inl v) = inl (u, v)

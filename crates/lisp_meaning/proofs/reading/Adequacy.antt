@@ -1,5 +1,4 @@
 -- The invariant implies that the machine represents the state.
-use Rattle.std.specs.Prelude.{List}
 use Rattle.std.proofs.Common.{◌≡◌, ℕ, zero, suc, ◌+◌, ◌*◌, ◌<◌, ◌⊎◌, inl, inr, Bool, true, false, ◌&&◌, refl, sym, ◌∙◌, ap, arith, Some, length, get_or}
 use Rattle.std.proofs.lemmas.Bool.{cases_Bool}
 use Rattle.lisp_graph.specs.declared.object.Value.TheVariants as V
@@ -12,9 +11,8 @@ use Rattle.lisp_meaning.specs.reading.Image.{Image, word, region, is_free}
 use Rattle.lisp_meaning.specs.invariants.Invariant.{MemoryInvariant, MachineInvariant}
 use Rattle.lisp_meaning.specs.invariants.Roles.{Kind, AsCons, AsBlock, Role, Cell, value_of, RoleMap, kind_of, cdr_of, Begins}
 use Rattle.lisp_meaning.specs.reading.Stands.{is_cell_word, is_cell_of, stands_in, cells_in, machine_account, Room, StandsUnder}
-use Rattle.lisp_meaning.specs.machine.State.{Store, Condemned, aim_of, object, in_use, is_held, State}
+use Rattle.lisp_meaning.specs.machine.State.{Store, object, in_use, is_held, State}
 use Rattle.lisp_graph.specs.store_word.Words.{null_word}
-use Rattle.lisp_graph.specs.declared.world.AreaRule.{AreaRule}
 use Rattle.lisp_graph.specs.store_word.declared.word.CdrCode.{CdrCode}
 use Rattle.lisp_graph.specs.store_word.declared.word.CdrCode.TheVariants.{Next as CdrNext, Nil as CdrNil, Normal as CdrNormal, Second as CdrSecond}
 use Rattle.lisp_graph.specs.store_word.declared.word.Content.{Content}
@@ -26,6 +24,7 @@ use Rattle.lisp_meaning.proofs.maps.Patches.{begins_owner}
 use Rattle.lisp_meaning.proofs.layout.ObjectWords.{cell_fits, head_fits, block_fits}
 use Rattle.lisp_meaning.proofs.reading.HuskWords.{husk_words_few}
 use Rattle.lisp_meaning.proofs.reading.ReadRoles.{means, distinct, objects_read, no_stale_read, above_read, used_where}
+use Rattle.lisp_meaning.specs.invariants.Interpretation.{Interpretation, interpretation}
 
 -- a name's word is that of a cell if and only if its role is one
 cell_value : (role : ℕ → Role) (c : Content) (v : Value) → value_of role c ≡ Some v → (is_cell_of c CdrNext ≡ true) × (is_cell_of c CdrNil ≡ true) × (is_cell_of c CdrNormal ≡ false)
@@ -73,47 +72,47 @@ total-twice p (suc n) =
     two true = refl
     two false = refl
 
-module _ (g : Image) (k : RoleMap) (top : ℕ) (areas : List AreaRule) (s : Store) (aim : Condemned) (h : MemoryInvariant g k top areas s aim) where
-  spares_read : (area level : ℕ) → 2 * cells_in g s k.at (of_class area level) ≡ spares_in s k (classes g) (in_class area level)
-  spares_read area level = total-twice (λ n. stands_in g s k.at (of_class area level) n && is_cell_word (word g (k.at n))) (length s.objects) ∙ total-cong (λ n. if_true (stands_in g s k.at (of_class area level) n && is_cell_word (word g (k.at n))) 2) (spare_in s k (classes g) (in_class area level)) (length s.objects)
-      (λ n l. each n (cases_Bool (is_held s n)))
+module _ (g : Image) (it : Interpretation) (h : MemoryInvariant g it) where
+  spares_read : (area level : ℕ) → 2 * cells_in g it.store it.map.at (of_class area level) ≡ spares_in it.store it.map (classes g) (in_class area level)
+  spares_read area level = total-twice (λ n. stands_in g it.store it.map.at (of_class area level) n && is_cell_word (word g (it.map.at n))) (length it.store.objects) ∙ total-cong (λ n. if_true (stands_in g it.store it.map.at (of_class area level) n && is_cell_word (word g (it.map.at n))) 2) (spare_in it.store it.map (classes g) (in_class area level)) (length it.store.objects)
+      (λ n l. each n (cases_Bool (is_held it.store n)))
     where
-      each : (n : ℕ) → (is_held s n ≡ true) ⊎ (is_held s n ≡ false)
-          → if_true (stands_in g s k.at (of_class area level) n && is_cell_word (word g (k.at n))) 2 ≡ spare_in s k (classes g) (in_class area level) n
+      each : (n : ℕ) → (is_held it.store n ≡ true) ⊎ (is_held it.store n ≡ false)
+          → if_true (stands_in g it.store it.map.at (of_class area level) n && is_cell_word (word g (it.map.at n))) 2 ≡ spare_in it.store it.map (classes g) (in_class area level) n
       each n (inl u) =
-          ap (λ (b : Bool). if_true (stands_in g s k.at (of_class area level) n && b) 2) (cell_read g k s h.roled n u)
-          ∙ ap (λ (b : Bool). if_true b 2) (and_assoc (is_held s n) (of_class area level (region g (k.at n))) (is_cell (k.role (k.at n))))
+          ap (λ (b : Bool). if_true (stands_in g it.store it.map.at (of_class area level) n && b) 2) (cell_read g it.map it.store h.roled n u)
+          ∙ ap (λ (b : Bool). if_true b 2) (and_assoc (is_held it.store n) (of_class area level (region g (it.map.at n))) (is_cell (it.map.role (it.map.at n))))
       each n (inr u) =
-          ap (λ (b : Bool). if_true ((b && of_class area level (region g (k.at n))) && is_cell_word (word g (k.at n))) 2) u
-          ∙ ap (λ (b : Bool). if_true (b && (of_class area level (region g (k.at n)) && is_cell (k.role (k.at n)))) 2) (sym u)
+          ap (λ (b : Bool). if_true ((b && of_class area level (region g (it.map.at n))) && is_cell_word (word g (it.map.at n))) 2) u
+          ∙ ap (λ (b : Bool). if_true (b && (of_class area level (region g (it.map.at n)) && is_cell (it.map.role (it.map.at n)))) 2) (sym u)
 
   -- (f)
-  room_read : Room g s aim k.at
+  room_read : Room g it.store it.aim it.map.at
   room_read = record {
     live = λ area level. (let a = spares_read area level in let b = h.room_live area level in let c = h.live_charges area level in let d = h.live_husks area level in omega arith);
-    husks = λ area level. (let a = husk_words_few g k s h.roled h.covered h.names area level in let b = h.room_husks area level (length g.words) in let c = h.live_husks area level in omega arith);
+    husks = λ area level. (let a = husk_words_few g it.map it.store h.roled h.covered h.names area level in let b = h.room_husks area level (length g.words) in let c = h.live_husks area level in omega arith);
     old = h.room_old;
     chains = h.chains;
-    above = above_read g k s h.roled h.covered;
+    above = above_read g it.map it.store h.roled h.covered;
   }
 
   -- (e)
-  pub where_held : (n : ℕ) → in_use s n → ((class_at (classes g) (k.at n)).area ≡ (object s n).area) × ((class_at (classes g) (k.at n)).level < suc top) × (is_free (class_at (classes g) (k.at n)).standing ≡ false)
-  where_held n u = (h.classes_of.area n u, h.levels n u, (used_where g k s h.roled h.covered (k.at n) n (begins_owner (kind_of (object s n).body) (k.role (k.at n)) n (h.roled.begins n u))).1)
+  pub where_held : (n : ℕ) → in_use it.store n → ((class_at (classes g) (it.map.at n)).area ≡ (object it.store n).area) × ((class_at (classes g) (it.map.at n)).level < suc it.top) × (is_free (class_at (classes g) (it.map.at n)).standing ≡ false)
+  where_held n u = (h.classes_of.area n u, h.levels n u, (used_where g it.map it.store h.roled h.covered (it.map.at n) n (begins_owner (kind_of (object it.store n).body) (it.map.role (it.map.at n)) n (h.roled.begins n u))).1)
 
-  pub account_read : (a : ℕ) → machine_account g top a ≡ account top s aim a
+  pub account_read : (a : ℕ) → machine_account g it.top a ≡ account it.top it.store it.aim a
   account_read a =
       let live : ℕ → ℕ = g.live_charge a in
       let old : ℕ → ℕ = g.old_charge a in
-      let x = total-add (λ l. g.live_charge a l + g.live_husks a l + g.old_charge a l) (g.old_husks a) (suc top) in
-      let y = total-add (λ l. g.live_charge a l + g.live_husks a l) (g.old_charge a) (suc top) in
-      let z = total-add (g.live_charge a) (g.live_husks a) (suc top) in
-      let v = total-add (g.live_charge a) (g.old_charge a) (suc top) in
-      let husks = total-cong (g.live_husks a) (s.husks a) (suc top) (λ l q. h.live_husks a l) in
+      let x = total-add (λ l. g.live_charge a l + g.live_husks a l + g.old_charge a l) (g.old_husks a) (suc it.top) in
+      let y = total-add (λ l. g.live_charge a l + g.live_husks a l) (g.old_charge a) (suc it.top) in
+      let z = total-add (g.live_charge a) (g.live_husks a) (suc it.top) in
+      let v = total-add (g.live_charge a) (g.old_charge a) (suc it.top) in
+      let husks = total-cong (g.live_husks a) (it.store.husks a) (suc it.top) (λ l q. h.live_husks a l) in
       let gone = h.old_husks a in
-      let sums = total-cong (λ l. g.live_charge a l + g.old_charge a l) (λ l. charges_in s k.at (classes g) (in_class a l) + charges_in s k.at (classes g) (in_old_class a l)) (suc top)
+      let sums = total-cong (λ l. g.live_charge a l + g.old_charge a l) (λ l. charges_in it.store it.map.at (classes g) (in_class a l) + charges_in it.store it.map.at (classes g) (in_old_class a l)) (suc it.top)
       (λ l q. (let c = h.live_charges a l in let d = h.old_charges a l in omega arith)) in
-      let all = account_of_classes s k.at (classes g) a (suc top) where_held in
+      let all = account_of_classes it.store it.map.at (classes g) a (suc it.top) where_held in
       omega arith
 
 pub stands_under : (g : Image) (k : RoleMap) (s : State) → MachineInvariant g k s → StandsUnder g s k.at
@@ -123,8 +122,8 @@ stands_under g k s h = record {
   registers = record { count = h.count; each = λ r l. means g k s.store h.kept.roled (get_or g.registers r null_word).content (get_or s.registers r V.Nil) (h.registers r l) };
   classes = h.kept.classes_of;
   phase = h.phase;
-  accounts = λ a l. (account_read g k s.space.levels s.areas s.store (aim_of s.phase) h.kept a, h.kept.quota a l);
-  room = room_read g k s.space.levels s.areas s.store (aim_of s.phase) h.kept;
+  accounts = λ a l. (account_read g (interpretation k s) h.kept a, h.kept.quota a l);
+  room = room_read g (interpretation k s) h.kept;
   no_stale = no_stale_read g k s.store h.kept.roled h.kept.covered;
   marks = h.kept.marks;
   reach = h.reach;

@@ -1,16 +1,16 @@
 -- The invariant that every transition keeps. It implies which state a machine represents.
-use Rattle.std.specs.Prelude.{◌≡◌, ℕ, suc, ◌+◌, ◌<◌, ◌≤◌, true, false, ◌&&◌, List, length, get_or, Some, IsTrue}
+use Rattle.std.specs.Prelude.{◌≡◌, ℕ, suc, ◌+◌, ◌<◌, ◌≤◌, true, false, ◌&&◌, length, get_or, Some, IsTrue}
 use Rattle.lisp_graph.specs.store_word.declared.sizes.TheConstants.{MAX_OBJECT_WORDS}
 use Rattle.lisp_graph.specs.store_word.Words.{null_word}
 use Rattle.lisp_graph.specs.declared.object.Value.TheVariants as V
-use Rattle.lisp_graph.specs.declared.world.AreaRule.{AreaRule}
 use Rattle.lisp_graph.specs.Totals.{total}
-use Rattle.lisp_meaning.specs.machine.State.{rule_of, Condemned, aim_of, Store, State, in_use}
+use Rattle.lisp_meaning.specs.machine.State.{rule_of, State, in_use}
 use Rattle.lisp_meaning.specs.machine.Charges.{charges, per_area, account}
 use Rattle.lisp_meaning.specs.machine.Sound.{Reach}
 use Rattle.lisp_meaning.specs.reading.Image.{Image, word, region, no_region, is_free, is_used, used_words}
 use Rattle.lisp_meaning.specs.reading.Classes.{classes, class_at, of_class, old_of, in_class, in_old_class}
 use Rattle.lisp_meaning.specs.invariants.Roles.{Blank, Scratch, RoleMap, value_of}
+use Rattle.lisp_meaning.specs.invariants.Interpretation.{Interpretation, interpretation}
 use Rattle.lisp_meaning.specs.invariants.Fits.{Roled}
 use Rattle.lisp_meaning.specs.invariants.ChargesIn.{charges_in, spares_in, husk_word_in}
 use Rattle.lisp_meaning.specs.reading.Marks.{Marks}
@@ -28,31 +28,31 @@ abbrev pub HusksFit : Image → RoleMap → Type 0
 HusksFit g k = (area level count : ℕ) → total (husk_word_in k (classes g) area level) count ≤ g.live_husks area level
 
 -- the invariant of a memory and its table, by a role map, for a store and the aim of a collection: without registers and counters. `top` is the greatest level
-pub record MemoryInvariant (g : Image) (k : RoleMap) (top : ℕ) (areas : List AreaRule) (s : Store) (aim : Condemned) : Type 0 where
-  pub roled : Roled (word g) (classes g) k s
-  pub covered : Covered g k
+pub record MemoryInvariant (g : Image) (it : Interpretation) : Type 0 where
+  pub roled : Roled (word g) (classes g) it.map it.store
+  pub covered : Covered g it.map
   -- names that are held are below the next name; those condemned or bound are held
-  pub names : (n : ℕ) → in_use s n → n < length s.objects
-  pub condemned : (n : ℕ) → IsTrue (aim.condemned n) → in_use s n
-  pub bound : (n : ℕ) → IsTrue (aim.bound n) → in_use s n
-  pub classes_of : Classes g top s aim k.at
-  pub levels : (n : ℕ) → in_use s n → (class_at (classes g) (k.at n)).level < suc top
+  pub names : (n : ℕ) → in_use it.store n → n < length it.store.objects
+  pub condemned : (n : ℕ) → IsTrue (it.aim.condemned n) → in_use it.store n
+  pub bound : (n : ℕ) → IsTrue (it.aim.bound n) → in_use it.store n
+  pub classes_of : Classes g it.top it.store it.aim it.map.at
+  pub levels : (n : ℕ) → in_use it.store n → (class_at (classes g) (it.map.at n)).level < suc it.top
   -- the table's numbers, class by class
-  pub live_charges : (area level : ℕ) → g.live_charge area level ≡ charges_in s k.at (classes g) (in_class area level)
-  pub old_charges : (area level : ℕ) → g.old_charge area level ≡ charges_in s k.at (classes g) (in_old_class area level)
-  pub live_husks : (area level : ℕ) → g.live_husks area level ≡ s.husks area level
-  pub old_husks : (area : ℕ) → total (g.old_husks area) (suc top) ≡ aim.gone area
-  pub quota : (a : ℕ) → a < length areas → account top s aim a ≤ (rule_of areas a).quota
+  pub live_charges : (area level : ℕ) → g.live_charge area level ≡ charges_in it.store it.map.at (classes g) (in_class area level)
+  pub old_charges : (area level : ℕ) → g.old_charge area level ≡ charges_in it.store it.map.at (classes g) (in_old_class area level)
+  pub live_husks : (area level : ℕ) → g.live_husks area level ≡ it.store.husks area level
+  pub old_husks : (area : ℕ) → total (g.old_husks area) (suc it.top) ≡ it.aim.gone area
+  pub quota : (a : ℕ) → a < length it.areas → account it.top it.store it.aim a ≤ (rule_of it.areas a).quota
   -- room
-  pub room_live : (area level : ℕ) → used_words g (of_class area level) + spares_in s k (classes g) (in_class area level) ≤ g.live_charge area level + g.live_husks area level
-  pub room_husks : HusksFit g k
-  pub room_old : (area : ℕ) → used_words g (old_of area) ≤ charges s (λ n. aim.condemned n && per_area s area n) + aim.gone area
+  pub room_live : (area level : ℕ) → used_words g (of_class area level) + spares_in it.store it.map (classes g) (in_class area level) ≤ g.live_charge area level + g.live_husks area level
+  pub room_husks : HusksFit g it.map
+  pub room_old : (area : ℕ) → used_words g (old_of area) ≤ charges it.store (λ n. it.aim.condemned n && per_area it.store area n) + it.aim.gone area
   pub chains : (i : ℕ) → i < length g.regions → is_free (get_or g.regions i no_region).standing ≡ false → g.is_last i ≡ false → MAX_OBJECT_WORDS < (get_or g.regions i no_region).used
   pub marks : Marks g
 
 -- the whole machine
 pub record MachineInvariant (g : Image) (k : RoleMap) (s : State) : Type 0 where
-  pub kept : MemoryInvariant g k s.space.levels s.areas s.store (aim_of s.phase)
+  pub kept : MemoryInvariant g (interpretation k s)
   pub count : length g.registers ≡ length s.registers
   pub registers : (r : ℕ) → r < length s.registers → value_of k.role (get_or g.registers r null_word).content ≡ Some (get_or s.registers r V.Nil)
   pub phase : PhaseOf g s.phase

@@ -5,9 +5,8 @@ use Rattle.lisp_graph.specs.store_word.declared.word.Content.TheVariants.{Header
 use Rattle.lisp_graph.specs.declared.object.Value.{Value}
 use Rattle.lisp_graph.specs.declared.object.Value.TheVariants as V
 use Rattle.lisp_graph.specs.declared.object.Body.TheVariants.{Cons, Block}
-use Rattle.lisp_graph.specs.declared.world.AreaRule.{AreaRule}
 use Rattle.lisp_graph.specs.Effect.{list_from}
-use Rattle.lisp_meaning.specs.machine.State.{rule_of, Condemned, Store}
+use Rattle.lisp_meaning.specs.machine.State.{rule_of}
 use Rattle.lisp_meaning.specs.machine.Changes.{with_made}
 use Rattle.lisp_meaning.specs.machine.Charges.{account}
 use Rattle.lisp_meaning.specs.reading.Image.{Image, word}
@@ -16,6 +15,7 @@ use Rattle.lisp_meaning.specs.invariants.Fits.{PairCode}
 use Rattle.lisp_meaning.specs.reading.Marks.{Marks}
 use Rattle.lisp_meaning.specs.invariants.Placed.{Placed, Charged}
 use Rattle.lisp_meaning.specs.invariants.Invariant.{MemoryInvariant}
+use Rattle.lisp_meaning.specs.invariants.Interpretation.{Interpretation}
 use Rattle.lisp_meaning.specs.keeping.After.{After}
 
 -- Words are placed from b on, charged and written
@@ -53,26 +53,26 @@ pub record WritesCells (g g1 : Image) (k : RoleMap) (b area level : ℕ) (values
 -- a cons
 abbrev pub PairMade : Type 0
 PairMade =
-    (g g1 : Image) (k : RoleMap) (top : ℕ) (areas : List AreaRule) (s : Store) (aim : Condemned) (b area level charge : ℕ) (car cdr : Value)
-    → MemoryInvariant g k top areas s aim → level ≤ top → account top s aim area + charge ≤ (rule_of areas area).quota
-    → WritesPair g g1 k b area level charge car cdr
-    → After g g1 k top areas s (with_made s (record { area = area; charge = charge; body = Cons car cdr } ∷ []) level) aim 0 AsCons b 1 (λ i. length s.objects)
+    (g g1 : Image) (it : Interpretation) (b area level charge : ℕ) (car cdr : Value)
+    → MemoryInvariant g it → level ≤ it.top → account it.top it.store it.aim area + charge ≤ (rule_of it.areas area).quota
+    → WritesPair g g1 it.map b area level charge car cdr
+    → After g g1 it (with_made it.store (record { area = area; charge = charge; body = Cons car cdr } ∷ []) level) 0 AsCons b 1 (λ i. length it.store.objects)
 
 -- a block
 abbrev pub BlockMade : Type 0
 BlockMade =
-    (g g1 : Image) (k : RoleMap) (top : ℕ) (areas : List AreaRule) (s : Store) (aim : Condemned) (b area level code : ℕ) (fields : List Value)
-    → MemoryInvariant g k top areas s aim → level ≤ top → account top s aim area + suc (length fields) ≤ (rule_of areas area).quota
-    → WritesBlock g g1 k b area level code fields
-    → After g g1 k top areas s (with_made s (record { area = area; charge = suc (length fields); body = Block code fields } ∷ []) level) aim 0 AsBlock b 1 (λ i. length s.objects)
+    (g g1 : Image) (it : Interpretation) (b area level code : ℕ) (fields : List Value)
+    → MemoryInvariant g it → level ≤ it.top → account it.top it.store it.aim area + suc (length fields) ≤ (rule_of it.areas area).quota
+    → WritesBlock g g1 it.map b area level code fields
+    → After g g1 it (with_made it.store (record { area = area; charge = suc (length fields); body = Block code fields } ∷ []) level) 0 AsBlock b 1 (λ i. length it.store.objects)
 
 -- the conses of a list
 abbrev pub ListMade : Type 0
 ListMade =
-    (g g1 : Image) (k : RoleMap) (top : ℕ) (areas : List AreaRule) (s : Store) (aim : Condemned) (b area level : ℕ) (values : List Value)
-    → MemoryInvariant g k top areas s aim → level ≤ top → account top s aim area + 3 * length values ≤ (rule_of areas area).quota
-    → length values ≤ 1024 → WritesCells g g1 k b area level values
-    → After g g1 k top areas s (with_made s (list_from area (length s.objects) values) level) aim 0 AsCons b (length values) (λ i. length s.objects + i)
+    (g g1 : Image) (it : Interpretation) (b area level : ℕ) (values : List Value)
+    → MemoryInvariant g it → level ≤ it.top → account it.top it.store it.aim area + 3 * length values ≤ (rule_of it.areas area).quota
+    → length values ≤ 1024 → WritesCells g g1 it.map b area level values
+    → After g g1 it (with_made it.store (list_from area (length it.store.objects) values) level) 0 AsCons b (length values) (λ i. length it.store.objects + i)
 
 -- A new cons, a new block and the conses of a new list keep the invariant.
 pub record AllocationKeeps : Type 0 where

@@ -5,12 +5,11 @@ use Rattle.lisp_graph.specs.store_word.declared.word.CdrCode.TheVariants.{Next a
 use Rattle.lisp_graph.specs.store_word.declared.word.Content.TheVariants.{Nil as NilWord, Header, HeaderForward}
 use Rattle.lisp_graph.specs.declared.object.Value.{Value}
 use Rattle.lisp_graph.specs.declared.object.Body.TheVariants.{Cons, Block}
-use Rattle.lisp_graph.specs.declared.world.AreaRule.{AreaRule}
 use Rattle.lisp_graph.specs.declared.object.Value.TheVariants as V
 use Rattle.lisp_graph.specs.declared.command.Command.TheVariants as C
 use Rattle.lisp_graph.specs.Graph.{value_at}
 use Rattle.lisp_graph.specs.Effect.{grown_length, grown_block, grown}
-use Rattle.lisp_meaning.specs.machine.State.{rule_of, Condemned, aim_of, Store, State, object, in_use}
+use Rattle.lisp_meaning.specs.machine.State.{rule_of, State, object, in_use}
 use Rattle.lisp_meaning.specs.machine.Changes.{put_body, with_grown}
 use Rattle.lisp_meaning.specs.machine.Charges.{account}
 use Rattle.lisp_meaning.specs.machine.Flip.{graph_of}
@@ -22,6 +21,7 @@ use Rattle.lisp_meaning.specs.invariants.Roles.{Kind, AsCons, AsBlock, RoleMap, 
 use Rattle.lisp_meaning.specs.reading.Marks.{Marks}
 use Rattle.lisp_meaning.specs.invariants.Placed.{Placed, Recharged}
 use Rattle.lisp_meaning.specs.invariants.Invariant.{MemoryInvariant}
+use Rattle.lisp_meaning.specs.invariants.Interpretation.{Interpretation, interpretation}
 use Rattle.lisp_meaning.specs.keeping.After.{After, AfterWord}
 
 -- a reference to a means n, and the object is at a
@@ -41,30 +41,30 @@ pub record StoresAt (g : Image) (ws : List Parts) (k : RoleMap) (a : ℕ) (value
 -- into a car
 abbrev pub CarStored : Type 0
 CarStored =
-    (g : Image) (ws : List Parts) (k : RoleMap) (top : ℕ) (areas : List AreaRule) (s : Store) (aim : Condemned) (a n : ℕ) (car cdr new : Value)
-    → MemoryInvariant g k top areas s aim → StandsThere g k AsCons a n → (object s n).body ≡ Cons car cdr → StoresAt g ws k a new
-    → AfterWord g (with_words g ws) k top areas s (put_body s n (Cons new cdr)) aim
+    (g : Image) (ws : List Parts) (it : Interpretation) (a n : ℕ) (car cdr new : Value)
+    → MemoryInvariant g it → StandsThere g it.map AsCons a n → (object it.store n).body ≡ Cons car cdr → StoresAt g ws it.map a new
+    → AfterWord g (with_words g ws) it (put_body it.store n (Cons new cdr))
 
 -- into the cdr of a pair
 abbrev pub CdrStored : Type 0
 CdrStored =
-    (g : Image) (ws : List Parts) (k : RoleMap) (top : ℕ) (areas : List AreaRule) (s : Store) (aim : Condemned) (a n : ℕ) (car cdr new : Value)
-    → MemoryInvariant g k top areas s aim → StandsThere g k AsCons a n → (word g a).cdr ≡ CdrNormal → (object s n).body ≡ Cons car cdr → StoresAt g ws k (suc a) new
-    → AfterWord g (with_words g ws) k top areas s (put_body s n (Cons car new)) aim
+    (g : Image) (ws : List Parts) (it : Interpretation) (a n : ℕ) (car cdr new : Value)
+    → MemoryInvariant g it → StandsThere g it.map AsCons a n → (word g a).cdr ≡ CdrNormal → (object it.store n).body ≡ Cons car cdr → StoresAt g ws it.map (suc a) new
+    → AfterWord g (with_words g ws) it (put_body it.store n (Cons car new))
 
 -- into a field
 abbrev pub FieldStored : Type 0
 FieldStored =
-    (g : Image) (ws : List Parts) (k : RoleMap) (top : ℕ) (areas : List AreaRule) (s : Store) (aim : Condemned) (a n i code : ℕ) (fields : List Value) (new : Value)
-    → MemoryInvariant g k top areas s aim → StandsThere g k AsBlock a n → (object s n).body ≡ Block code fields → i < length fields → StoresAt g ws k (suc a + i) new
-    → AfterWord g (with_words g ws) k top areas s (put_body s n (Block code (slice_set fields i new))) aim
+    (g : Image) (ws : List Parts) (it : Interpretation) (a n i code : ℕ) (fields : List Value) (new : Value)
+    → MemoryInvariant g it → StandsThere g it.map AsBlock a n → (object it.store n).body ≡ Block code fields → i < length fields → StoresAt g ws it.map (suc a + i) new
+    → AfterWord g (with_words g ws) it (put_body it.store n (Block code (slice_set fields i new)))
 
 -- a word that has a value gets another content with that value: no object changes
 abbrev pub Resettled : Type 0
 Resettled =
-    (g : Image) (ws : List Parts) (k : RoleMap) (top : ℕ) (areas : List AreaRule) (s : Store) (aim : Condemned) (a : ℕ) (value : Value)
-    → MemoryInvariant g k top areas s aim → value_of k.role (word g a).content ≡ Some value → StoresAt g ws k a value
-    → AfterWord g (with_words g ws) k top areas s s aim
+    (g : Image) (ws : List Parts) (it : Interpretation) (a : ℕ) (value : Value)
+    → MemoryInvariant g it → value_of it.map.role (word g a).content ≡ Some value → StoresAt g ws it.map a value
+    → AfterWord g (with_words g ws) it it.store
 
 -- Objects that are relocated
 
@@ -81,12 +81,12 @@ pub record Relays (g g1 : Image) (ws : List Parts) (a b count area level before 
 -- a cell becomes a pair with another cdr
 abbrev pub CellRelaid : Type 0
 CellRelaid =
-    (g g1 : Image) (ws : List Parts) (k : RoleMap) (top : ℕ) (areas : List AreaRule) (s : Store) (aim : Condemned) (a b n area level : ℕ) (car cdr new : Value)
-    → MemoryInvariant g k top areas s aim → StandsThere g k AsCons a n → ((word g a).cdr ≡ CdrNormal → ⊥) → (object s n).body ≡ Cons car cdr
+    (g g1 : Image) (ws : List Parts) (it : Interpretation) (a b n area level : ℕ) (car cdr new : Value)
+    → MemoryInvariant g it → StandsThere g it.map AsCons a n → ((word g a).cdr ≡ CdrNormal → ⊥) → (object it.store n).body ≡ Cons car cdr
     → Relays g g1 ws a b 2 area level 3 3 0 0
-    → value_of k.role (word g1 b).content ≡ Some car → (word g1 b).cdr ≡ CdrNormal
-    → value_of k.role (word g1 (suc b)).content ≡ Some new → (word g1 (suc b)).cdr ≡ CdrNext
-    → After g (with_words g1 ws) k top areas s (put_body s n (Cons car new)) aim 0 AsCons b 1 (λ i. n)
+    → value_of it.map.role (word g1 b).content ≡ Some car → (word g1 b).cdr ≡ CdrNormal
+    → value_of it.map.role (word g1 (suc b)).content ≡ Some new → (word g1 (suc b)).cdr ≡ CdrNext
+    → After g (with_words g1 ws) it (put_body it.store n (Cons car new)) 0 AsCons b 1 (λ i. n)
 
 -- the words of a block that grew: a header, the old fields and then NIL
 pub record WritesGrown (g g1 : Image) (a b code size wide : ℕ) : Type 0 where
@@ -98,18 +98,18 @@ pub record WritesGrown (g g1 : Image) (a b code size wide : ℕ) : Type 0 where
 -- a block becomes a wider one, and its old words become a husk
 abbrev pub BlockGrown : Type 0
 BlockGrown =
-    (g g1 : Image) (ws : List Parts) (k : RoleMap) (top : ℕ) (areas : List AreaRule) (s : Store) (aim : Condemned) (a b n code wanted area level : ℕ) (fields : List Value)
-    → MemoryInvariant g k top areas s aim → StandsThere g k AsBlock a n → (object s n).body ≡ Block code fields → length fields < wanted → wanted ≤ 2047
-    → account top s aim area + suc (grown_length (length fields) wanted) ≤ (rule_of areas area).quota
+    (g g1 : Image) (ws : List Parts) (it : Interpretation) (a b n code wanted area level : ℕ) (fields : List Value)
+    → MemoryInvariant g it → StandsThere g it.map AsBlock a n → (object it.store n).body ≡ Block code fields → length fields < wanted → wanted ≤ 2047
+    → account it.top it.store it.aim area + suc (grown_length (length fields) wanted) ≤ (rule_of it.areas area).quota
     → Relays g g1 ws a b (suc (grown_length (length fields) wanted)) area level (suc (length fields)) (suc (grown_length (length fields) wanted)) (suc (length fields)) (length fields)
     → WritesGrown g g1 a b code (length fields) (grown_length (length fields) wanted)
-    → After g (with_words g1 ws) k top areas s (with_grown s n (grown_block area code fields (grown_length (length fields) wanted)) area level (suc (length fields))) aim 0 AsBlock b 1 (λ i. n)
+    → After g (with_words g1 ws) it (with_grown it.store n (grown_block area code fields (grown_length (length fields) wanted)) area level (suc (length fields))) 0 AsBlock b 1 (λ i. n)
 
 -- an object in a live region is at its present level: its own or, if it is condemned, its survivor's
 abbrev pub LiveLevel : Type 0
 LiveLevel =
     (g : Image) (k : RoleMap) (s : State) (n : ℕ)
-    → MemoryInvariant g k s.space.levels s.areas s.store (aim_of s.phase) → in_use s.store n → (region g (k.at n)).standing ≡ Live
+    → MemoryInvariant g (interpretation k s) → in_use s.store n → (region g (k.at n)).standing ≡ Live
     → (region g (k.at n)).level ≡ level_now s n
 
 -- the store after a `grow` that isn't refused is the one with the wider block and the husk

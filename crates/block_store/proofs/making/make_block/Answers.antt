@@ -29,19 +29,19 @@ pub returns-in_err-hold_and_write-clause-live : goal.returns-in_err-hold_and_wri
 returns-in_err-hold_and_write-clause-live g c =
     let p = c.place_for-placed.ensures in
     let x = c.requires.can in
-    opened_live _ _ _ _ _ _ _ x.kept _ _ (area_inside _ _ _ _ c.args.length x) (level_inside _ _ _ _ c.args.length x) _ _ _ p.opened _ c.in_err-hold_and_write.ensures.err
+    opened_live _ _ _ x.kept _ _ (area_inside _ _ _ _ c.args.length x) (level_inside _ _ _ _ c.args.length x) _ _ _ p.opened _ c.in_err-hold_and_write.ensures.err
 
 pub returns-in_err-hold_and_write-clause-opened : goal.returns-in_err-hold_and_write-clause-opened
 returns-in_err-hold_and_write-clause-opened g c =
     let p = c.place_for-placed.ensures in
     let x = c.requires.can in
-    on-err c.from_residual.result (opened_or_same _ _ _ _ _ _ _ x.kept _ _ (area_inside _ _ _ _ c.args.length x) (level_inside _ _ _ _ c.args.length x) _ _ _ p.opened)
+    on-err c.from_residual.result (opened_or_same _ _ _ x.kept _ _ (area_inside _ _ _ _ c.args.length x) (level_inside _ _ _ _ c.args.length x) _ _ _ p.opened)
 
 pub returns-in_err-hold_and_write-clause-fault : goal.returns-in_err-hold_and_write-clause-fault
 returns-in_err-hold_and_write-clause-fault g c =
     let p = c.place_for-placed.ensures in
     let x = c.requires.can in
-    on-err c.from_residual.result (opened_stays _ _ _ _ _ _ _ x.kept _ _ (area_inside _ _ _ _ c.args.length x) (level_inside _ _ _ _ c.args.length x) _ _ _ p.opened _ c.in_err-hold_and_write.ensures.err)
+    on-err c.from_residual.result (opened_stays _ _ _ x.kept _ _ (area_inside _ _ _ _ c.args.length x) (level_inside _ _ _ _ c.args.length x) _ _ _ p.opened _ c.in_err-hold_and_write.ensures.err)
 
 pub commit-requires-clause-allowed : goal.commit-requires-clause-allowed
 commit-requires-clause-allowed g c =
@@ -52,7 +52,7 @@ pub returns-clause-made : goal.returns-clause-made
 returns-clause-made g c =
     let p = c.place_for-placed.ensures in
     let x = c.requires.can in
-    let end = end_there _ _ _ _ _ _ _ x.kept _ _ (area_inside _ _ _ _ c.args.length x) (level_inside _ _ _ _ c.args.length x) _ _ _ p.opened c.place_for-placed.result.at (c.args.length + 1) p.end in
+    let end = end_there _ _ _ x.kept _ _ (area_inside _ _ _ _ c.args.length x) (level_inside _ _ _ _ c.args.length x) _ _ _ p.opened c.place_for-placed.result.at (c.args.length + 1) p.end in
     let made = block_made _ _ _ _ c.args.length x _ _ _ p.opened c.place_for-placed.result.at p.end (g.M.Memory.seen c.hold_and_write.new.mem) c.commit.new.self.table c.args.code c.in_ok-hold_and_write.ensures.ok
     (c.commit.ensures.table _ end) c.commit.ensures.pages c.commit.ensures.sound in
     let memory = ap g.M.Memory.seen c.commit.ensures.memory in
@@ -62,13 +62,13 @@ pub returns-clause-in_range : goal.returns-clause-in_range
 returns-clause-in_range g c =
     let p = c.place_for-placed.ensures in
     let x = c.requires.can in
-    place_low _ _ _ _ _ _ _ x.kept _ _ (area_inside _ _ _ _ c.args.length x) (level_inside _ _ _ _ c.args.length x) _ _ _ p.opened c.place_for-placed.result.at (c.args.length + 1) p.end (omega arith)
+    place_low _ _ _ x.kept _ _ (area_inside _ _ _ _ c.args.length x) (level_inside _ _ _ _ c.args.length x) _ _ _ p.opened c.place_for-placed.result.at (c.args.length + 1) p.end (omega arith)
 
 pub returns-clause-placed : goal.returns-clause-placed
 returns-clause-placed g c =
     let p = c.place_for-placed.ensures in
     let x = c.requires.can in
-    let end = end_there _ _ _ _ _ _ _ x.kept _ _ (area_inside _ _ _ _ c.args.length x) (level_inside _ _ _ _ c.args.length x) _ _ _ p.opened c.place_for-placed.result.at (c.args.length + 1) p.end in
+    let end = end_there _ _ _ x.kept _ _ (area_inside _ _ _ _ c.args.length x) (level_inside _ _ _ _ c.args.length x) _ _ _ p.opened c.place_for-placed.result.at (c.args.length + 1) p.end in
     block_placed _ _ _ _ c.args.length x _ _ _ p.opened c.place_for-placed.result.at p.end (g.M.Memory.seen c.hold_and_write.new.mem) c.commit.new.self.table c.args.code c.in_ok-hold_and_write.ensures.ok
     (c.commit.ensures.table _ end) c.commit.ensures.pages c.commit.ensures.sound
 
@@ -76,7 +76,7 @@ pub returns-clause-live : goal.returns-clause-live
 returns-clause-live g c =
     let p = c.place_for-placed.ensures in
     let x = c.requires.can in
-    let end = end_there _ _ _ _ _ _ _ x.kept _ _ (area_inside _ _ _ _ c.args.length x) (level_inside _ _ _ _ c.args.length x) _ _ _ p.opened c.place_for-placed.result.at (c.args.length + 1) p.end in
+    let end = end_there _ _ _ x.kept _ _ (area_inside _ _ _ _ c.args.length x) (level_inside _ _ _ _ c.args.length x) _ _ _ p.opened c.place_for-placed.result.at (c.args.length + 1) p.end in
     let same = block_live _ _ _ _ c.args.length x _ _ _ p.opened c.place_for-placed.result.at p.end (g.M.Memory.seen c.hold_and_write.new.mem) c.commit.new.self.table c.args.code c.in_ok-hold_and_write.ensures.ok
     (c.commit.ensures.table _ end) c.commit.ensures.pages c.commit.ensures.sound in
     let memory = ap g.M.Memory.seen c.commit.ensures.memory in
@@ -88,7 +88,7 @@ returns-in_err-hold_and_write-clause-preserves g c =
     let x = c.requires.can in
     let area_in = area_inside _ _ _ _ c.args.length x in
     let level_in = level_inside _ _ _ _ c.args.length x in
-    opened-preserves (opened_live _ _ _ _ _ _ _ x.kept _ _ area_in level_in _ _ _ p.opened _ c.in_err-hold_and_write.ensures.err) (opened_or_same _ _ _ _ _ _ _ x.kept _ _ area_in level_in _ _ _ p.opened)
+    opened-preserves (opened_live _ _ _ x.kept _ _ area_in level_in _ _ _ p.opened _ c.in_err-hold_and_write.ensures.err) (opened_or_same _ _ _ x.kept _ _ area_in level_in _ _ _ p.opened)
 
 pub returns-in_err-hold_and_write-clause-stays_fresh : goal.returns-in_err-hold_and_write-clause-stays_fresh
 returns-in_err-hold_and_write-clause-stays_fresh g c =
@@ -96,7 +96,7 @@ returns-in_err-hold_and_write-clause-stays_fresh g c =
     let x = c.requires.can in
     let area_in = area_inside _ _ _ _ c.args.length x in
     let level_in = level_inside _ _ _ _ c.args.length x in
-    opened-stays_fresh _ _ _ _ x.kept.table p.opened.sound (opened_live _ _ _ _ _ _ _ x.kept _ _ area_in level_in _ _ _ p.opened _ c.in_err-hold_and_write.ensures.err) (opened_or_same _ _ _ _ _ _ _ x.kept _ _ area_in level_in _ _ _ p.opened)
+    opened-stays_fresh _ _ _ _ x.kept.table p.opened.sound (opened_live _ _ _ x.kept _ _ area_in level_in _ _ _ p.opened _ c.in_err-hold_and_write.ensures.err) (opened_or_same _ _ _ x.kept _ _ area_in level_in _ _ _ p.opened)
 
 pub returns-clause-preserves : goal.returns-clause-preserves
 returns-clause-preserves g c =
@@ -120,7 +120,7 @@ returns-clause-needed g c =
     let x = c.requires.can in
     let area_in = area_inside _ _ _ _ c.args.length x in
     let level_in = level_inside _ _ _ _ c.args.length x in
-    let end = end_there _ _ _ _ _ _ _ x.kept _ _ area_in level_in _ _ _ p.opened c.place_for-placed.result.at (c.args.length + 1) p.end in
+    let end = end_there _ _ _ x.kept _ _ area_in level_in _ _ _ p.opened c.place_for-placed.result.at (c.args.length + 1) p.end in
     needed-after c.args.ground.now.table c.place_for-placed.new.ground.table c.commit.new.self.table _ (c.args.length + 1) (ap (λ (u : Table). u.chains) (c.commit.ensures.table _ end)) (place-needed _ _ _ _ c.args.area c.args.level (c.args.length + 1) _ x.kept.table area_in level_in p.opened p.needed)
 
 pub returns-in_err-hold_and_write-clause-marks : goal.returns-in_err-hold_and_write-clause-marks
@@ -133,7 +133,7 @@ pub returns-clause-marks : goal.returns-clause-marks
 returns-clause-marks g c =
     let p = c.place_for-placed.ensures in
     let x = c.requires.can in
-    let end = end_there _ _ _ _ _ _ _ x.kept _ _ (area_inside _ _ _ _ c.args.length x) (level_inside _ _ _ _ c.args.length x) _ _ _ p.opened c.place_for-placed.result.at (c.args.length + 1) p.end in
+    let end = end_there _ _ _ x.kept _ _ (area_inside _ _ _ _ c.args.length x) (level_inside _ _ _ _ c.args.length x) _ _ _ p.opened c.place_for-placed.result.at (c.args.length + 1) p.end in
     let marks = block_marks _ _ _ _ c.args.length x _ _ _ p.opened c.place_for-placed.result.at p.end (g.M.Memory.seen c.hold_and_write.new.mem) c.commit.new.self.table c.args.code c.in_ok-hold_and_write.ensures.ok
     (c.commit.ensures.table _ end) c.commit.ensures.pages c.commit.ensures.sound in
     let memory = ap g.M.Memory.seen c.commit.ensures.memory in

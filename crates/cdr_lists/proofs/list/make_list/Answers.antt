@@ -26,7 +26,7 @@ pub lay_cells-requires : goal.lay_cells-requires
 lay_cells-requires g c =
     let can = same_items c.as_slice-numbers.ensures.value c.requires in
     let p = c.place_for-placed.ensures in
-    let inside = words_inside _ _ _ _ _ _ _ c.requires.kept c.args.area c.args.level (list_area _ _ _ _ _ _ can) (list_level _ _ _ _ _ _ can) _ _ _ p.opened c.place_for-placed.result.at p.end in
+    let inside = words_inside _ _ _ c.requires.kept c.args.area c.args.level (list_area _ _ _ _ _ _ can) (list_level _ _ _ _ _ _ can) _ _ _ p.opened c.place_for-placed.result.at p.end in
     record { few = can.few; inside = inside; small = c.place_for-placed.new.ground.small; each = can.inside }
 
 pub commit-requires-clause-allowed : goal.commit-requires-clause-allowed
@@ -40,8 +40,8 @@ returns-in_err-lay_cells-clause-fault g c =
     let can = same_items c.as_slice-numbers.ensures.value c.requires in
     let p = c.place_for-placed.ensures in
     record {
-      opened = on_err c.from_residual.result _ (opened_or_same _ _ _ _ _ _ _ c.requires.kept c.args.area c.args.level (list_area _ _ _ _ _ _ can) (list_level _ _ _ _ _ _ can) _ _ _ p.opened c.place_for-placed.result.at p.end);
-      fault = on_err c.from_residual.result _ (opened_stays _ _ _ _ _ _ _ c.requires.kept c.args.area c.args.level (list_area _ _ _ _ _ _ can) (list_level _ _ _ _ _ _ can) _ _ _ p.opened c.place_for-placed.result.at p.end (g.M.Memory.seen c.lay_cells.new.mem) c.in_err-lay_cells.ensures.err);
+      opened = on_err c.from_residual.result _ (opened_or_same _ _ _ c.requires.kept c.args.area c.args.level (list_area _ _ _ _ _ _ can) (list_level _ _ _ _ _ _ can) _ _ _ p.opened c.place_for-placed.result.at p.end);
+      fault = on_err c.from_residual.result _ (opened_stays _ _ _ c.requires.kept c.args.area c.args.level (list_area _ _ _ _ _ _ can) (list_level _ _ _ _ _ _ can) _ _ _ p.opened c.place_for-placed.result.at p.end (g.M.Memory.seen c.lay_cells.new.mem) c.in_err-lay_cells.ensures.err);
       accounted = search rules;
     }
 
@@ -49,20 +49,20 @@ pub returns-in_err-lay_cells-clause-stays_ground : goal.returns-in_err-lay_cells
 returns-in_err-lay_cells-clause-stays_ground g c =
     let can = same_items c.as_slice-numbers.ensures.value c.requires in
     let p = c.place_for-placed.ensures in
-    let live = opened_live _ _ _ _ _ _ _ c.requires.kept c.args.area c.args.level (list_area _ _ _ _ _ _ can) (list_level _ _ _ _ _ _ can) _ _ _ p.opened c.place_for-placed.result.at p.end (g.M.Memory.seen c.lay_cells.new.mem) c.in_err-lay_cells.ensures.err in
+    let live = opened_live _ _ _ c.requires.kept c.args.area c.args.level (list_area _ _ _ _ _ _ can) (list_level _ _ _ _ _ _ can) _ _ _ p.opened c.place_for-placed.result.at p.end (g.M.Memory.seen c.lay_cells.new.mem) c.in_err-lay_cells.ensures.err in
     record {
       live = live;
-      preserves = opened-preserves live (opened_or_same _ _ _ _ _ _ _ c.requires.kept c.args.area c.args.level (list_area _ _ _ _ _ _ can) (list_level _ _ _ _ _ _ can) _ _ _ p.opened c.place_for-placed.result.at p.end);
-      stays_fresh = λ fresh. opened_stays_fresh _ _ _ _ _ _ _ c.requires.kept c.args.area c.args.level (list_area _ _ _ _ _ _ can) (list_level _ _ _ _ _ _ can) _ _ _ p.opened c.place_for-placed.result.at p.end (g.M.Memory.seen c.lay_cells.new.mem) c.in_err-lay_cells.ensures.err;
-      marks = marks-then (opened_marks _ _ _ _ _ _ _ c.requires.kept c.args.area c.args.level (list_area _ _ _ _ _ _ can) (list_level _ _ _ _ _ _ can) _ _ _ p.opened c.place_for-placed.result.at p.end) (marks-read c.place_for-placed.new.ground.table c.in_err-lay_cells.ensures.err);
+      preserves = opened-preserves live (opened_or_same _ _ _ c.requires.kept c.args.area c.args.level (list_area _ _ _ _ _ _ can) (list_level _ _ _ _ _ _ can) _ _ _ p.opened c.place_for-placed.result.at p.end);
+      stays_fresh = λ fresh. opened_stays_fresh _ _ _ c.requires.kept c.args.area c.args.level (list_area _ _ _ _ _ _ can) (list_level _ _ _ _ _ _ can) _ _ _ p.opened c.place_for-placed.result.at p.end (g.M.Memory.seen c.lay_cells.new.mem) c.in_err-lay_cells.ensures.err;
+      marks = marks-then (opened_marks _ _ _ c.requires.kept c.args.area c.args.level (list_area _ _ _ _ _ _ can) (list_level _ _ _ _ _ _ can) _ _ _ p.opened c.place_for-placed.result.at p.end) (marks-read c.place_for-placed.new.ground.table c.in_err-lay_cells.ensures.err);
     }
 
 pub returns-clause-made : goal.returns-clause-made
 returns-clause-made g c =
     let can = same_items c.as_slice-numbers.ensures.value c.requires in
     let p = c.place_for-placed.ensures in
-    let end = end_there _ _ _ _ _ _ _ c.requires.kept c.args.area c.args.level (list_area _ _ _ _ _ _ can) (list_level _ _ _ _ _ _ can) _ _ _ p.opened c.place_for-placed.result.at p.end in
-    let inside = words_inside _ _ _ _ _ _ _ c.requires.kept c.args.area c.args.level (list_area _ _ _ _ _ _ can) (list_level _ _ _ _ _ _ can) _ _ _ p.opened c.place_for-placed.result.at p.end in
+    let end = end_there _ _ _ c.requires.kept c.args.area c.args.level (list_area _ _ _ _ _ _ can) (list_level _ _ _ _ _ _ can) _ _ _ p.opened c.place_for-placed.result.at p.end in
+    let inside = words_inside _ _ _ c.requires.kept c.args.area c.args.level (list_area _ _ _ _ _ _ can) (list_level _ _ _ _ _ _ can) _ _ _ p.opened c.place_for-placed.result.at p.end in
     let made = listed_on _ _ _ _ _ _ can _ _ _ p.opened c.place_for-placed.result.at p.end (g.M.Memory.seen c.lay_cells.new.mem) c.commit.new.self.table c.in_ok-lay_cells.ensures.cells inside (c.commit.ensures.table _ end) c.commit.ensures.sound in
     let memory = ap g.M.Memory.seen c.commit.ensures.memory in
     subst (λ (xs : List ℕ). ListedOn (g.M.Memory.seen c.args.ground.now.mem) c.args.ground.now.table (g.M.Memory.seen c.commit.new.self.mem) c.commit.new.self.table c.args.area c.args.level c.args.registers.now xs c.place_for-placed.result.at) c.as_slice-numbers.ensures.value
@@ -77,12 +77,12 @@ pub returns-clause-placed : goal.returns-clause-placed
 returns-clause-placed g c =
     let can = same_items c.as_slice-numbers.ensures.value c.requires in
     let p = c.place_for-placed.ensures in
-    let end = end_there _ _ _ _ _ _ _ c.requires.kept c.args.area c.args.level (list_area _ _ _ _ _ _ can) (list_level _ _ _ _ _ _ can) _ _ _ p.opened c.place_for-placed.result.at p.end in
+    let end = end_there _ _ _ c.requires.kept c.args.area c.args.level (list_area _ _ _ _ _ _ can) (list_level _ _ _ _ _ _ can) _ _ _ p.opened c.place_for-placed.result.at p.end in
     let some = can.some in
     let placed = list_placed _ _ _ _ _ _ can _ _ _ p.opened c.place_for-placed.result.at p.end (g.M.Memory.seen c.lay_cells.new.mem) c.commit.new.self.table c.in_ok-lay_cells.ensures.cells (c.commit.ensures.table _ end) c.commit.ensures.pages in
     let marks = marks_by_words c.place_for-placed.result.opened p.opened c.in_ok-lay_cells.ensures.cells in
     record {
-      in_range = words_low _ _ _ _ _ _ _ c.requires.kept c.args.area c.args.level (list_area _ _ _ _ _ _ can) (list_level _ _ _ _ _ _ can) _ _ _ p.opened c.place_for-placed.result.at p.end (omega arith);
+      in_range = words_low _ _ _ c.requires.kept c.args.area c.args.level (list_area _ _ _ _ _ _ can) (list_level _ _ _ _ _ _ can) _ _ _ p.opened c.place_for-placed.result.at p.end (omega arith);
       placed = subst (λ (xs : List ℕ). PlacesNew c.args.ground.now.table c.commit.new.self.table c.args.area c.args.level c.place_for-placed.result.at (length xs) (3 * length xs)) c.as_slice-numbers.ensures.value placed;
       unmarked = subst (λ (m : Store). MarksByWords (g.M.Memory.seen c.args.ground.now.mem) m c.place_for-placed.result.at (length c.args.items.now)) (sym (ap g.M.Memory.seen c.commit.ensures.memory))
           (subst (λ (xs : List ℕ). MarksByWords (g.M.Memory.seen c.args.ground.now.mem) (g.M.Memory.seen c.lay_cells.new.mem) c.place_for-placed.result.at (length xs)) c.as_slice-numbers.ensures.value marks);
@@ -92,7 +92,7 @@ pub returns-clause-stays_ground : goal.returns-clause-stays_ground
 returns-clause-stays_ground g c =
     let can = same_items c.as_slice-numbers.ensures.value c.requires in
     let p = c.place_for-placed.ensures in
-    let end = end_there _ _ _ _ _ _ _ c.requires.kept c.args.area c.args.level (list_area _ _ _ _ _ _ can) (list_level _ _ _ _ _ _ can) _ _ _ p.opened c.place_for-placed.result.at p.end in
+    let end = end_there _ _ _ c.requires.kept c.args.area c.args.level (list_area _ _ _ _ _ _ can) (list_level _ _ _ _ _ _ can) _ _ _ p.opened c.place_for-placed.result.at p.end in
     let memory = ap g.M.Memory.seen c.commit.ensures.memory in
     let live = subst (λ (m : Store). LiveWordsUnchanged (g.M.Memory.seen c.args.ground.now.mem) c.args.ground.now.table m c.commit.new.self.table) (sym memory) (list_live _ _ _ _ _ _ can _ _ _ p.opened c.place_for-placed.result.at p.end (g.M.Memory.seen c.lay_cells.new.mem) c.commit.new.self.table c.in_ok-lay_cells.ensures.cells (c.commit.ensures.table _ end) c.commit.ensures.pages) in
     let placed = list_placed _ _ _ _ _ _ can _ _ _ p.opened c.place_for-placed.result.at p.end (g.M.Memory.seen c.lay_cells.new.mem) c.commit.new.self.table c.in_ok-lay_cells.ensures.cells (c.commit.ensures.table _ end) c.commit.ensures.pages in
@@ -116,6 +116,6 @@ pub returns-clause-needed : goal.returns-clause-needed
 returns-clause-needed g c =
     let can = same_items c.as_slice-numbers.ensures.value c.requires in
     let p = c.place_for-placed.ensures in
-    let end = end_there _ _ _ _ _ _ _ c.requires.kept c.args.area c.args.level (list_area _ _ _ _ _ _ can) (list_level _ _ _ _ _ _ can) _ _ _ p.opened c.place_for-placed.result.at p.end in
+    let end = end_there _ _ _ c.requires.kept c.args.area c.args.level (list_area _ _ _ _ _ _ can) (list_level _ _ _ _ _ _ can) _ _ _ p.opened c.place_for-placed.result.at p.end in
     subst (λ (xs : List ℕ). OpensIfNeeded c.args.ground.now.table c.commit.new.self.table c.args.area c.args.level (length xs)) c.as_slice-numbers.ensures.value
     (needed_then (opens_if_needed c.place_for-placed.result.opened p.opened p.needed) (ap (λ (x : Table). x.chains) (c.commit.ensures.table _ end)))

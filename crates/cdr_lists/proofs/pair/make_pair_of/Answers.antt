@@ -26,7 +26,7 @@ pub write_pair-requires-clause-in_range : goal.write_pair-requires-clause-in_ran
 write_pair-requires-clause-in_range g c =
     let q = c.place-placed.ensures in
     let p = is_place (g.M.Memory.seen c.args.ground.now.mem) c.args.ground.now.table c.args.pair.area c.args.pair.level 2 c.place-placed.result.opened q.end q.unchanged q.memory q.table q.opened q.needed q.free q.lowest q.sound q.stays_ground q.stays_named in
-    let inside = words_inside _ _ _ _ _ _ _ c.requires.kept c.args.pair.area c.args.pair.level (area_inside _ _ _ _ _ _ _ c.requires) (level_inside _ _ _ _ _ _ _ c.requires) _ _ _ p.opens c.place-placed.result.at p.end in
+    let inside = words_inside _ _ _ c.requires.kept c.args.pair.area c.args.pair.level (area_inside _ _ _ _ _ _ _ c.requires) (level_inside _ _ _ _ _ _ _ c.requires) _ _ _ p.opens c.place-placed.result.at p.end in
     omega arith
 
 pub commit-requires-clause-allowed : goal.commit-requires-clause-allowed
@@ -48,8 +48,8 @@ returns-in_err-write_pair-clause-fault g c =
     let faults = q.no_fault in
     let taken = q.taken in
     record {
-      opened = on_err c.from_residual.result _ (opened_or_same _ _ _ _ _ _ _ c.requires.kept c.args.pair.area c.args.pair.level (area_inside _ _ _ _ _ _ _ c.requires) (level_inside _ _ _ _ _ _ _ c.requires) _ _ _ p.opens c.place-placed.result.at p.end);
-      fault = on_err c.from_residual.result _ (opened_stays _ _ _ _ _ _ _ c.requires.kept c.args.pair.area c.args.pair.level (area_inside _ _ _ _ _ _ _ c.requires) (level_inside _ _ _ _ _ _ _ c.requires) _ _ _ p.opens c.place-placed.result.at p.end (g.M.Memory.seen c.write_pair.new.mem) c.in_err-write_pair.ensures.err);
+      opened = on_err c.from_residual.result _ (opened_or_same _ _ _ c.requires.kept c.args.pair.area c.args.pair.level (area_inside _ _ _ _ _ _ _ c.requires) (level_inside _ _ _ _ _ _ _ c.requires) _ _ _ p.opens c.place-placed.result.at p.end);
+      fault = on_err c.from_residual.result _ (opened_stays _ _ _ c.requires.kept c.args.pair.area c.args.pair.level (area_inside _ _ _ _ _ _ _ c.requires) (level_inside _ _ _ _ _ _ _ c.requires) _ _ _ p.opens c.place-placed.result.at p.end (g.M.Memory.seen c.write_pair.new.mem) c.in_err-write_pair.ensures.err);
       accounted = rw failed.1 (record {
         cause = record { later = omega arith; failed = omega arith; quiet = tt };
         honest = omega arith;
@@ -61,19 +61,19 @@ pub returns-in_err-write_pair-clause-stays_ground : goal.returns-in_err-write_pa
 returns-in_err-write_pair-clause-stays_ground g c =
     let q = c.place-placed.ensures in
     let p = is_place (g.M.Memory.seen c.args.ground.now.mem) c.args.ground.now.table c.args.pair.area c.args.pair.level 2 c.place-placed.result.opened q.end q.unchanged q.memory q.table q.opened q.needed q.free q.lowest q.sound q.stays_ground q.stays_named in
-    let live = opened_live _ _ _ _ _ _ _ c.requires.kept c.args.pair.area c.args.pair.level (area_inside _ _ _ _ _ _ _ c.requires) (level_inside _ _ _ _ _ _ _ c.requires) _ _ _ p.opens c.place-placed.result.at p.end (g.M.Memory.seen c.write_pair.new.mem) c.in_err-write_pair.ensures.err in
+    let live = opened_live _ _ _ c.requires.kept c.args.pair.area c.args.pair.level (area_inside _ _ _ _ _ _ _ c.requires) (level_inside _ _ _ _ _ _ _ c.requires) _ _ _ p.opens c.place-placed.result.at p.end (g.M.Memory.seen c.write_pair.new.mem) c.in_err-write_pair.ensures.err in
     record {
       live = live;
-      preserves = opened-preserves live (opened_or_same _ _ _ _ _ _ _ c.requires.kept c.args.pair.area c.args.pair.level (area_inside _ _ _ _ _ _ _ c.requires) (level_inside _ _ _ _ _ _ _ c.requires) _ _ _ p.opens c.place-placed.result.at p.end);
-      stays_fresh = λ fresh. opened_stays_fresh _ _ _ _ _ _ _ c.requires.kept c.args.pair.area c.args.pair.level (area_inside _ _ _ _ _ _ _ c.requires) (level_inside _ _ _ _ _ _ _ c.requires) _ _ _ p.opens c.place-placed.result.at p.end (g.M.Memory.seen c.write_pair.new.mem) c.in_err-write_pair.ensures.err;
-      marks = marks-then (opened_marks _ _ _ _ _ _ _ c.requires.kept c.args.pair.area c.args.pair.level (area_inside _ _ _ _ _ _ _ c.requires) (level_inside _ _ _ _ _ _ _ c.requires) _ _ _ p.opens c.place-placed.result.at p.end) (marks-read c.place-placed.new.self.table c.in_err-write_pair.ensures.err);
+      preserves = opened-preserves live (opened_or_same _ _ _ c.requires.kept c.args.pair.area c.args.pair.level (area_inside _ _ _ _ _ _ _ c.requires) (level_inside _ _ _ _ _ _ _ c.requires) _ _ _ p.opens c.place-placed.result.at p.end);
+      stays_fresh = λ fresh. opened_stays_fresh _ _ _ c.requires.kept c.args.pair.area c.args.pair.level (area_inside _ _ _ _ _ _ _ c.requires) (level_inside _ _ _ _ _ _ _ c.requires) _ _ _ p.opens c.place-placed.result.at p.end (g.M.Memory.seen c.write_pair.new.mem) c.in_err-write_pair.ensures.err;
+      marks = marks-then (opened_marks _ _ _ c.requires.kept c.args.pair.area c.args.pair.level (area_inside _ _ _ _ _ _ _ c.requires) (level_inside _ _ _ _ _ _ _ c.requires) _ _ _ p.opens c.place-placed.result.at p.end) (marks-read c.place-placed.new.self.table c.in_err-write_pair.ensures.err);
     }
 
 pub returns-clause-made : goal.returns-clause-made
 returns-clause-made g c =
     let q = c.place-placed.ensures in
     let p = is_place (g.M.Memory.seen c.args.ground.now.mem) c.args.ground.now.table c.args.pair.area c.args.pair.level 2 c.place-placed.result.opened q.end q.unchanged q.memory q.table q.opened q.needed q.free q.lowest q.sound q.stays_ground q.stays_named in
-    let end = end_there _ _ _ _ _ _ _ c.requires.kept c.args.pair.area c.args.pair.level (area_inside _ _ _ _ _ _ _ c.requires) (level_inside _ _ _ _ _ _ _ c.requires) _ _ _ p.opens c.place-placed.result.at p.end in
+    let end = end_there _ _ _ c.requires.kept c.args.pair.area c.args.pair.level (area_inside _ _ _ _ _ _ _ c.requires) (level_inside _ _ _ _ _ _ _ c.requires) _ _ _ p.opens c.place-placed.result.at p.end in
     let w = c.in_ok-write_pair.ensures in
     let second = c.with_cdr-second.ensures ∙ ap (λ (code : CdrCode). record c.args.cdr { cdr = code }) c.code_of.ensures in
     let made = paired_on _ _ _ _ _ _ _ c.requires _ _ _ p.opens c.place-placed.result.at p.end (g.M.Memory.seen c.write_pair.new.mem) c.commit.new.self.table c.with_cdr-first.result c.with_cdr-second.result c.with_cdr-first.ensures second (within-written w.pair) w.first w.second (c.commit.ensures.table _ end) c.commit.ensures.sound in
@@ -91,10 +91,10 @@ pub returns-clause-placed : goal.returns-clause-placed
 returns-clause-placed g c =
     let q = c.place-placed.ensures in
     let p = is_place (g.M.Memory.seen c.args.ground.now.mem) c.args.ground.now.table c.args.pair.area c.args.pair.level 2 c.place-placed.result.opened q.end q.unchanged q.memory q.table q.opened q.needed q.free q.lowest q.sound q.stays_ground q.stays_named in
-    let end = end_there _ _ _ _ _ _ _ c.requires.kept c.args.pair.area c.args.pair.level (area_inside _ _ _ _ _ _ _ c.requires) (level_inside _ _ _ _ _ _ _ c.requires) _ _ _ p.opens c.place-placed.result.at p.end in
+    let end = end_there _ _ _ c.requires.kept c.args.pair.area c.args.pair.level (area_inside _ _ _ _ _ _ _ c.requires) (level_inside _ _ _ _ _ _ _ c.requires) _ _ _ p.opens c.place-placed.result.at p.end in
     let w = c.in_ok-write_pair.ensures in
     record {
-      in_range = words_low _ _ _ _ _ _ _ c.requires.kept c.args.pair.area c.args.pair.level (area_inside _ _ _ _ _ _ _ c.requires) (level_inside _ _ _ _ _ _ _ c.requires) _ _ _ p.opens c.place-placed.result.at p.end (omega arith);
+      in_range = words_low _ _ _ c.requires.kept c.args.pair.area c.args.pair.level (area_inside _ _ _ _ _ _ _ c.requires) (level_inside _ _ _ _ _ _ _ c.requires) _ _ _ p.opens c.place-placed.result.at p.end (omega arith);
       placed = pair_placed _ _ _ _ _ _ _ c.requires _ _ _ p.opens c.place-placed.result.at p.end (g.M.Memory.seen c.write_pair.new.mem) c.commit.new.self.table (within-written w.pair) (c.commit.ensures.table _ end) c.commit.ensures.pages;
       unmarked = subst (λ (m : Store). MarksByWords (g.M.Memory.seen c.args.ground.now.mem) m c.place-placed.result.at 2) (sym (ap g.M.Memory.seen c.commit.ensures.memory)) (marks_by_words c.place-placed.result.opened p.opens w.pair);
     }
@@ -103,7 +103,7 @@ pub returns-clause-stays_ground : goal.returns-clause-stays_ground
 returns-clause-stays_ground g c =
     let q = c.place-placed.ensures in
     let p = is_place (g.M.Memory.seen c.args.ground.now.mem) c.args.ground.now.table c.args.pair.area c.args.pair.level 2 c.place-placed.result.opened q.end q.unchanged q.memory q.table q.opened q.needed q.free q.lowest q.sound q.stays_ground q.stays_named in
-    let end = end_there _ _ _ _ _ _ _ c.requires.kept c.args.pair.area c.args.pair.level (area_inside _ _ _ _ _ _ _ c.requires) (level_inside _ _ _ _ _ _ _ c.requires) _ _ _ p.opens c.place-placed.result.at p.end in
+    let end = end_there _ _ _ c.requires.kept c.args.pair.area c.args.pair.level (area_inside _ _ _ _ _ _ _ c.requires) (level_inside _ _ _ _ _ _ _ c.requires) _ _ _ p.opens c.place-placed.result.at p.end in
     let w = c.in_ok-write_pair.ensures in
     let memory = ap g.M.Memory.seen c.commit.ensures.memory in
     let memory_words = ap (λ (m : Store). m.words) memory in
@@ -138,5 +138,5 @@ pub returns-clause-needed : goal.returns-clause-needed
 returns-clause-needed g c =
     let q = c.place-placed.ensures in
     let p = is_place (g.M.Memory.seen c.args.ground.now.mem) c.args.ground.now.table c.args.pair.area c.args.pair.level 2 c.place-placed.result.opened q.end q.unchanged q.memory q.table q.opened q.needed q.free q.lowest q.sound q.stays_ground q.stays_named in
-    let end = end_there _ _ _ _ _ _ _ c.requires.kept c.args.pair.area c.args.pair.level (area_inside _ _ _ _ _ _ _ c.requires) (level_inside _ _ _ _ _ _ _ c.requires) _ _ _ p.opens c.place-placed.result.at p.end in
+    let end = end_there _ _ _ c.requires.kept c.args.pair.area c.args.pair.level (area_inside _ _ _ _ _ _ _ c.requires) (level_inside _ _ _ _ _ _ _ c.requires) _ _ _ p.opens c.place-placed.result.at p.end in
     needed_then (opens_if_needed c.place-placed.result.opened p.opens p.needed) (ap (λ (x : Table). x.chains) (c.commit.ensures.table _ end))

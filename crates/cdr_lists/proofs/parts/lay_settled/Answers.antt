@@ -32,7 +32,7 @@ pub write_relay-requires-clause-pair : goal.write_relay-requires-clause-pair
 write_relay-requires-clause-pair g c =
     let class = class_found c.args.ground.now.table c.class_of.result c.unwrap-class.ensures c.class_of.ensures.area c.class_of.ensures.level c.class_of.ensures.some in
     let p = c.place_for-placed.ensures in
-    let inside = words_inside _ _ _ _ _ _ _ c.requires.can.can.can.kept c.unwrap-class.result.area c.unwrap-class.result.level class.area class.level _ _ _ p.opened c.place_for-placed.result.at p.end in
+    let inside = words_inside _ _ _ c.requires.can.can.can.kept c.unwrap-class.result.area c.unwrap-class.result.level class.area class.level _ _ _ p.opened c.place_for-placed.result.at p.end in
     omega arith
 
 pub returns-in_err-write_relay-clause-fault : goal.returns-in_err-write_relay-clause-fault
@@ -40,35 +40,35 @@ returns-in_err-write_relay-clause-fault g c =
     let class = class_found c.args.ground.now.table c.class_of.result c.unwrap-class.ensures c.class_of.ensures.area c.class_of.ensures.level c.class_of.ensures.some in
     let p = c.place_for-placed.ensures in
     on_err c.from_residual.result _ (record {
-      fault = opened_stays _ _ _ _ _ _ _ c.requires.can.can.can.kept c.unwrap-class.result.area c.unwrap-class.result.level class.area class.level _ _ _ p.opened c.place_for-placed.result.at p.end (g.M.Memory.seen c.write_relay.new.mem) c.in_err-write_relay.ensures.err;
-      live = opened_live _ _ _ _ _ _ _ c.requires.can.can.can.kept c.unwrap-class.result.area c.unwrap-class.result.level class.area class.level _ _ _ p.opened c.place_for-placed.result.at p.end (g.M.Memory.seen c.write_relay.new.mem) c.in_err-write_relay.ensures.err;
-      moves = opened_moves _ _ _ _ _ _ _ c.requires.can.can.can.kept c.unwrap-class.result.area c.unwrap-class.result.level class.area class.level _ _ _ p.opened c.place_for-placed.result.at p.end (g.M.Memory.seen c.write_relay.new.mem) c.in_err-write_relay.ensures.err;
+      fault = opened_stays _ _ _ c.requires.can.can.can.kept c.unwrap-class.result.area c.unwrap-class.result.level class.area class.level _ _ _ p.opened c.place_for-placed.result.at p.end (g.M.Memory.seen c.write_relay.new.mem) c.in_err-write_relay.ensures.err;
+      live = opened_live _ _ _ c.requires.can.can.can.kept c.unwrap-class.result.area c.unwrap-class.result.level class.area class.level _ _ _ p.opened c.place_for-placed.result.at p.end (g.M.Memory.seen c.write_relay.new.mem) c.in_err-write_relay.ensures.err;
+      moves = opened_moves _ _ _ c.requires.can.can.can.kept c.unwrap-class.result.area c.unwrap-class.result.level class.area class.level _ _ _ p.opened c.place_for-placed.result.at p.end (g.M.Memory.seen c.write_relay.new.mem) c.in_err-write_relay.ensures.err;
     })
 
 pub returns-in_err-write_relay-clause-preserves : goal.returns-in_err-write_relay-clause-preserves
 returns-in_err-write_relay-clause-preserves g c =
     let class = class_found c.args.ground.now.table c.class_of.result c.unwrap-class.ensures c.class_of.ensures.area c.class_of.ensures.level c.class_of.ensures.some in
     let p = c.place_for-placed.ensures in
-    opened-preserves (opened_live _ _ _ _ _ _ _ c.requires.can.can.can.kept c.unwrap-class.result.area c.unwrap-class.result.level class.area class.level _ _ _ p.opened c.place_for-placed.result.at p.end (g.M.Memory.seen c.write_relay.new.mem) c.in_err-write_relay.ensures.err) (opened_or_same _ _ _ _ _ _ _ c.requires.can.can.can.kept c.unwrap-class.result.area c.unwrap-class.result.level class.area class.level _ _ _ p.opened c.place_for-placed.result.at p.end)
+    opened-preserves (opened_live _ _ _ c.requires.can.can.can.kept c.unwrap-class.result.area c.unwrap-class.result.level class.area class.level _ _ _ p.opened c.place_for-placed.result.at p.end (g.M.Memory.seen c.write_relay.new.mem) c.in_err-write_relay.ensures.err) (opened_or_same _ _ _ c.requires.can.can.can.kept c.unwrap-class.result.area c.unwrap-class.result.level class.area class.level _ _ _ p.opened c.place_for-placed.result.at p.end)
 
 pub returns-in_err-write_relay-clause-stays_fresh : goal.returns-in_err-write_relay-clause-stays_fresh
 returns-in_err-write_relay-clause-stays_fresh g c = λ fresh.
     let class = class_found c.args.ground.now.table c.class_of.result c.unwrap-class.ensures c.class_of.ensures.area c.class_of.ensures.level c.class_of.ensures.some in
     let p = c.place_for-placed.ensures in
-    opened_stays_fresh _ _ _ _ _ _ _ c.requires.can.can.can.kept c.unwrap-class.result.area c.unwrap-class.result.level class.area class.level _ _ _ p.opened c.place_for-placed.result.at p.end (g.M.Memory.seen c.write_relay.new.mem) c.in_err-write_relay.ensures.err
+    opened_stays_fresh _ _ _ c.requires.can.can.can.kept c.unwrap-class.result.area c.unwrap-class.result.level class.area class.level _ _ _ p.opened c.place_for-placed.result.at p.end (g.M.Memory.seen c.write_relay.new.mem) c.in_err-write_relay.ensures.err
 
 pub returns-in_err-write_relay-clause-at_most : goal.returns-in_err-write_relay-clause-at_most
 returns-in_err-write_relay-clause-at_most g c =
     let class = class_found c.args.ground.now.table c.class_of.result c.unwrap-class.ensures c.class_of.ensures.area c.class_of.ensures.level c.class_of.ensures.some in
     let p = c.place_for-placed.ensures in
-    let none = none_placed _ _ _ _ _ _ _ c.requires.can.can.can.kept c.unwrap-class.result.area c.unwrap-class.result.level class.area class.level _ _ _ p.opened c.place_for-placed.result.at p.end in
+    let none = none_placed _ _ _ c.requires.can.can.can.kept c.unwrap-class.result.area c.unwrap-class.result.level class.area class.level _ _ _ p.opened c.place_for-placed.result.at p.end in
     omega arith
 
 pub returns-clause-set : goal.returns-clause-set
 returns-clause-set g c =
     let class = class_found c.args.ground.now.table c.class_of.result c.unwrap-class.ensures c.class_of.ensures.area c.class_of.ensures.level c.class_of.ensures.some in
     let p = c.place_for-placed.ensures in
-    let end = end_there _ _ _ _ _ _ _ c.requires.can.can.can.kept c.unwrap-class.result.area c.unwrap-class.result.level class.area class.level _ _ _ p.opened c.place_for-placed.result.at p.end in
+    let end = end_there _ _ _ c.requires.can.can.can.kept c.unwrap-class.result.area c.unwrap-class.result.level class.area class.level _ _ _ p.opened c.place_for-placed.result.at p.end in
     let set = cell_set _ _ _ c.args.car c.args.cdr (set_here _ _ c.args.cell c.args.cdr c.requires.can) c.requires.cell c.unwrap-class.result class.area class.level class.some _ _ _ p.opened c.place_for-placed.result.at p.end (g.M.Memory.seen c.write_relay.new.mem) c.commit.new.self.table
     c.with_cdr-first.result c.with_cdr-second.result c.in_ok-write_relay.ensures.ok c.with_cdr-first.ensures c.with_cdr-second.ensures (c.commit.ensures.table _ end) c.commit.ensures.sound in
     let memory = ap g.M.Memory.seen c.commit.ensures.memory in
@@ -79,7 +79,7 @@ pub returns-clause-laid : goal.returns-clause-laid
 returns-clause-laid g c =
     let class = class_found c.args.ground.now.table c.class_of.result c.unwrap-class.ensures c.class_of.ensures.area c.class_of.ensures.level c.class_of.ensures.some in
     let p = c.place_for-placed.ensures in
-    let end = end_there _ _ _ _ _ _ _ c.requires.can.can.can.kept c.unwrap-class.result.area c.unwrap-class.result.level class.area class.level _ _ _ p.opened c.place_for-placed.result.at p.end in
+    let end = end_there _ _ _ c.requires.can.can.can.kept c.unwrap-class.result.area c.unwrap-class.result.level class.area class.level _ _ _ p.opened c.place_for-placed.result.at p.end in
     let laid = cell_laid _ _ _ c.args.car c.args.cdr (set_here _ _ c.args.cell c.args.cdr c.requires.can) c.requires.cell c.unwrap-class.result class.area class.level class.some _ _ _ p.opened c.place_for-placed.result.at p.end (g.M.Memory.seen c.write_relay.new.mem) c.commit.new.self.table
     c.with_cdr-first.result c.with_cdr-second.result c.in_ok-write_relay.ensures.ok c.commit.ensures.sound (c.commit.ensures.table _ end) c.commit.ensures.pages (opens_if_needed c.place_for-placed.result.opened p.opened p.needed) c.with_cdr-first.ensures c.with_cdr-second.ensures in
     let others = cell_others _ _ _ c.args.car c.args.cdr (set_here _ _ c.args.cell c.args.cdr c.requires.can) c.requires.cell c.unwrap-class.result class.area class.level class.some _ _ _ p.opened c.place_for-placed.result.at p.end (g.M.Memory.seen c.write_relay.new.mem) c.commit.new.self.table
@@ -91,7 +91,7 @@ pub returns-clause-preserves : goal.returns-clause-preserves
 returns-clause-preserves g c =
     let class = class_found c.args.ground.now.table c.class_of.result c.unwrap-class.ensures c.class_of.ensures.area c.class_of.ensures.level c.class_of.ensures.some in
     let p = c.place_for-placed.ensures in
-    let end = end_there _ _ _ _ _ _ _ c.requires.can.can.can.kept c.unwrap-class.result.area c.unwrap-class.result.level class.area class.level _ _ _ p.opened c.place_for-placed.result.at p.end in
+    let end = end_there _ _ _ c.requires.can.can.can.kept c.unwrap-class.result.area c.unwrap-class.result.level class.area class.level _ _ _ p.opened c.place_for-placed.result.at p.end in
     let preserves = cell_preserves _ _ _ c.args.car c.args.cdr (set_here _ _ c.args.cell c.args.cdr c.requires.can) c.requires.cell c.unwrap-class.result class.area class.level class.some _ _ _ p.opened c.place_for-placed.result.at p.end (g.M.Memory.seen c.write_relay.new.mem) c.commit.new.self.table
     c.with_cdr-first.result c.with_cdr-second.result c.in_ok-write_relay.ensures.ok c.commit.ensures.sound (c.commit.ensures.table _ end) c.commit.ensures.pages in
     let memory = ap g.M.Memory.seen c.commit.ensures.memory in
@@ -101,7 +101,7 @@ pub returns-clause-stays_fresh : goal.returns-clause-stays_fresh
 returns-clause-stays_fresh g c = λ fresh all.
     let class = class_found c.args.ground.now.table c.class_of.result c.unwrap-class.ensures c.class_of.ensures.area c.class_of.ensures.level c.class_of.ensures.some in
     let p = c.place_for-placed.ensures in
-    let end = end_there _ _ _ _ _ _ _ c.requires.can.can.can.kept c.unwrap-class.result.area c.unwrap-class.result.level class.area class.level _ _ _ p.opened c.place_for-placed.result.at p.end in
+    let end = end_there _ _ _ c.requires.can.can.can.kept c.unwrap-class.result.area c.unwrap-class.result.level class.area class.level _ _ _ p.opened c.place_for-placed.result.at p.end in
     let stays_fresh = cell_stays_fresh _ _ _ c.args.car c.args.cdr (set_here _ _ c.args.cell c.args.cdr c.requires.can) c.requires.cell c.unwrap-class.result class.area class.level class.some _ _ _ p.opened c.place_for-placed.result.at p.end (g.M.Memory.seen c.write_relay.new.mem) c.commit.new.self.table
     c.with_cdr-first.result c.with_cdr-second.result c.in_ok-write_relay.ensures.ok c.commit.ensures.sound (c.commit.ensures.table _ end) c.commit.ensures.pages c.with_cdr-first.ensures c.with_cdr-second.ensures fresh all in
     let memory = ap g.M.Memory.seen c.commit.ensures.memory in
@@ -111,8 +111,8 @@ pub returns-clause-at_most : goal.returns-clause-at_most
 returns-clause-at_most g c =
     let class = class_found c.args.ground.now.table c.class_of.result c.unwrap-class.ensures c.class_of.ensures.area c.class_of.ensures.level c.class_of.ensures.some in
     let p = c.place_for-placed.ensures in
-    let end = end_there _ _ _ _ _ _ _ c.requires.can.can.can.kept c.unwrap-class.result.area c.unwrap-class.result.level class.area class.level _ _ _ p.opened c.place_for-placed.result.at p.end in
-    let none = none_placed _ _ _ _ _ _ _ c.requires.can.can.can.kept c.unwrap-class.result.area c.unwrap-class.result.level class.area class.level _ _ _ p.opened c.place_for-placed.result.at p.end in
+    let end = end_there _ _ _ c.requires.can.can.can.kept c.unwrap-class.result.area c.unwrap-class.result.level class.area class.level _ _ _ p.opened c.place_for-placed.result.at p.end in
+    let none = none_placed _ _ _ c.requires.can.can.can.kept c.unwrap-class.result.area c.unwrap-class.result.level class.area class.level _ _ _ p.opened c.place_for-placed.result.at p.end in
     let some = ap (λ (x : Table). x.placed) (c.commit.ensures.table _ end) in
     omega arith
 
@@ -128,13 +128,13 @@ pub returns-in_err-write_relay-clause-marks : goal.returns-in_err-write_relay-cl
 returns-in_err-write_relay-clause-marks g c =
     let class = class_found c.args.ground.now.table c.class_of.result c.unwrap-class.ensures c.class_of.ensures.area c.class_of.ensures.level c.class_of.ensures.some in
     let p = c.place_for-placed.ensures in
-    marks-then (opened_marks _ _ _ _ _ _ _ c.requires.can.can.can.kept c.unwrap-class.result.area c.unwrap-class.result.level class.area class.level _ _ _ p.opened c.place_for-placed.result.at p.end) (marks-read c.place_for-placed.new.ground.table c.in_err-write_relay.ensures.err)
+    marks-then (opened_marks _ _ _ c.requires.can.can.can.kept c.unwrap-class.result.area c.unwrap-class.result.level class.area class.level _ _ _ p.opened c.place_for-placed.result.at p.end) (marks-read c.place_for-placed.new.ground.table c.in_err-write_relay.ensures.err)
 
 pub returns-clause-marks : goal.returns-clause-marks
 returns-clause-marks g c =
     let class = class_found c.args.ground.now.table c.class_of.result c.unwrap-class.ensures c.class_of.ensures.area c.class_of.ensures.level c.class_of.ensures.some in
     let p = c.place_for-placed.ensures in
-    let end = end_there _ _ _ _ _ _ _ c.requires.can.can.can.kept c.unwrap-class.result.area c.unwrap-class.result.level class.area class.level _ _ _ p.opened c.place_for-placed.result.at p.end in
+    let end = end_there _ _ _ c.requires.can.can.can.kept c.unwrap-class.result.area c.unwrap-class.result.level class.area class.level _ _ _ p.opened c.place_for-placed.result.at p.end in
     let marks = cell_marks _ _ _ c.args.car c.args.cdr (set_here _ _ c.args.cell c.args.cdr c.requires.can) c.requires.cell c.unwrap-class.result class.area class.level class.some _ _ _ p.opened c.place_for-placed.result.at p.end (g.M.Memory.seen c.write_relay.new.mem) c.commit.new.self.table
     c.with_cdr-first.result c.with_cdr-second.result c.in_ok-write_relay.ensures.ok c.commit.ensures.sound (c.commit.ensures.table _ end) c.commit.ensures.pages in
     let memory = ap g.M.Memory.seen c.commit.ensures.memory in

@@ -162,7 +162,7 @@ returns-in_ok-write-in-Normal-clause-stays_ground g c =
     let content = ap (λ (w : Parts). w.content) c.with_cdr.ensures in
     let t = c.args.ground.now.table in
     let r = c.requires in
-    let fresh = subst (FreshOn t) (sym content) (fresh-value r.can.map.role t c.args.value.content r.new r.new_is r.young) in
+    let fresh = subst (FreshOn t) (sym content) (fresh-value r.can.it.map.role t c.args.value.content r.new r.new_is r.young) in
     let preserves = preserves-then (read-preserves t reads) (stored-preserves t (c.in_ok-cons.cons.at + 1) c.with_cdr.result c.in_ok-write-in-Normal.ensures.ok inside fresh) in
     let here = marks-then_but (marks-read t reads)
     (marks-stored t (c.in_ok-cons.cons.at + 1) c.with_cdr.result c.in_ok-write-in-Normal.ensures.ok inside (second_plain _ _ _ _ can _ reads c.in_ok-cons.cons.at p.final p.last code) (young_stored t c.with_cdr.result c.args.value content r.young)) in

@@ -88,7 +88,7 @@ pub returns-in_ok-word-in_default-clause-unchanged : goal.returns-in_ok-word-in_
 returns-in_ok-word-in_default-clause-unchanged g c =
     let found = c.in_ok-found.ensures in
     let p = found.place in
-    keeps_cons _ _ c.args.of.content p.reference p.is _ _ (car_faulted _ _ _ _ _ p.reference c.in_ok-found.found.at found.unchanged p.final (λ k top areas registers s aim v can. (c.in_ok-word-in_default.ensures.settles k top areas registers s aim v can).later))
+    keeps_cons _ _ c.args.of.content p.reference p.is _ _ (car_faulted _ _ _ _ _ p.reference c.in_ok-found.found.at found.unchanged p.final (λ it registers v can. (c.in_ok-word-in_default.ensures.settles it registers v can).later))
 
 pub returns-in_ok-word-in_default-clause-accounted : goal.returns-in_ok-word-in_default-clause-accounted
 returns-in_ok-word-in_default-clause-accounted g c = answers (quiet-twice (answered-if c.in_ok-found.ensures.accounted) (answered c.in_ok-word-in_default.word c.in_ok-word-in_default.ensures.accounted))

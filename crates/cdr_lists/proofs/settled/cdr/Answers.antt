@@ -62,7 +62,7 @@ returns-in_ok-second-in-Normal-clause-unchanged g c =
     let p = cons.value.place in
     keeps_cons _ _ c.args.of.content p.reference p.is _ _
     (cdr_faulted _ _ _ _ _ p.reference c.in_ok-cons.cons.at cons.unchanged p.final (code_after cons.value cons.unchanged ∙ c.in-Normal.is) (c.in_ok-cons.cons.at + 1) (omega arith)
-    (λ k top areas registers s aim v can. (c.in_ok-second-in-Normal.ensures.settles k top areas registers s aim v can).later))
+    (λ it registers v can. (c.in_ok-second-in-Normal.ensures.settles it registers v can).later))
 
 pub returns-in_ok-second-in-Normal-clause-value : goal.returns-in_ok-second-in-Normal-clause-value
 returns-in_ok-second-in-Normal-clause-value g c =

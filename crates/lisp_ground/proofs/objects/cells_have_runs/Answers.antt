@@ -11,6 +11,6 @@ pub returns-clause-end : goal.returns-clause-end
 returns-clause-end c = record {
   nil = run_to_nil;
   pair = run_to_pair;
-  cut = λ m t k top areas s aim on b n i cells to role is.
-      run_to_forward m t k top areas s aim on b cells to is (name_at k (suc (b + cells))) (run_follower m t k top areas s aim on b n i cells (Forwarded to) role is refl);
+  cut = λ m t it on b n i cells to role is.
+      run_to_forward m t it on b cells to is (name_at it.map (suc (b + cells))) (run_follower m t it on b n i cells (Forwarded to) role is refl);
 }

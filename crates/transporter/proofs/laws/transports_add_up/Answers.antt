@@ -8,11 +8,11 @@ use Rattle.transporter.proofs.laws.transports_add_up.Goals as goal
 
 pub returns : goal.returns
 returns c = record {
-  later = λ m m1 m2 t t1 t2 k top areas s aim x y. (
+  later = λ m m1 m2 t t1 t2 it x y. (
     record { map = y.map; kept = y.kept; refines = λ kind a n e. y.refines kind a n (x.refines kind a n e); work = (let a = x.work in let b = y.work in omega arith) },
     refl,
   );
-  values = λ m m' t t' k top areas s aim x content v e. refined k.role x.map.role x.refines content v e;
+  values = λ m m' t t' it x content v e. refined it.map.role x.map.role x.refines content v e;
   live = λ m m1 m2 t t1 t2 x y. live-then x y;
   tables = record {
     live = λ t t' a g w. still-live g w;

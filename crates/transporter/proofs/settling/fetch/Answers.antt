@@ -17,8 +17,8 @@ read-requires g c =
     live-inside (g.M.Memory.seen c.args.ground.now.mem) can.kept.table can.kept.ground.size c.requires.in_range
 
 pub returns-in_err-word-clause-fault : goal.returns-in_err-word-clause-fault
-returns-in_err-word-clause-fault g c = on-err c.from_residual.result (λ k top areas registers s aim v can.
-    later-read (g.M.Memory.seen c.args.ground.now.mem) (g.M.Memory.seen c.read.new.self) c.args.ground.now.table k top areas s aim can.kept c.in_err-word.ensures.unchanged)
+returns-in_err-word-clause-fault g c = on-err c.from_residual.result (λ it registers v can.
+    later-read (g.M.Memory.seen c.args.ground.now.mem) (g.M.Memory.seen c.read.new.self) c.args.ground.now.table it can.kept c.in_err-word.ensures.unchanged)
 
 pub settle-requires : goal.settle-requires
 settle-requires g c =
@@ -28,8 +28,8 @@ settle-requires g c =
     subst (λ (w : Parts). IsSettleable (g.M.Memory.seen c.read.new.self) c.args.ground.now.table w) is (settleable-read c.requires.can read.unchanged)
 
 pub returns-in_err-settled-clause-fault : goal.returns-in_err-settled-clause-fault
-returns-in_err-settled-clause-fault g c = on-err c.from_residual-in_err-settled.result (λ k top areas registers s aim v can.
-    later-stays (g.M.Memory.seen c.args.ground.now.mem) (g.M.Memory.seen c.read.new.self) (g.M.Memory.seen c.settle.new.ground.mem) c.args.ground.now.table c.settle.new.ground.table k top areas s aim can.kept
+returns-in_err-settled-clause-fault g c = on-err c.from_residual-in_err-settled.result (λ it registers v can.
+    later-stays (g.M.Memory.seen c.args.ground.now.mem) (g.M.Memory.seen c.read.new.self) (g.M.Memory.seen c.settle.new.ground.mem) c.args.ground.now.table c.settle.new.ground.table it can.kept
     c.in_ok-word.ensures.unchanged c.in_err-settled.ensures.fault)
 
 pub write_changed-requires : goal.write_changed-requires
@@ -44,20 +44,20 @@ pub returns-in_err-write_changed-clause-live : goal.returns-in_err-write_changed
 returns-in_err-write_changed-clause-live g c = on-err c.from_residual-in_err-write_changed.result (live-then (live-read c.in_ok-word.ensures.unchanged) (live-then c.in_ok-settled.ensures.live (live-read c.in_err-write_changed.ensures.err)))
 
 pub returns-in_err-write_changed-clause-fault : goal.returns-in_err-write_changed-clause-fault
-returns-in_err-write_changed-clause-fault g c = on-err c.from_residual-in_err-write_changed.result (λ k top areas registers s aim v can.
+returns-in_err-write_changed-clause-fault g c = on-err c.from_residual-in_err-write_changed.result (λ it registers v can.
     let m = g.M.Memory.seen c.args.ground.now.mem in
     let m1 = g.M.Memory.seen c.settle.new.ground.mem in
     let t = c.args.ground.now.table in
     let t1 = c.settle.new.ground.table in
     let read = c.in_ok-word.ensures in
     let is = word_at-read m.words m.words c.args.at c.in_ok-word.word refl read.value in
-    let there = subst (λ (w : Parts). CanSettle (g.M.Memory.seen c.args.ground.now.mem) c.args.ground.now.table k top areas registers s aim w v) is can in
-    let x = c.in_ok-settled.ensures.settles k top areas registers s aim v (settle-read m (g.M.Memory.seen c.read.new.self) t k top areas registers s aim c.in_ok-word.word v there read.unchanged) in
-    later-then_read m m1 (g.M.Memory.seen c.write_changed.new.mem) t t1 k top areas s aim
-    (settles-read m (g.M.Memory.seen c.read.new.self) m1 t t1 k top areas s aim c.in_ok-word.word c.in_ok-settled.settled read.unchanged x).later c.in_err-write_changed.ensures.err)
+    let there = subst (λ (w : Parts). CanSettle (g.M.Memory.seen c.args.ground.now.mem) c.args.ground.now.table it registers w v) is can in
+    let x = c.in_ok-settled.ensures.settles it registers v (settle-read m (g.M.Memory.seen c.read.new.self) t it registers c.in_ok-word.word v there read.unchanged) in
+    later-then_read m m1 (g.M.Memory.seen c.write_changed.new.mem) t t1 it
+    (settles-read m (g.M.Memory.seen c.read.new.self) m1 t t1 it c.in_ok-word.word c.in_ok-settled.settled read.unchanged x).later c.in_err-write_changed.ensures.err)
 
 pub returns-clause-settles : goal.returns-clause-settles
-returns-clause-settles g c = λ k top areas registers s aim v can.
+returns-clause-settles g c = λ it registers v can.
     let m = g.M.Memory.seen c.args.ground.now.mem in
     let mid = g.M.Memory.seen c.read.new.self in
     let m1 = g.M.Memory.seen c.settle.new.ground.mem in
@@ -67,12 +67,12 @@ returns-clause-settles g c = λ k top areas registers s aim v can.
     let read = c.in_ok-word.ensures in
     let settled = c.in_ok-settled.ensures in
     let is = word_at-read m.words m.words c.args.at c.in_ok-word.word refl read.value in
-    let can_read = subst (λ (w : Parts). CanSettle (g.M.Memory.seen c.args.ground.now.mem) c.args.ground.now.table k top areas registers s aim w v) is can in
-    let x = settled.settles k top areas registers s aim v (settle-read m mid t k top areas registers s aim c.in_ok-word.word v can_read read.unchanged) in
+    let can_read = subst (λ (w : Parts). CanSettle (g.M.Memory.seen c.args.ground.now.mem) c.args.ground.now.table it registers w v) is can in
+    let x = settled.settles it registers v (settle-read m mid t it registers c.in_ok-word.word v can_read read.unchanged) in
     let there = unwritten-there c.requires.in_range c.requires.can read.unchanged read.value settled.live settled.settles in
-    let P : Parts → Type 0 = λ w. SettlesOn (g.M.Memory.seen c.args.ground.now.mem) c.args.ground.now.table (g.M.Memory.seen c.write_changed.new.mem) c.settle.new.ground.table k top areas s aim w c.in_ok-settled.settled in
-    subst P (sym is) (fetched m m1 m2 t t1 k top areas registers s aim v c.args.at c.in_ok-word.word c.in_ok-settled.settled there.alive there.same can_read settled.word
-    (settles-read m mid m1 t t1 k top areas s aim c.in_ok-word.word c.in_ok-settled.settled read.unchanged x) c.in_ok-write_changed.ensures.ok)
+    let P : Parts → Type 0 = λ w. SettlesOn (g.M.Memory.seen c.args.ground.now.mem) c.args.ground.now.table (g.M.Memory.seen c.write_changed.new.mem) c.settle.new.ground.table it w c.in_ok-settled.settled in
+    subst P (sym is) (fetched m m1 m2 t t1 it registers v c.args.at c.in_ok-word.word c.in_ok-settled.settled there.alive there.same can_read settled.word
+    (settles-read m mid m1 t t1 it c.in_ok-word.word c.in_ok-settled.settled read.unchanged x) c.in_ok-write_changed.ensures.ok)
 
 pub returns-clause-word : goal.returns-clause-word
 returns-clause-word g c =

@@ -24,7 +24,7 @@ pub returns-in-Some-clause-stays_fresh : goal.returns-in-Some-clause-stays_fresh
 returns-in-Some-clause-stays_fresh g c = λ none. absurd (none (c.in-Some.at, sym c.reference.ensures ∙ c.in-Some.is, c.is_old.ensures.0 c.if-is_old.true))
 
 pub returns-in_default-clause-settles : goal.returns-in_default-clause-settles
-returns-in_default-clause-settles g c = λ k top areas registers s aim v can. settles-same (g.M.Memory.seen c.args.ground.now.mem) c.args.ground.now.table k top areas s aim c.args.word can.kept
+returns-in_default-clause-settles g c = λ it registers v can. settles-same (g.M.Memory.seen c.args.ground.now.mem) c.args.ground.now.table it c.args.word can.kept
 
 pub returns-in_default-clause-words : goal.returns-in_default-clause-words
 returns-in_default-clause-words g c = stays_put young same-stores refl refl

@@ -11,26 +11,26 @@ transport-requires g c = settle-transportable c.args.at c.requires.can c.require
 pub with_address-requires : goal.with_address-requires
 with_address-requires g c =
     let x = settle-transportable c.args.at c.requires.can c.requires.agrees c.requires.in_range in
-    let r = c.in_ok-to.ensures.settles x.map x.top x.areas x.registers x.store x.aim x.kind x.name x.can in
+    let r = c.in_ok-to.ensures.settles x.it x.registers x.kind x.name x.can in
     live-small r.later.kept.table r.live
 
 pub returns-clause-settles : goal.returns-clause-settles
-returns-clause-settles g c = λ k top areas registers s aim v can.
+returns-clause-settles g c = λ it registers v can.
     let m = g.M.Memory.seen c.args.ground.now.mem in
     let m' = g.M.Memory.seen c.transport.new.ground.mem in
     let t = c.args.ground.now.table in
     let t' = c.transport.new.ground.table in
     let value = can.value c.args.at c.requires.agrees in
-    let names = names-of k.role c.args.word.content c.args.at v c.requires.agrees value in
-    let r = c.in_ok-to.ensures.settles k top areas registers s aim names.kind names.name (settle-transport m t k top areas registers s aim c.args.word v c.args.at can c.requires.agrees c.requires.in_range names) in
-    let P : Parts → Type 0 = λ w. SettlesOn (g.M.Memory.seen c.args.ground.now.mem) c.args.ground.now.table (g.M.Memory.seen c.transport.new.ground.mem) c.transport.new.ground.table k top areas s aim c.args.word w in
-    subst P (sym c.with_address.ensures) (settles-moved m m' t t' k top areas s aim c.args.word v c.args.at c.in_ok-to.to c.requires.agrees value names r)
+    let names = names-of it.map.role c.args.word.content c.args.at v c.requires.agrees value in
+    let r = c.in_ok-to.ensures.settles it registers names.kind names.name (settle-transport m t it registers c.args.word v c.args.at can c.requires.agrees c.requires.in_range names) in
+    let P : Parts → Type 0 = λ w. SettlesOn (g.M.Memory.seen c.args.ground.now.mem) c.args.ground.now.table (g.M.Memory.seen c.transport.new.ground.mem) c.transport.new.ground.table it c.args.word w in
+    subst P (sym c.with_address.ensures) (settles-moved m m' t t' it c.args.word v c.args.at c.in_ok-to.to c.requires.agrees value names r)
 
 pub returns-clause-word : goal.returns-clause-word
 returns-clause-word g c =
     let x = settle-transportable c.args.at c.requires.can c.requires.agrees c.requires.in_range in
-    let r = c.in_ok-to.ensures.settles x.map x.top x.areas x.registers x.store x.aim x.kind x.name x.can in
-    let names = names-of c.requires.can.map.role c.args.word.content c.args.at c.requires.can.value c.requires.agrees (c.requires.can.can.value c.args.at c.requires.agrees) in
+    let r = c.in_ok-to.ensures.settles x.it x.registers x.kind x.name x.can in
+    let names = names-of c.requires.can.it.map.role c.args.word.content c.args.at c.requires.can.value c.requires.agrees (c.requires.can.can.value c.args.at c.requires.agrees) in
     let P : Parts → Type 0 = λ w. Settles c.args.ground.now.table c.transport.new.ground.table c.args.word w in
     subst P (sym c.with_address.ensures) (settles-word c.in_ok-to.to names.other c.requires.agrees c.requires.in_range r.later.kept.table r.live)
 

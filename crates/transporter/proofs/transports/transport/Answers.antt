@@ -15,9 +15,9 @@ pub returns-in_err-found-clause-fault : goal.returns-in_err-found-clause-fault
 returns-in_err-found-clause-fault g c = on-err c.from_residual.result (stays-read c.in_err-found.ensures.unchanged)
 
 pub returns-in-None-clause-settles : goal.returns-in-None-clause-settles
-returns-in-None-clause-settles g c = λ k top areas registers s aim kind n can.
+returns-in-None-clause-settles g c = λ it registers kind n can.
     let read = c.in_ok-found.ensures in
-    reaches-there (g.M.Memory.seen c.args.ground.now.mem) (g.M.Memory.seen c.resolve_first.new.mem) c.args.ground.now.table k top areas registers s aim kind c.args.at c.in_ok-found.found.at n can read.value read.last read.unchanged
+    reaches-there (g.M.Memory.seen c.args.ground.now.mem) (g.M.Memory.seen c.resolve_first.new.mem) c.args.ground.now.table it registers kind c.args.at c.in_ok-found.found.at n can read.value read.last read.unchanged
     c.in-None.ensures.none
 
 pub move_from-requires-clause-whole : goal.move_from-requires-clause-whole
@@ -33,8 +33,8 @@ move_from-requires-clause-can g c =
 pub returns-in-Some-clause-settles : goal.returns-in-Some-clause-settles
 returns-in-Some-clause-settles g c =
     let read = c.in_ok-found.ensures in
-    if-ok c.move_from.result (λ to moved k top areas registers s aim kind n can.
-    reaches-moved (g.M.Memory.seen c.args.ground.now.mem) (g.M.Memory.seen c.resolve_first.new.mem) (g.M.Memory.seen c.move_from.new.ground.mem) c.args.ground.now.table c.move_from.new.ground.table k top areas registers s aim kind
+    if-ok c.move_from.result (λ to moved it registers kind n can.
+    reaches-moved (g.M.Memory.seen c.args.ground.now.mem) (g.M.Memory.seen c.resolve_first.new.mem) (g.M.Memory.seen c.move_from.new.ground.mem) c.args.ground.now.table c.move_from.new.ground.table it registers kind
     c.args.at c.in_ok-found.found.at to n can read.value read.last read.unchanged moved) c.move_from.ensures.moved
 
 pub returns-in-Some-clause-words : goal.returns-in-Some-clause-words

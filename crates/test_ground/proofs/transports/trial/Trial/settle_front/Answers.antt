@@ -10,4 +10,4 @@ returns-in_err-front g c = running-stays c.requires c.in_err-front.ensures.fault
 pub returns : goal.returns
 returns g c =
     let x = c.requires in
-    front-settled c.requires (c.in_ok-front.ensures.settles x.map x.top x.areas _ x.store x.aim x.first (front-settles c.requires)) c.in_ok-front.ensures.live
+    front-settled c.requires (c.in_ok-front.ensures.settles x.it _ x.first (front-settles c.requires)) c.in_ok-front.ensures.live

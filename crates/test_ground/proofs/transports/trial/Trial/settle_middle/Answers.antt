@@ -10,4 +10,4 @@ returns-in_err-middle g c = running-stays c.requires c.in_err-middle.ensures.fau
 pub returns : goal.returns
 returns g c =
     let x = c.requires in
-    middle-settled c.requires (c.in_ok-middle.ensures.settles x.map x.top x.areas _ x.store x.aim x.second (middle-settles c.requires)) c.in_ok-middle.ensures.live
+    middle-settled c.requires (c.in_ok-middle.ensures.settles x.it _ x.second (middle-settles c.requires)) c.in_ok-middle.ensures.live
