@@ -14,16 +14,6 @@ use Rattle.area_space.specs.Sums.{block, both}
 use Rattle.area_space.specs.Table.{Table, slot_of, levels_of, slots_of, areas_of, quota_of, used_of, chain, lists_of, live, IsUnclassed}
 
 -- each chain has at most one region that isn't more than half full
-both_sum : (len used : ℕ → ℕ) (n : ℕ) → ((c : ℕ) → 2049 * len c ≤ used c + 2049) → 2049 * total (both len) n ≤ total (both used) n + 4098 * n
-both_sum len used zero h = let a = total-zero (both len) in let b = total-zero (both used) in omega arith
-both_sum len used (suc n) h =
-    let a = total-suc (both len) n in
-    let b = total-suc (both used) n in
-    let c = h (2 * n) in
-    let d = h (2 * n + 1) in
-    let i = both_sum len used n h in
-    omega arith
-
 block_sum : (len used : ℕ → ℕ) (h a : ℕ) → ((c : ℕ) → 2049 * len c ≤ used c + 2049) → 2049 * block (both len) h a ≤ block (both used) h a + 4098 * h
 block_sum len used h a p = go h
   where

@@ -1,13 +1,13 @@
 //! One area that is filled, flipped and reclaimed, round after round.
 ghost use Rattle.mem_port.specs.Plain.{plain_store};
-ghost use Rattle.test_ground.specs.Trial.{IsTrial};
+ghost use Rattle.one_area.specs.OneArea.{IsOneArea};
 
 use crate::report::{Measurement, ROUNDS, no_memory};
 use lisp_graph::{AreaKind, AreaRule, Name};
+use one_area::OneArea;
 use std::alloc::Global;
 use std::io;
 use std::time::{Clock, Instant};
-use test_ground::Trial;
 
 // The quota for which 1,024 regions are just enough, in words.
 const QUOTA: u32 = 1_044_480;
@@ -19,26 +19,26 @@ const PAIRS: u32 = 65_536;
 const REGIONS: u32 = 509;
 
 // Pairs are placed.
-fn put_pairs(trial: &mut Trial) -> u64
-    requires { IsTrial (plain_store trial.old.ground.mem) trial.old.ground.table trial.old.live_words trial.old.old_words trial.old.moving }
-    ensures { IsTrial (plain_store trial.new.ground.mem) trial.new.ground.table trial.new.live_words trial.new.old_words trial.new.moving }
+fn put_pairs(area: &mut OneArea) -> u64
+    requires { IsOneArea (plain_store area.old.ground.mem) area.old.ground.table area.old.live_words area.old.old_words area.old.moving }
+    ensures { IsOneArea (plain_store area.new.ground.mem) area.new.ground.table area.new.live_words area.new.old_words area.new.moving }
 {
     let mut sum = 0u64;
     for _ in 0..PAIRS {
-        sum = sum.wrapping_add(trial.put(2).unwrap_or(0) as u64);
+        sum = sum.wrapping_add(area.put(2).unwrap_or(0) as u64);
     }
     sum
 }
 
 // Blocks are placed, of which two take a region.
-fn put_blocks(trial: &mut Trial) -> u64
-    requires { IsTrial (plain_store trial.old.ground.mem) trial.old.ground.table trial.old.live_words trial.old.old_words trial.old.moving }
-    ensures { IsTrial (plain_store trial.new.ground.mem) trial.new.ground.table trial.new.live_words trial.new.old_words trial.new.moving }
+fn put_blocks(area: &mut OneArea) -> u64
+    requires { IsOneArea (plain_store area.old.ground.mem) area.old.ground.table area.old.live_words area.old.old_words area.old.moving }
+    ensures { IsOneArea (plain_store area.new.ground.mem) area.new.ground.table area.new.live_words area.new.old_words area.new.moving }
 {
     let mut sum = 0u64;
     for _ in 0..REGIONS {
-        sum = sum.wrapping_add(trial.put(2_048).unwrap_or(0) as u64);
-        sum = sum.wrapping_add(trial.put(1).unwrap_or(0) as u64);
+        sum = sum.wrapping_add(area.put(2_048).unwrap_or(0) as u64);
+        sum = sum.wrapping_add(area.put(1).unwrap_or(0) as u64);
     }
     sum
 }
@@ -53,7 +53,7 @@ pub fn run(alloc: Global, rt: &(impl Clock + Print + Eprint)) -> io::Result<()> 
         kind: AreaKind::Dynamic,
         quota: QUOTA,
     };
-    let Ok(mut trial) = Trial::new(alloc, 1_024, rule) else {
+    let Ok(mut area) = OneArea::new(alloc, 1_024, rule) else {
         return Err(no_memory());
     };
     let mut placed = Measurement::new("place and commit, a pair", PAIRS);
@@ -61,17 +61,17 @@ pub fn run(alloc: Global, rt: &(impl Clock + Print + Eprint)) -> io::Result<()> 
     let mut freed = Measurement::new("free_old, a region", REGIONS);
     for _ in 0..ROUNDS {
         let start = Instant::now(rt)?;
-        let sum = put_pairs(&mut trial);
+        let sum = put_pairs(&mut area);
         placed.end_round(rt, start, sum)?;
-        trial.flip();
-        trial.reclaim();
-        put_blocks(&mut trial);
+        area.flip();
+        area.reclaim();
+        put_blocks(&mut area);
         let start = Instant::now(rt)?;
-        trial.flip();
-        flipped.end_round(rt, start, trial.regions_in_use() as u64)?;
+        area.flip();
+        flipped.end_round(rt, start, area.regions_in_use() as u64)?;
         let start = Instant::now(rt)?;
-        trial.reclaim();
-        freed.end_round(rt, start, trial.regions_in_use() as u64)?;
+        area.reclaim();
+        freed.end_round(rt, start, area.regions_in_use() as u64)?;
     }
     placed.print(rt)?;
     flipped.print(rt)?;

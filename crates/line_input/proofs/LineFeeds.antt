@@ -1,6 +1,6 @@
 -- Line feeds in bytes, and parts of a buffer.
 use Rattle.std.proofs.Common.{◌≡◌, ℕ, suc, ◌+◌, ◌-◌, ◌<◌, ◌≤◌, List, [], ◌∷◌, ◌++◌, length, take, drop, set, get_or, Bool, true, false, ◌&&◌, Some, None, inl, inr, refl, sym, ap, ◌∙◌, arith}
-use Rattle.std.proofs.lemmas.List.{drop_all, length-append, take_more, take_more_set, drop-take, drop-drop, get_or-drop, drop-set-lt, length-drop, length-take-le, length-take, drop_at, take-append-le, take_at, drop-append-le, take-append-drop, get_or-take}
+use Rattle.std.proofs.lemmas.List.{drop_all, take_more, take_more_set, drop-take, drop-drop, get_or-drop, drop-set-lt, length-drop, length-take-le, length-take, drop_at, take-append-le, take_at, drop-append-le, take-append-drop, get_or-take}
 use Rattle.std.proofs.lemmas.Bool.{cases_lt, ne_eqb, eq-eqb, eqb-true}
 use Rattle.memchr.specs.Find.{IsFirstByte, is_byte}
 use Rattle.std.proofs.Math.Seq.{take-add}
@@ -25,13 +25,6 @@ no_feed-drop n xs none = let both = sym (no_feed-append (take n xs) (drop n xs))
     second : (a b : Bool) → a && b ≡ true → b ≡ true
     second true b is = is
     second false b is = cc (is)
-
--- without the latest piece the bytes are those before it
-pub feedless_before : (old new piece : List ℕ) (last : ℕ) → no_feed old ≡ true → new ≡ old ++ piece → length piece ≡ last → no_feed (without_latest last new) ≡ true
-feedless_before old new piece last none more long =
-    let before : without_latest last new ≡ old =
-    ap (λ xs. take (length xs - last) xs) more ∙ ap (λ n. take n (old ++ piece)) (omega (arith, length-append old piece, long)) ∙ take_at old piece (length old) refl in
-    ap no_feed before ∙ none
 
 -- the first k elements without the first n
 drop_of_take : (n k : ℕ) (xs : List ℕ) → drop n (take k xs) ≡ take (k - n) (drop n xs)

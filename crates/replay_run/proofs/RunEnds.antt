@@ -53,14 +53,6 @@ gave_same : (left' : Option (List ℕ)) (i b b' : List ℕ) → Gave (Some i) le
 gave_same None i b b' gave other = absurd (cc (gave))
 gave_same (Some rest) i b b' gave other = let both : ◌≡◌ {A = Option (List ℕ)} (Some (b ++ rest)) (Some (b' ++ rest)) = sym gave ∙ other in append_cancel_right b b' rest (cc (both))
 
--- the end of the input isn't a failure of the source
-pub closed_reads : (place : JudgedInput) → closed (ending_at place) ≡ Err (Tell trouble.Read) → ⊥
-closed_reads place is = go place.judge.ended is
-  where
-    go : (ended : Bool) → closed (if ended then Whole else Broken (trouble.Line (place.lines + 1) (early_reason place.lines NotAWorld))) ≡ Err (Tell trouble.Read) → ⊥
-    go true is = cc (is)
-    go false is = cc (is)
-
 module _ {left left' : Option (List ℕ)} {last : ℕ} {held held' : List ℕ → Type 0} {stands : State → Type 0} {takes : Command → Type 0} {idle : Type 0} {before now : ℕ} {place : JudgedInput} {reader : Buffered} {pending : List ℕ}
     (going : Going left left' last held held' stands takes idle before now place reader pending) (form : IsPlace place) (end : reader.ended ≡ true → IsAtEnd left') where
   pub input : List ℕ

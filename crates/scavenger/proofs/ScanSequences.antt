@@ -77,11 +77,6 @@ finished-still m m' t t' scan scan' registers registers' (none next over em et e
     (subst (λ (x : Scan). StillCollects m t scan registers m t x registers' 0) (sym es)
     (subst (λ (x : List Parts). StillCollects m t scan registers m t scan x 0) (sym er) (still-same m t scan registers))))
 
--- the number of transports is unchanged
-pub finished-moves : {m m1 m2 : Store} {t t1 t2 : Table} {scan scan' : Scan} {registers registers' : List Parts} {n : ℕ} → MovesAtMost m t m1 t1 n → Scans m1 t1 scan registers m2 t2 scan' registers' Finished → MovesAtMost m t m2 t2 n
-finished-moves {m} {m1} {m2} {t} {t1} {t2} {scan} {scan'} {registers} {registers'} {n} moves (none next over em et es er) =
-    subst (λ (x : Store). MovesAtMost m t x t2 n) (sym em) (subst (λ (x : Table). MovesAtMost m t m1 x n) (sym et) moves)
-
 pub finished-up-to : (m m1 m2 : Store) (t t1 t2 : Table) (scan scan1 scan2 : Scan) (registers registers1 registers2 : List Parts) (n limit : ℕ)
     → ScansMany m t scan registers m1 t1 scan1 registers1 n → scan1.done ≡ scan.done + n → n < limit → MovesAtMost m t m1 t1 n → MovesEach m t scan registers m1 t1 scan1 registers1 n → Scans m1 t1 scan1 registers1 m2 t2 scan2 registers2 Finished
     → ScansUpTo m t scan registers m2 t2 scan2 registers2 limit

@@ -1,4 +1,3 @@
-pub mod Trials
 pub mod NewObjects
 pub mod Relocations
 pub mod PlaceCommits

@@ -1,4 +1,3 @@
-pub mod Trial
 pub mod Trials
 pub mod Written
 pub mod Views

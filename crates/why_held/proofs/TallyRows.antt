@@ -217,23 +217,6 @@ module _ (latest : KindTally) (one : Counted) (same : (latest.area == one.area &
   pub latest_is : (stored : Option KindCount) → latest_or (Some latest) one.area one.code stored ≡ Some latest.tally
   latest_is stored = ap (λ (b : Bool). if b then Some latest.tally else stored) same
 
--- the tallies after an object whose kind's tally is the latest one
-pub counts_latest : (one : Counted) (count : KindCount) (old new : Tallies) → new.latest ≡ Some (record { area = one.area; code = one.code; tally = count }) → count ≡ more (tally_in old one.area one.code) one.charge
-    → ((area : ℕ) (code : Option ℕ) → is_kind area code one ≡ false → get kind_cmp new.stored (area, code) ≡ tally_in old area code) → one.charge < 2 ^ 32 → Counts one old new
-counts_latest one count old new is counted others small = record { updates = λ area code. go area code (is_kind area code one) refl; small = small }
-  where
-    here : (area : ℕ) (code : Option ℕ) (b : Bool) → is_kind area code one ≡ b
-        → (if b then Some count else get kind_cmp new.stored (area, code)) ≡ (if b then Some (more (tally_in old one.area one.code) one.charge) else tally_in old area code)
-    here area code true same = ap Some counted
-    here area code false same = others area code same
-
-    go : (area : ℕ) (code : Option ℕ) (b : Bool) → is_kind area code one ≡ b → tally_in new area code ≡ (if is_kind area code one then Some (more (tally_in old one.area one.code) one.charge) else tally_in old area code)
-    go area code b same =
-        ap (λ (l : Option KindTally). latest_or l area code (get kind_cmp new.stored (area, code))) is
-        ∙ ap (λ (t : Bool). if t then Some count else get kind_cmp new.stored (area, code)) same
-        ∙ here area code b same
-        ∙ sym (ap (λ (t : Bool). if t then Some (more (tally_in old one.area one.code) one.charge) else tally_in old area code) same)
-
 -- the map has each tally after the latest one is put into it
 pub stored_all : (latest : KindTally) (old : Tallies) (stored : BTreeMap Kind KindCount) → old.latest ≡ Some latest → Updates kind_cmp old.stored stored (latest.area, latest.code) (Some latest.tally)
     → (area : ℕ) (code : Option ℕ) → get kind_cmp stored (area, code) ≡ tally_in old area code

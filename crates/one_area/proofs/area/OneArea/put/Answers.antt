@@ -2,9 +2,9 @@ use Rattle.std.proofs.Common.{◌≡◌, ◌+◌, subst, sym, arith, Option, Som
 use Rattle.std.specs.Prelude.{IfSome}
 use Rattle.mem_port.specs.Plain.{Plain, plain_store}
 use Rattle.area_space.specs.Ground.{IsGround}
-use Rattle.test_ground.specs.Trial.{IsTrial}
-use Rattle.test_ground.proofs.Trials.{trial_new, new_allowed}
-use Rattle.test_ground.proofs.areas.trial.Trial.put.Goals as goal
+use Rattle.one_area.specs.OneArea.{IsOneArea}
+use Rattle.one_area.proofs.OneAreas.{area_put, new_allowed}
+use Rattle.one_area.proofs.area.OneArea.put.Goals as goal
 
 there : {A : Type 0} (P : A → Type 0) (o : Option A) (a : A) → o ≡ Some a → IfSome o P → P a
 there P o a is some = subst (λ x. IfSome x P) is some
@@ -18,7 +18,7 @@ commit-requires-clause-allowed c = λ slot e.
     let a = c.account.ensures.value in
     let q = c.quota.ensures.value in
     let no = c.if-account-words.false in
-    new_allowed (plain_store made.ground.mem) made.ground.table made.live_words made.old_words made.moving c.in_ok-placed.placed.at c.args.words slot c.place.ensures.trial (omega arith) e
+    new_allowed (plain_store made.ground.mem) made.ground.table made.live_words made.old_words made.moving c.in_ok-placed.placed.at c.args.words slot c.place.ensures.sound (omega arith) e
 
 pub returns : goal.returns
 returns c =
@@ -27,6 +27,6 @@ returns c =
     let end = there _ _ _ c.in_ok-placed.was p.end in
     let within = there _ _ _ c.in_ok-placed.was p.in_range in
     let u = c.commit.new.self.table in
-    let g = subst (λ (m : Plain). IsGround (plain_store m) u) c.commit.ensures.memory (c.commit.ensures.stays_ground p.trial.ground) in
-    subst (λ (m : Plain). IsTrial (plain_store m) u (made.live_words + c.args.words) made.old_words made.moving) (sym c.commit.ensures.memory)
-    (trial_new (plain_store made.ground.mem) made.ground.table u made.live_words made.old_words made.moving c.in_ok-placed.placed.at c.args.words c.regions-regions.ensures.sound end (c.commit.ensures.table 0 end) (omega arith) g p.trial)
+    let g = subst (λ (m : Plain). IsGround (plain_store m) u) c.commit.ensures.memory (c.commit.ensures.stays_ground p.sound.ground) in
+    subst (λ (m : Plain). IsOneArea (plain_store m) u (made.live_words + c.args.words) made.old_words made.moving) (sym c.commit.ensures.memory)
+    (area_put (plain_store made.ground.mem) made.ground.table u made.live_words made.old_words made.moving c.in_ok-placed.placed.at c.args.words c.regions-regions.ensures.sound end (c.commit.ensures.table 0 end) (omega arith) g p.sound)

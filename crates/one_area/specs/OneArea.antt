@@ -1,5 +1,4 @@
--- What the tests know of a ground with one dynamic area and one level above 0: no word was written, and
--- every object is at level 0.
+-- What is known of a ground with one dynamic area and one level above 0: no word was written, and every object is at level 0.
 use Rattle.std.specs.Prelude.{◌≡◌, ℕ, ◌+◌, ◌*◌, ◌≤◌, Some, slice_get, slice_index}
 use Rattle.store_word.specs.Words.{Parts, address_of}
 use Rattle.mem_port.specs.Store.{Store}
@@ -13,7 +12,7 @@ abbrev pub NamesNothing : Store → Type 0
 NamesNothing s = (at to : ℕ) (word : Parts) → slice_get s.words at ≡ Some word → address_of word.content ≡ Some to → ⊥
 
 -- this many words are live and this many old, the live ones are charged, and old objects with this charge remain to be moved
-pub record IsTrial (s : Store) (t : Table) (live_words old_words moving : ℕ) : Type 0 where
+pub record IsOneArea (s : Store) (t : Table) (live_words old_words moving : ℕ) : Type 0 where
   pub top : t.top ≡ 1
   pub one : areas_of t ≡ 1
   pub dynamic : kind_of t 0 ≡ Dynamic

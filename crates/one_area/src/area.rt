@@ -4,7 +4,7 @@ ghost use Rattle.lisp_graph.specs.declared.world.AreaKind.{AreaKind as OneKind};
 ghost use Rattle.mem_port.specs.Plain.{plain_store};
 ghost use Rattle.area_space.specs.Places.{IsEnd};
 ghost use Rattle.area_space.specs.Table.{IsOld, quota_of};
-ghost use Rattle.test_ground.specs.Trial.{IsTrial};
+ghost use Rattle.one_area.specs.OneArea.{IsOneArea};
 
 use area_space::{Class, Ground, Origin, Placed, RegionTable};
 use lisp_graph::{AreaKind, AreaRule, Areas, Condemn};
@@ -15,22 +15,22 @@ use store_word::{NoMemory, Space};
 /// A ground with one dynamic area and one level above 0, its words that are live and old, and the charge of old objects that
 /// remain to be moved, all in words.
 #[derive(Drop)]
-pub struct Trial {
+pub struct OneArea {
     pub ground: Ground<PlainMemory>,
     pub live_words: u32,
     pub old_words: u32,
     pub moving: u32,
 }
 
-impl Trial {
+impl OneArea {
     /// An empty ground of this many regions with this area, which is dynamic and for which there is room: a region for each 1,024
     /// words of its quota, rounded up, and four more.
-    pub fn new(alloc: Global, regions: u32, rule: AreaRule) -> Result<Trial, NoMemory>
+    pub fn new(alloc: Global, regions: u32, rule: AreaRule) -> Result<OneArea, NoMemory>
         requires at_most { regions ≤ 1024 }
         requires dynamic { rule.kind ≡ OneKind.Dynamic }
         requires size { rule.quota ≤ 1048576 }
         requires room { (rule.quota + 1023) / 1024 + 4 ≤ regions }
-        ensures { IfOk result (λ t. IsTrial (plain_store t.ground.mem) t.ground.table t.live_words t.old_words t.moving) }
+        ensures { IfOk result (λ a. IsOneArea (plain_store a.ground.mem) a.ground.table a.live_words a.old_words a.moving) }
     {
         let space = Space {
             regions,
@@ -44,7 +44,7 @@ impl Trial {
         areas.push(rule)?;
         let mem = PlainMemory::new(alloc, &space)?;
         let table = RegionTable::new(alloc, &space, &areas)?;
-        Ok(Trial {
+        Ok(OneArea {
             ground: Ground { mem, table },
             live_words: 0,
             old_words: 0,
@@ -54,8 +54,8 @@ impl Trial {
 
     // The place of an object of 1 to 2,048 words, if with these the used words of the area are at most twice its quota.
     fn place(&mut self, words: u32) -> Option<Placed>
-        requires { IsTrial (plain_store self.old.ground.mem) self.old.ground.table self.old.live_words self.old.old_words self.old.moving }
-        ensures trial { IsTrial (plain_store self.new.ground.mem) self.new.ground.table self.new.live_words self.new.old_words self.new.moving }
+        requires { IsOneArea (plain_store self.old.ground.mem) self.old.ground.table self.old.live_words self.old.old_words self.old.moving }
+        ensures sound { IsOneArea (plain_store self.new.ground.mem) self.new.ground.table self.new.live_words self.new.old_words self.new.moving }
         ensures live_words { self.new.live_words ≡ self.old.live_words }
         ensures old_words { self.new.old_words ≡ self.old.old_words }
         ensures moving { self.new.moving ≡ self.old.moving }
@@ -74,8 +74,8 @@ impl Trial {
 
     /// Places and commits a new object of 1 to 2,048 words, if the quota allows it.
     pub fn put(&mut self, words: u32) -> Option<u32>
-        requires { IsTrial (plain_store self.old.ground.mem) self.old.ground.table self.old.live_words self.old.old_words self.old.moving }
-        ensures { IsTrial (plain_store self.new.ground.mem) self.new.ground.table self.new.live_words self.new.old_words self.new.moving }
+        requires { IsOneArea (plain_store self.old.ground.mem) self.old.ground.table self.old.live_words self.old.old_words self.old.moving }
+        ensures { IsOneArea (plain_store self.new.ground.mem) self.new.ground.table self.new.live_words self.new.old_words self.new.moving }
     {
         let placed = self.place(words)?;
         let _regions = self.ground.table.regions();
@@ -89,8 +89,8 @@ impl Trial {
 
     /// Places and commits the copy of an old object of 1 to 2,048 words, and moves its charge.
     pub fn copy(&mut self, words: u32) -> Option<u32>
-        requires { IsTrial (plain_store self.old.ground.mem) self.old.ground.table self.old.live_words self.old.old_words self.old.moving }
-        ensures { IsTrial (plain_store self.new.ground.mem) self.new.ground.table self.new.live_words self.new.old_words self.new.moving }
+        requires { IsOneArea (plain_store self.old.ground.mem) self.old.ground.table self.old.live_words self.old.old_words self.old.moving }
+        ensures { IsOneArea (plain_store self.new.ground.mem) self.new.ground.table self.new.live_words self.new.old_words self.new.moving }
     {
         let placed = self.place(words)?;
         let _regions = self.ground.table.regions();
@@ -111,8 +111,8 @@ impl Trial {
 
     /// Flips in full, if no region is old.
     pub fn flip(&mut self) -> bool
-        requires { IsTrial (plain_store self.old.ground.mem) self.old.ground.table self.old.live_words self.old.old_words self.old.moving }
-        ensures { IsTrial (plain_store self.new.ground.mem) self.new.ground.table self.new.live_words self.new.old_words self.new.moving }
+        requires { IsOneArea (plain_store self.old.ground.mem) self.old.ground.table self.old.live_words self.old.old_words self.old.moving }
+        ensures { IsOneArea (plain_store self.new.ground.mem) self.new.ground.table self.new.live_words self.new.old_words self.new.moving }
     {
         let _regions = self.ground.table.regions();
         if has_no_old(&self.ground.table) {
@@ -128,8 +128,8 @@ impl Trial {
 
     /// Frees the old regions.
     pub fn reclaim(&mut self)
-        requires { IsTrial (plain_store self.old.ground.mem) self.old.ground.table self.old.live_words self.old.old_words self.old.moving }
-        ensures { IsTrial (plain_store self.new.ground.mem) self.new.ground.table self.new.live_words self.new.old_words self.new.moving }
+        requires { IsOneArea (plain_store self.old.ground.mem) self.old.ground.table self.old.live_words self.old.old_words self.old.moving }
+        ensures { IsOneArea (plain_store self.new.ground.mem) self.new.ground.table self.new.live_words self.new.old_words self.new.moving }
     {
         let _regions = self.ground.table.regions();
         self.ground.free_old();

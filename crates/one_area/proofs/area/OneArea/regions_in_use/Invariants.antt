@@ -1,5 +1,5 @@
 use Rattle.std.proofs.Common.{◌≤◌}
-use Rattle.test_ground.proofs.areas.trial.Trial.regions_in_use.Given as goal
+use Rattle.one_area.proofs.area.OneArea.regions_in_use.Given as goal
 
 abbrev pub invariant-loop-region : goal.invariant-loop-region
 invariant-loop-region l = l.count ≤ l.region

@@ -1,4 +1,4 @@
--- A trial of the tests, call by call.
+-- One area, call by call.
 use Rattle.std.proofs.Common.{◌≡◌, ℕ, ◌+◌, ◌-◌, ◌*◌, ◌/◌, ◌<◌, ◌≤◌, Bool, true, not, ◌&&◌, if◌then◌else◌, Option, Some, None, List, [], ◌∷◌, length, slice_index, slice_index_or, slice_get, slice_set, refl, sym, ◌∙◌, ap, subst, arith, inl, inr, length-set, get_or-set_same, get_or-set_other}
 use Rattle.std.specs.Prelude.{IfNone, IfSome}
 use Rattle.std.proofs.lemmas.List.{length-replicate}
@@ -25,18 +25,18 @@ use Rattle.area_space.specs.Flips.{Slot, state_of, after_flip, condemns, kind_is
 use Rattle.area_space.specs.Frees.{Frees}
 use Rattle.area_space.specs.Fresh.{fresh}
 use Rattle.area_space.specs.Ground.{IsGround, ClearsOld, with_level}
-use Rattle.test_ground.specs.Trial.{IsTrial, NamesNothing}
+use Rattle.one_area.specs.OneArea.{IsOneArea, NamesNothing}
 use Rattle.area_space.proofs.RegionStates.{old_or_not}
 use Rattle.area_space.proofs.EmptyTable.{room_from}
 use Rattle.area_space.proofs.GroundLaws.{ground_fresh}
 use Rattle.area_space.proofs.UsedWords.{opened_words, committed_words, committed_words_other, condemned_live_words, condemned_old_words, freed_live_words, freed_old_words}
 
 -- two slots
-pub two_slots : (s : Store) (t : Table) (l o m : ℕ) → IsTrial s t l o m → slots_of t ≡ 2
+pub two_slots : (s : Store) (t : Table) (l o m : ℕ) → IsOneArea s t l o m → slots_of t ≡ 2
 two_slots s t l o m x = ap (λ (a : ℕ). a * levels_of t) x.one ∙ ap (λ (k : ℕ). 1 * (k + 1)) x.top
 
 -- all used words are live or old ones of level 0
-pub area_words : (s : Store) (t : Table) (l o m : ℕ) → IsTrial s t l o m → words_of_area t 0 ≡ l + o
+pub area_words : (s : Store) (t : Table) (l o m : ℕ) → IsOneArea s t l o m → words_of_area t 0 ≡ l + o
 area_words s t l o m x =
     let f : ℕ → ℕ = λ k. both (words_of_class t) (0 * levels_of t + k) in
     let e : words_of_area t 0 ≡ total f 2 = ap (λ (k : ℕ). total f (k + 1)) x.top in
@@ -58,10 +58,10 @@ pub first_slot : (t : Table) → slot_of t 0 0 ≡ 0
 first_slot t = omega arith
 
 -- what a call leaves, from what it changes
-trial_from : (s s' : Store) (t t' : Table) (l o m l' o' m' : ℕ) → IsTrial s t l o m → t'.top ≡ t.top → t'.quotas ≡ t.quotas → t'.kinds ≡ t.kinds → t'.regions ≡ t.regions
+area_from : (s s' : Store) (t t' : Table) (l o m l' o' m' : ℕ) → IsOneArea s t l o m → t'.top ≡ t.top → t'.quotas ≡ t.quotas → t'.kinds ≡ t.kinds → t'.regions ≡ t.regions
     → IsGround s' t' → NamesNothing s' → words_of_class t' 0 ≡ l' → words_of_class t' 1 ≡ o' → words_of_class t' 2 ≡ 0 → words_of_class t' 3 ≡ 0
-    → l' ≤ slice_index t'.charges 0 → m' ≤ slice_index t'.charges 1 → l' + o' ≤ 2 * quota_of t 0 → IsTrial s' t' l' o' m'
-trial_from s s' t t' l o m l' o' m' x top quotas kinds regions ground nothing a b c d live_charge old_charge within =
+    → l' ≤ slice_index t'.charges 0 → m' ≤ slice_index t'.charges 1 → l' + o' ≤ 2 * quota_of t 0 → IsOneArea s' t' l' o' m'
+area_from s s' t t' l o m l' o' m' x top quotas kinds regions ground nothing a b c d live_charge old_charge within =
     let R : ℕ → ℕ → List ℕ → Type 0 = λ rs tp qs. total (λ area. (slice_index qs area + 1023) / 1024 + 2 * (tp + 1)) (length qs) ≤ rs in
     record {
       top = top ∙ x.top;
@@ -80,15 +80,15 @@ trial_from s s' t t' l o m l' o' m' x top quotas kinds regions ground nothing a 
     }
 
 -- a place
-pub trial_placed : (region : Option ℕ) (s s' : Store) (t t' : Table) (l o m : ℕ) → IsTable t → IfNone region (t' ≡ t) → IfNone region (s' ≡ s)
+pub area_placed : (region : Option ℕ) (s s' : Store) (t t' : Table) (l o m : ℕ) → IsTable t → IfNone region (t' ≡ t) → IfNone region (s' ≡ s)
     → IfSome region (λ r. t' ≡ opened t (live (slot_of t 0 0)) r) → IfSome region (λ r. s' ≡ with_level s r 0) → IfSome region (λ r. IsUnclassed t r)
-    → IsGround s' t' → IsTrial s t l o m → IsTrial s' t' l o m
-trial_placed None s s' t t' l o m v same behind table level free g x = subst (λ (w : Table). IsTrial s' w l o m) (sym same) (subst (λ (w : Store). IsTrial w t l o m) (sym behind) x)
-trial_placed (Some r) s s' t t' l o m v same behind table level free g x =
+    → IsGround s' t' → IsOneArea s t l o m → IsOneArea s' t' l o m
+area_placed None s s' t t' l o m v same behind table level free g x = subst (λ (w : Table). IsOneArea s' w l o m) (sym same) (subst (λ (w : Store). IsOneArea w t l o m) (sym behind) x)
+area_placed (Some r) s s' t t' l o m v same behind table level free g x =
     let two = two_slots s t l o m x in
     let zero_slot = first_slot t in
     let words : (class : ℕ) → words_of_class t' class ≡ words_of_class t class = λ class. ap (λ (w : Table). words_of_class w class) table ∙ opened_words t (slot_of t 0 0) r class v (omega arith) free in
-    trial_from s s' t t' l o m l o m x (ap (λ (w : Table). w.top) table) (ap (λ (w : Table). w.quotas) table) (ap (λ (w : Table). w.kinds) table) (ap (λ (w : Table). w.regions) table)
+    area_from s s' t t' l o m l o m x (ap (λ (w : Table). w.top) table) (ap (λ (w : Table). w.quotas) table) (ap (λ (w : Table). w.kinds) table) (ap (λ (w : Table). w.regions) table)
     g (λ at to word got. x.nothing at to word (sym (ap (λ (w : Store). slice_get w.words at) level) ∙ got))
     (words 0 ∙ x.live_0) (words 1 ∙ x.old_0) (words 2 ∙ x.live_1) (words 3 ∙ x.old_1)
     (subst (λ (w : Table). l ≤ slice_index w.charges 0) (sym table) x.live_charge) (subst (λ (w : Table). m ≤ slice_index w.charges 1) (sym table) x.old_charge) x.within
@@ -97,17 +97,17 @@ trial_placed (Some r) s s' t t' l o m v same behind table level free g x =
 pub end_first : (t u : Table) (at words : ℕ) → IsEnd u (slot_of t 0 0) at words → IsEnd u 0 at words
 end_first t u at words e = subst (λ (k : ℕ). IsEnd u k at words) (first_slot t) e
 
-area_of_slot : (s : Store) (t : Table) (l o m slot : ℕ) → IsTrial s t l o m → slot < slots_of t → slot / levels_of t ≡ 0
+area_of_slot : (s : Store) (t : Table) (l o m slot : ℕ) → IsOneArea s t l o m → slot < slots_of t → slot / levels_of t ≡ 0
 area_of_slot s t l o m slot x low = (let two = two_slots s t l o m x in let half : slot / (t.top + 1) ≡ slot / 2 = ap (λ (k : ℕ). slot / (k + 1)) x.top in half ∙ (omega arith))
 
-pub new_allowed : (s : Store) (t : Table) (l o m at words slot : ℕ) → IsTrial s t l o m → account_of t 0 + words ≤ quota_of t 0 → IsEnd t slot at words → AllowsOrigin t slot words New
+pub new_allowed : (s : Store) (t : Table) (l o m at words slot : ℕ) → IsOneArea s t l o m → account_of t 0 + words ≤ quota_of t 0 → IsEnd t slot at words → AllowsOrigin t slot words New
 new_allowed s t l o m at words slot x fits e = subst (λ (a : ℕ). account_of t a + words ≤ quota_of t a) (sym (area_of_slot s t l o m slot x e.inside)) fits
 
 -- the class of which copies are made
 abbrev pub first_old : Class
 first_old = record { area = 0; level = 0; stale = true }
 
-pub moved_allowed : (s : Store) (t : Table) (l o m at words slot : ℕ) → IsTrial s t l o m → words ≤ m → IsEnd t slot at words → AllowsOrigin t slot words (Moved first_old)
+pub moved_allowed : (s : Store) (t : Table) (l o m at words slot : ℕ) → IsOneArea s t l o m → words ≤ m → IsEnd t slot at words → AllowsOrigin t slot words (Moved first_old)
 moved_allowed s t l o m at words slot x enough e = (
   refl,
   sym (area_of_slot s t l o m slot x e.inside),
@@ -116,8 +116,8 @@ moved_allowed s t l o m at words slot x enough e = (
 )
 
 -- a commit of a new object
-pub trial_new : (s : Store) (t u : Table) (l o m at words : ℕ) → IsTable t → IsEnd t 0 at words → u ≡ record (committed t 0 at words words New) { pages = u.pages } → l + o + words ≤ 2 * quota_of t 0 → IsGround s u → IsTrial s t l o m → IsTrial s u (l + words) o m
-trial_new s t u l o m at words v e is within g x =
+pub area_put : (s : Store) (t u : Table) (l o m at words : ℕ) → IsTable t → IsEnd t 0 at words → u ≡ record (committed t 0 at words words New) { pages = u.pages } → l + o + words ≤ 2 * quota_of t 0 → IsGround s u → IsOneArea s t l o m → IsOneArea s u (l + words) o m
+area_put s t u l o m at words v e is within g x =
     let two = two_slots s t l o m x in
     let size = v.charges_size in
     let charges : u.charges ≡ slice_set t.charges 0 (slice_index t.charges 0 + words) = ap (λ (w : Table). w.charges) is in
@@ -125,7 +125,7 @@ trial_new s t u l o m at words v e is within g x =
     let there : slice_index u.charges 1 ≡ slice_index t.charges 1 = ap (λ (cs : List ℕ). slice_index cs 1) charges ∙ get_or-set_other t.charges 0 1 (slice_index t.charges 0 + words) 0 (λ q. omega arith) in
     let a = x.live_charge in
     let b = x.old_charge in
-    trial_from s s t u l o m (l + words) o m x (ap (λ (w : Table). w.top) is) (ap (λ (w : Table). w.quotas) is) (ap (λ (w : Table). w.kinds) is) (ap (λ (w : Table). w.regions) is)
+    area_from s s t u l o m (l + words) o m x (ap (λ (w : Table). w.top) is) (ap (λ (w : Table). w.quotas) is) (ap (λ (w : Table). w.kinds) is) (ap (λ (w : Table). w.regions) is)
     g x.nothing (committed_words t u 0 at words words New v e is ∙ ap (λ (k : ℕ). k + words) x.live_0)
     (committed_words_other t u 0 at words words 1 New v e is (λ q. omega arith) ∙ x.old_0) (committed_words_other t u 0 at words words 2 New v e is (λ q. omega arith) ∙ x.live_1) (committed_words_other t u 0 at words words 3 New v e is (λ q. omega arith) ∙ x.old_1)
     (omega arith) (omega arith) (omega arith)
@@ -139,8 +139,8 @@ moved_charges cs k w one size =
     (get_or-set_same ds 0 (slice_index ds 0 + w) 0 (omega arith) ∙ ap (λ (j : ℕ). j + w) same, get_or-set_other ds 0 1 (slice_index ds 0 + w) 0 (λ q. omega arith) ∙ here)
 
 -- a commit of a copy
-pub trial_moved : (s : Store) (t u : Table) (l o m at words : ℕ) → IsTable t → IsEnd t 0 at words → u ≡ record (committed t 0 at words words (Moved first_old)) { pages = u.pages } → words ≤ m → l + o + words ≤ 2 * quota_of t 0 → IsGround s u → IsTrial s t l o m → IsTrial s u (l + words) o (m - words)
-trial_moved s t u l o m at words v e is enough within g x =
+pub area_moved : (s : Store) (t u : Table) (l o m at words : ℕ) → IsTable t → IsEnd t 0 at words → u ≡ record (committed t 0 at words words (Moved first_old)) { pages = u.pages } → words ≤ m → l + o + words ≤ 2 * quota_of t 0 → IsGround s u → IsOneArea s t l o m → IsOneArea s u (l + words) o (m - words)
+area_moved s t u l o m at words v e is enough within g x =
     let two = two_slots s t l o m x in
     let size = v.charges_size in
     let one : stale (slot_of t 0 0) ≡ 1 = omega arith in
@@ -149,14 +149,14 @@ trial_moved s t u l o m at words v e is enough within g x =
     let there : slice_index u.charges 1 ≡ slice_index t.charges 1 - words = ap (λ (w : Table). slice_index w.charges 1) is ∙ both_charges.1 in
     let a = x.live_charge in
     let b = x.old_charge in
-    trial_from s s t u l o m (l + words) o (m - words) x (ap (λ (w : Table). w.top) is) (ap (λ (w : Table). w.quotas) is) (ap (λ (w : Table). w.kinds) is) (ap (λ (w : Table). w.regions) is)
+    area_from s s t u l o m (l + words) o (m - words) x (ap (λ (w : Table). w.top) is) (ap (λ (w : Table). w.quotas) is) (ap (λ (w : Table). w.kinds) is) (ap (λ (w : Table). w.regions) is)
     g x.nothing (committed_words t u 0 at words words (Moved first_old) v e is ∙ ap (λ (k : ℕ). k + words) x.live_0)
     (committed_words_other t u 0 at words words 1 (Moved first_old) v e is (λ q. omega arith) ∙ x.old_0) (committed_words_other t u 0 at words words 2 (Moved first_old) v e is (λ q. omega arith) ∙ x.live_1) (committed_words_other t u 0 at words words 3 (Moved first_old) v e is (λ q. omega arith) ∙ x.old_1)
     (omega arith) (omega arith) (omega arith)
 
 -- a full flip
-pub trial_flipped : (s : Store) (t u : Table) (l o m : ℕ) → IsTable t → ((region : ℕ) → IsOld t region → ⊥) → Condemns t u Full → IsGround s u → IsTrial s t l o m → IsTrial s u 0 l l
-trial_flipped s t u l o m v none f g x =
+pub area_flipped : (s : Store) (t u : Table) (l o m : ℕ) → IsTable t → ((region : ℕ) → IsOld t region → ⊥) → Condemns t u Full → IsGround s u → IsOneArea s t l o m → IsOneArea s u 0 l l
+area_flipped s t u l o m v none f g x =
     let two = two_slots s t l o m x in
     let flips : (slot : ℕ) → slot < slots_of t → condemns t Full slot ≡ true = λ slot low.
     ap (λ (k : ℕ). not (kind_is_static (kind_of t k)) && true) (area_of_slot s t l o m slot x low) ∙ ap (λ (kind : AreaKind). not (kind_is_static kind) && true) x.dynamic in
@@ -167,13 +167,13 @@ trial_flipped s t u l o m v none f g x =
     let charge : slice_index u.charges 1 ≡ slice_index t.charges 0 = ap (λ (w : Slot). w.old_charge) (f.slots 0 (omega arith) ∙ ap (λ (b : Bool). after_flip b (state_of t 0)) (flips 0 (omega arith))) in
     let a = x.live_charge in
     let b = x.within in
-    trial_from s s t u l o m 0 l l x (ap (λ (w : Table). w.top) f.same) (ap (λ (w : Table). w.quotas) f.same) (ap (λ (w : Table). w.kinds) f.same) (ap (λ (w : Table). w.regions) f.same)
+    area_from s s t u l o m 0 l l x (ap (λ (w : Table). w.top) f.same) (ap (λ (w : Table). w.quotas) f.same) (ap (λ (w : Table). w.kinds) f.same) (ap (λ (w : Table). w.regions) f.same)
     g x.nothing (live_words 0 (omega arith)) (old_words 0 (omega arith) ∙ x.live_0) (live_words 1 (omega arith)) (old_words 1 (omega arith) ∙ x.live_1)
     (omega arith) (omega arith) (omega arith)
 
 -- a reclaim
-pub trial_freed : (s s' : Store) (t u : Table) (l o m : ℕ) → IsTable t → ClearsOld s s' t t.regions → Frees t u → IsGround s' u → IsTrial s t l o m → IsTrial s' u l 0 0
-trial_freed s s' t u l o m v c f g x =
+pub area_freed : (s s' : Store) (t u : Table) (l o m : ℕ) → IsTable t → ClearsOld s s' t t.regions → Frees t u → IsGround s' u → IsOneArea s t l o m → IsOneArea s' u l 0 0
+area_freed s s' t u l o m v c f g x =
     let two = two_slots s t l o m x in
     let charge : slice_index u.charges 0 ≡ slice_index t.charges 0 = ap (λ (w : Slot). w.live_charge) (f.slots 0 (omega arith)) in
     let a = x.live_charge in
@@ -190,17 +190,17 @@ trial_freed s s' t u l o m v c f g x =
           absurd (cc)
       | inr not_old ↦ x.nothing at to word (sym (c.others at (λ l o. not_old o)) ∙ got) is
     ] in
-    trial_from s s' t u l o m l 0 0 x (ap (λ (w : Table). w.top) f.same) (ap (λ (w : Table). w.quotas) f.same) (ap (λ (w : Table). w.kinds) f.same) (ap (λ (w : Table). w.regions) f.same)
+    area_from s s' t u l o m l 0 0 x (ap (λ (w : Table). w.top) f.same) (ap (λ (w : Table). w.quotas) f.same) (ap (λ (w : Table). w.kinds) f.same) (ap (λ (w : Table). w.regions) f.same)
     g nothing (freed_live_words t u 0 v f (omega arith) ∙ x.live_0) (freed_old_words t u 0 f (omega arith)) (freed_live_words t u 1 v f (omega arith) ∙ x.live_1) (freed_old_words t u 1 f (omega arith))
     (omega arith) (omega arith) (omega arith)
 
--- a new trial
-pub trial_start : (s : Store) (t : Table) (regions : ℕ) (rules : List AreaRule) (rule : AreaRule) → IsFresh s regions 1 → t ≡ fresh regions 1 rules → rules ≡ rule ∷ [] → rule.kind ≡ Dynamic
-    → (rule.quota + 1023) / 1024 + 4 ≤ regions → IsTrial s t 0 0 0
-trial_start s t regions rules rule f is one kind room =
-    subst (λ (w : Table). IsTrial s w 0 0 0) (sym (is ∙ ap (fresh regions 1) one)) (made rule kind room)
+-- a new area
+pub area_start : (s : Store) (t : Table) (regions : ℕ) (rules : List AreaRule) (rule : AreaRule) → IsFresh s regions 1 → t ≡ fresh regions 1 rules → rules ≡ rule ∷ [] → rule.kind ≡ Dynamic
+    → (rule.quota + 1023) / 1024 + 4 ≤ regions → IsOneArea s t 0 0 0
+area_start s t regions rules rule f is one kind room =
+    subst (λ (w : Table). IsOneArea s w 0 0 0) (sym (is ∙ ap (fresh regions 1) one)) (made rule kind room)
   where
-    made : (rule : AreaRule) → rule.kind ≡ Dynamic → (rule.quota + 1023) / 1024 + 4 ≤ regions → IsTrial s (fresh regions 1 (rule ∷ [])) 0 0 0
+    made : (rule : AreaRule) → rule.kind ≡ Dynamic → (rule.quota + 1023) / 1024 + 4 ≤ regions → IsOneArea s (fresh regions 1 (rule ∷ [])) 0 0 0
     made rule kind room = record {
       top = refl;
       one = refl;

@@ -1,7 +1,7 @@
 use Rattle.std.proofs.Common.{◌≡◌, ◌*◌, ◌/◌, subst, sym, ◌∙◌, arith, inl, inr}
 use Rattle.std.proofs.lemmas.Bool.{cases_eq}
 use Rattle.area_space.specs.Table.{IsOld, stale}
-use Rattle.test_ground.proofs.areas.trial.has_no_old.Goals as goal
+use Rattle.one_area.proofs.area.has_no_old.Goals as goal
 
 pub loop-region-preserved : goal.loop-region-preserved
 loop-region-preserved c = λ r low old.

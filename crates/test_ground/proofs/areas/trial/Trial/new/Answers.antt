@@ -1,7 +1,0 @@
-use Rattle.std.proofs.Common.{◌∙◌, ◌++◌, [], ◌∷◌, List, ap}
-use Rattle.lisp_graph.specs.declared.world.AreaRule.{AreaRule}
-use Rattle.test_ground.proofs.Trials.{trial_start}
-use Rattle.test_ground.proofs.areas.trial.Trial.new.Goals as goal
-
-pub returns : goal.returns
-returns c = trial_start _ _ c.args.regions _ c.args.rule c.in_ok-mem.ensures c.in_ok-table.ensures (c.in_ok-push.ensures.ok ∙ ap (λ (rules : List AreaRule). rules ++ c.args.rule ∷ []) c.new-areas.ensures) c.requires.dynamic c.requires.room

@@ -1,9 +1,0 @@
-use Rattle.mem_port.specs.Plain.{plain_store}
-use Rattle.test_ground.proofs.Trials.{trial_freed}
-use Rattle.test_ground.proofs.areas.trial.Trial.reclaim.Goals as goal
-
-pub returns : goal.returns
-returns c =
-    let now = c.args.self.now in
-    let f = c.free_old.ensures in
-    trial_freed (plain_store now.ground.mem) (plain_store c.free_old.new.self.mem) now.ground.table c.free_old.new.self.table now.live_words now.old_words now.moving c.regions-regions.ensures.sound f.words f.table f.stays_ground c.requires
