@@ -1,5 +1,5 @@
 -- Which pages get marks by the words of a block that grows.
-use Rattle.std.proofs.Common.{◌≡◌, ◌⊎◌, inl, inr, ℕ, zero, suc, refl, ◌+◌, ◌/◌, ◌<◌, ◌≤◌, sym, ◌∙◌, ap, subst, arith, List, Option}
+use Rattle.std.proofs.Common.{◌≡◌, ◌⊎◌, inl, inr, ℕ, zero, suc, refl, ◌+◌, ◌/◌, ◌<◌, ◌≤◌, sym, ◌∙◌, subst, arith, List, Option}
 use Rattle.store_word.specs.Words.{Parts}
 use Rattle.store_word.specs.declared.word.Content.TheVariants.{Struct as StructAt}
 use Rattle.area_space.specs.lisp_graph.Effect.{grown_length}

@@ -31,7 +31,6 @@ use Rattle.block_store.proofs.LiveFields.{field_live, live_word}
 use Rattle.heap_load.specs.Places.{PlaceView, block_place, cell_place, pair_place, place_at}
 use Rattle.heap_load.specs.Loading.{BlockStandsIn, Drafted, Laid, StandsIn, code_for, group_from, loaded}
 use Rattle.heap_load.specs.Drafts.{header_of}
-use Rattle.heap_load.proofs.NewDrafts.{store_with}
 use Rattle.heap_load.proofs.ObjectParts.{draft_block}
 use Rattle.heap_load.proofs.GroupSequences.{code_left, group_along, group_cons}
 

@@ -12,9 +12,7 @@ use Rattle.lisp_graph.specs.declared.object.Body.TheVariants.{Cons}
 use Rattle.lisp_graph.specs.Graph.{RefersBelow, no_object, object_at}
 use Rattle.mem_port.specs.Store.{Store}
 use Rattle.area_space.specs.Table.{Table}
-use Rattle.block_store.specs.lisp_meaning.Opening.{opening}
 use Rattle.block_store.specs.lisp_meaning.Roles.{AsCons, AsBlock, Role, as_ref, names_as, value_of}
-use Rattle.heap_load.specs.Drafts.{with_objects}
 use Rattle.block_store.specs.obj_layout.Forwards.{word_at}
 use Rattle.block_store.specs.lisp_ground.GroundInvariant.{GroundInvariant}
 use Rattle.block_store.proofs.lisp_ground.words.FinalAddresses.{final_is_place}
@@ -22,7 +20,6 @@ use Rattle.cdr_lists.specs.Lists.{cell_code}
 use Rattle.cdr_lists.proofs.SettledCell.{final_itself}
 use Rattle.heap_load.specs.Places.{PlaceView, place_at, word_of}
 use Rattle.heap_load.specs.Loading.{RepresentsGroups, RepresentsSome, RepresentsWorld, Filled, HoldsSome, IsLoadable, Laid, code_for, emptied, group_from, loaded}
-use Rattle.heap_load.proofs.NewDrafts.{store_with}
 use Rattle.heap_load.proofs.ConsPlaces.{cons_named}
 use Rattle.heap_load.proofs.GroupSequences.{code_left, group_after, group_along, group_begins, group_cons}
 

@@ -26,7 +26,7 @@ use Rattle.transporter.proofs.lisp_ground.words.Words.{get_or_here}
 use Rattle.transporter.proofs.lisp_ground.words.UsedWords.{is_used_as}
 use Rattle.transporter.specs.lisp_meaning.Opening.{opening}
 use Rattle.transporter.specs.lisp_meaning.Empty.{blank_map}
-use Rattle.transporter.specs.lisp_meaning.Flip.{flipped, aim_by}
+use Rattle.transporter.specs.lisp_meaning.Flip.{flipped}
 use Rattle.transporter.specs.lisp_meaning.Units.{units_left}
 use Rattle.transporter.specs.lisp_meaning.Roles.{value_of}
 use Rattle.transporter.proofs.lisp_meaning.maps.Frames.{refined}

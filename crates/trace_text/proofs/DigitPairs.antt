@@ -1,10 +1,10 @@
 -- The table of the digits of the numbers below 100, and numbers of three to five digits.
-use Rattle.std.proofs.Common.{◌≡◌, ℕ, ◌+◌, ◌/◌, ◌%◌, ◌^◌, ◌<◌, ◌≤◌, true, List, [], ◌∷◌, ◌++◌, slice_index_or, decimal, refl, ap, sym, ◌∙◌, arith}
+use Rattle.std.proofs.Common.{◌≡◌, ℕ, ◌+◌, ◌/◌, ◌%◌, ◌<◌, ◌≤◌, true, List, [], ◌∷◌, ◌++◌, slice_index_or, decimal, refl, ap, sym, ◌∙◌, arith}
 use Rattle.std.specs.Prelude.{bytes_eq}
 use Rattle.std.proofs.lemmas.Bool.{agree_below_at}
 use Rattle.std.proofs.lemmas.Fmt.{decimal_digit}
 use Rattle.std.proofs.lemmas.Slice.Eq.{bytes_eq-Decides}
-use Rattle.itoa.proofs.Decimal.{decimal_pair, decimal_two, pair}
+use Rattle.itoa.proofs.Decimal.{decimal_pair, decimal_two}
 use Rattle.trace_text.specs.declared.digit_pairs.TheConstants.{DIGIT_PAIRS}
 
 is_row : (other : List ℕ) (n : ℕ) → n < 100 → bytes_eq (slice_index_or DIGIT_PAIRS n other) ((48 + n / 10) ∷ (48 + n % 10) ∷ []) ≡ true

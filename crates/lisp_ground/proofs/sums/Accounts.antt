@@ -9,7 +9,7 @@ use Rattle.area_space.specs.mem_port.Store.{Store}
 use Rattle.area_space.specs.Sums.{both}
 use Rattle.area_space.specs.Table.{Table, areas_of, levels_of, live, stale, quota_of}
 use Rattle.area_space.specs.Accounts.{debt, account_of}
-use Rattle.lisp_meaning.specs.State.{rule_of, no_rule, in_use, object}
+use Rattle.lisp_meaning.specs.State.{rule_of, no_rule}
 use Rattle.lisp_meaning.specs.Charges.{account}
 use Rattle.lisp_meaning.specs.Image.{Image}
 use Rattle.lisp_meaning.proofs.reading.Adequacy.{account_read}

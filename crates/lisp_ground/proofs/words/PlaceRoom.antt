@@ -6,7 +6,7 @@ use Rattle.area_space.proofs.lisp_graph.Totals.{total-suc, total-cong, total-le,
 use Rattle.area_space.specs.mem_port.Store.{Store}
 use Rattle.area_space.specs.Table.{Table, levels_of, slot_of, live, stale, quota_of}
 use Rattle.area_space.specs.Room.{words_of_class, words_of_area}
-use Rattle.lisp_meaning.specs.State.{rule_of, in_use, is_held, object}
+use Rattle.lisp_meaning.specs.State.{rule_of, is_held, object}
 use Rattle.lisp_meaning.specs.Charges.{account, charges, per_area}
 use Rattle.lisp_meaning.specs.ChargesIn.{spares_in}
 use Rattle.lisp_meaning.specs.Image.{Image, used_words}

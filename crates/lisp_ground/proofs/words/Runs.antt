@@ -9,7 +9,7 @@ use Rattle.area_space.specs.store_word.declared.word.Content.TheVariants.{Null, 
 use Rattle.area_space.specs.lisp_graph.declared.object.Value.{Value}
 use Rattle.area_space.specs.mem_port.Store.{Store}
 use Rattle.area_space.specs.Table.{Table}
-use Rattle.lisp_meaning.specs.State.{in_use, object}
+use Rattle.lisp_meaning.specs.State.{object}
 use Rattle.lisp_meaning.specs.Image.{Image, word}
 use Rattle.lisp_meaning.specs.Classes.{classes}
 use Rattle.lisp_meaning.specs.Forwards as G

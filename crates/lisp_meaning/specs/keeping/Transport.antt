@@ -4,12 +4,12 @@ use Rattle.lisp_graph.specs.store_word.Words.{Parts}
 use Rattle.lisp_graph.specs.store_word.declared.word.CdrCode.TheVariants.{Next as CdrNext, Nil as CdrNil, Normal as CdrNormal}
 use Rattle.lisp_graph.specs.store_word.declared.word.Content.TheVariants.{List as ListAt, Header, GcForward}
 use Rattle.lisp_graph.specs.declared.object.Value.{Value}
-use Rattle.lisp_meaning.specs.machine.State.{survivor, Condemned, Store, object}
+use Rattle.lisp_meaning.specs.machine.State.{survivor, Condemned, object}
 use Rattle.lisp_meaning.specs.machine.Sound.{is_kept, Reaches}
 use Rattle.lisp_meaning.specs.reading.Image.{Old, Image, word, with_words}
 use Rattle.lisp_meaning.specs.reading.Classes.{classes, class_at}
 use Rattle.lisp_meaning.specs.reading.Forwards.{forward_of}
-use Rattle.lisp_meaning.specs.invariants.Roles.{Kind, AsCons, AsBlock, RoleMap, names_as, name_at, value_of}
+use Rattle.lisp_meaning.specs.invariants.Roles.{Kind, AsCons, AsBlock, names_as, name_at, value_of}
 use Rattle.lisp_meaning.specs.reading.Marks.{Marks}
 use Rattle.lisp_meaning.specs.invariants.Placed.{Placed, Rehomed}
 use Rattle.lisp_meaning.specs.invariants.Invariant.{MemoryInvariant}

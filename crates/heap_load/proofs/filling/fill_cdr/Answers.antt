@@ -3,7 +3,6 @@ use Rattle.std.proofs.lemmas.Result.{on_err_weaker, on_ok_weaker}
 use Rattle.store_word.specs.Words.{Parts}
 use Rattle.store_word.specs.declared.word.CdrCode.{CdrCode}
 use Rattle.store_word.specs.declared.word.Content.TheVariants.{List as ListAt}
-use Rattle.lisp_graph.specs.declared.object.Object.{Object}
 use Rattle.lisp_graph.specs.Graph.{object_at}
 use Rattle.cdr_lists.specs.Pairs.{second_code}
 use Rattle.heap_load.specs.Places.{PlaceView, place_at}

@@ -1,4 +1,3 @@
-use Rattle.std.proofs.Common.{◌/◌, ◌%◌, ◌^◌}
 use Rattle.std.proofs.lemmas.Bool.{OnTrue_from, OnFalse_from, eqb-true, eqb-false}
 use Rattle.store_word.proofs.Addresses.{tag_told}
 use Rattle.store_word.proofs.word.has_address.Goals as goal

@@ -1,8 +1,8 @@
-use Rattle.std.proofs.Common.{◌≡◌, ◌*◌, ◌∙◌, ℕ, ap, subst, arith}
+use Rattle.std.proofs.Common.{◌≡◌, ◌∙◌, ap, subst, arith}
 use Rattle.area_space.proofs.FlipSteps.{nothing_in, flipping_start, flipping_more, flipping_end}
 use Rattle.area_space.proofs.table.RegionTable.condemn.Goals as goal
 use Rattle.area_space.specs.Flips.{Slot, IsFlipping}
-use Rattle.area_space.specs.Table.{Table, chain, stale, slots_of, areas_of}
+use Rattle.area_space.specs.Table.{Table, chain, stale, slots_of}
 
 pub flip_slot-requires-clause-empty : goal.flip_slot-requires-clause-empty
 flip_slot-requires-clause-empty c =

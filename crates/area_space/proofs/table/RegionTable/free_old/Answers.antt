@@ -1,9 +1,9 @@
-use Rattle.std.proofs.Common.{◌≡◌, ◌*◌, ◌<◌, ◌∙◌, ℕ, ap, subst, sym, arith}
+use Rattle.std.proofs.Common.{◌≡◌, ◌<◌, ◌∙◌, ℕ, ap, subst, sym, arith}
 use Rattle.area_space.proofs.FreedClasses.{reclaiming_start, reclaiming_more, reclaiming_end}
 use Rattle.area_space.proofs.table.RegionTable.free_old.Goals as goal
 use Rattle.area_space.specs.Flips.{Slot}
 use Rattle.area_space.specs.Frees.{IsReclaiming}
-use Rattle.area_space.specs.Table.{slots_of, areas_of, stale}
+use Rattle.area_space.specs.Table.{slots_of, stale}
 
 pub loop-slot-init : goal.loop-slot-init
 loop-slot-init c = reclaiming_start c.args.self.now

@@ -1,4 +1,4 @@
-use Rattle.std.proofs.Common.{ℕ, ◌≡◌, ◌+◌, ◌<◌, ◌^◌, ◌∙◌, Some, ap, subst, arith}
+use Rattle.std.proofs.Common.{ℕ, ◌≡◌, ◌+◌, ◌∙◌, Some, ap, arith}
 use Rattle.scavenger.specs.declared.scan_set.Unit.TheVariants.{Word}
 use Rattle.scavenger.specs.Scan.{Scan}
 use Rattle.scavenger.specs.Moves.{none_moved}
