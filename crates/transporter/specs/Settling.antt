@@ -65,11 +65,11 @@ pub record SettlesOn (m : Store) (t : Table) (m' : Store) (t' : Table) (it : Int
   pub later : RepresentedByLaterMap m t m' t' it
   pub value : (v : Value) → value_of it.map.role old.content ≡ Some v → value_of later.map.role new.content ≡ Some v
 
--- whatever the ground represented, it represents by a later map, by which the new word has each value of the old one. (Six parameters: memory, table and word, each before and after.)
+-- whatever objects the ground represented: if the word could be settled, it represents them by a later map, by which the new word has each value of the old one. (Six parameters: memory, table and word, each before and after.)
 abbrev pub SettlesAlways : Store → Table → Store → Table → Parts → Parts → Type 0
 SettlesAlways m t m' t' old new = (it : Interpretation) (registers : List Value) (v : Value) → CanSettle m t it registers old v → SettlesOn m t m' t' it old new
 
--- whatever the ground represented, if the word could be settled, it represents by a later map
+-- whatever objects the ground represented: if the word could be settled, it represents them by a later map
 abbrev pub RemainsRepresented : Store → Table → Store → Table → Parts → Type 0
 RemainsRepresented m t m' t' word = (it : Interpretation) (registers : List Value) (v : Value) → CanSettle m t it registers word v → RepresentedByLaterMap m t m' t' it
 

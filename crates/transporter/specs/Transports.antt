@@ -42,7 +42,7 @@ pub record ReachesOn (m : Store) (t : Table) (m' : Store) (t' : Table) (it : Int
   pub live : IsLive t' (to / REGION_WORDS)
   pub final : IsFinal m'.words to
 
--- whatever the ground represented, a reference to an address is one to another address, if the running collection keeps its object. (Six parameters: memory, table and address, each before and after.)
+-- whatever objects the ground represented: if a reference to the first address means one that the running collection keeps, a reference to the second address now means it. (Six parameters: memory, table and address, each before and after.)
 abbrev pub ReachesAlways : Store → Table → Store → Table → ℕ → ℕ → Type 0
 ReachesAlways m t m' t' at to = (it : Interpretation) (registers : List Value) (kind : Kind) (n : ℕ) → CanTransport m t it registers kind at n → ReachesOn m t m' t' it kind to n
 

@@ -90,11 +90,9 @@ FetchMoves v v' = moving.FetchMoves v.mem.store v.table v'.mem.store v'.table
 abbrev pub MovesAtMost : GroundView → GroundView → ℕ → Type 0
 MovesAtMost v v' = moving.MovesAtMost v.mem.store v.table v'.mem.store v'.table
 
--- whatever the ground represented, it represents by a later map, by which the new word has each value of the old one
 abbrev pub SettlesAlways : GroundView → GroundView → Parts → Parts → Type 0
 SettlesAlways v v' = settling.SettlesAlways v.mem.store v.table v'.mem.store v'.table
 
--- whatever the ground represented, if the word could be settled, it represents by a later map
 abbrev pub RemainsRepresented : GroundView → GroundView → Parts → Type 0
 RemainsRepresented v v' = settling.RemainsRepresented v.mem.store v.table v'.mem.store v'.table
 

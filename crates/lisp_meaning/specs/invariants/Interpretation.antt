@@ -4,7 +4,7 @@ use Rattle.lisp_graph.specs.declared.world.AreaRule.{AreaRule}
 use Rattle.lisp_meaning.specs.machine.State.{Condemned, aim_of, Store, State}
 use Rattle.lisp_meaning.specs.invariants.Roles.{RoleMap}
 
--- objects of these areas, with levels up to the greatest; the role map that places them; and the aim of the collection
+-- objects, and how words represent them: a role map, the greatest level, the areas, the store of the objects, and the aim of the collection that runs
 pub record Interpretation : Type 0 where
   pub map : RoleMap
   pub top : ℕ

@@ -27,7 +27,7 @@ pub record Covered (g : Image) (k : RoleMap) : Type 0 where
 abbrev pub HusksFit : Image → RoleMap → Type 0
 HusksFit g k = (area level count : ℕ) → total (husk_word_in k (classes g) area level) count ≤ g.live_husks area level
 
--- the invariant of a memory and its table, by a role map, for a store and the aim of a collection: without registers and counters. `top` is the greatest level
+-- the invariant of a memory and its table for what they represent: without registers and counters
 pub record MemoryInvariant (g : Image) (it : Interpretation) : Type 0 where
   pub roled : Roled (word g) (classes g) it.map it.store
   pub covered : Covered g it.map
