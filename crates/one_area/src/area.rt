@@ -27,7 +27,7 @@ impl OneArea {
     /// words of its quota, rounded up, and four more.
     pub fn new(alloc: Global, regions: u32, rule: AreaRule) -> Result<OneArea, NoMemory>
         requires at_most { regions ≤ 1024 }
-        requires dynamic { rule.kind ≡ OneKind.Dynamic }
+        requires area { rule.kind ≡ OneKind.Dynamic }
         requires size { rule.quota ≤ 1048576 }
         requires room { (rule.quota + 1023) / 1024 + 4 ≤ regions }
         ensures { IfOk result (λ a. IsOneArea (plain_store a.ground.mem) a.ground.table a.live_words a.old_words a.moving) }
@@ -56,9 +56,9 @@ impl OneArea {
     fn place(&mut self, words: u32) -> Option<Placed>
         requires { IsOneArea (plain_store self.old.ground.mem) self.old.ground.table self.old.live_words self.old.old_words self.old.moving }
         ensures sound { IsOneArea (plain_store self.new.ground.mem) self.new.ground.table self.new.live_words self.new.old_words self.new.moving }
-        ensures live_words { self.new.live_words ≡ self.old.live_words }
-        ensures old_words { self.new.old_words ≡ self.old.old_words }
-        ensures moving { self.new.moving ≡ self.old.moving }
+        ensures live { self.new.live_words ≡ self.old.live_words }
+        ensures unchanged { self.new.old_words ≡ self.old.old_words }
+        ensures moved { self.new.moving ≡ self.old.moving }
         ensures end { IfSome result (λ placed. IsEnd self.new.ground.table 0 placed.at words) }
         ensures some { IfSome result (λ _. 0 < words) }
         ensures at_most { IfSome result (λ _. words ≤ 2048) }
