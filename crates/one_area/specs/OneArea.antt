@@ -5,6 +5,7 @@ use Rattle.mem_port.specs.Store.{Store}
 use Rattle.lisp_graph.specs.declared.world.AreaKind.TheVariants.{Dynamic}
 use Rattle.area_space.specs.Table.{Table, areas_of, kind_of, quota_of}
 use Rattle.area_space.specs.Room.{RoomRule, words_of_class}
+use Rattle.area_space.specs.Sound.{IsTable}
 use Rattle.area_space.specs.Ground.{IsGround}
 
 -- no word has an address
@@ -17,6 +18,7 @@ pub record IsOneArea (s : Store) (t : Table) (live_words old_words moving : ℕ)
   pub one : areas_of t ≡ 1
   pub dynamic : kind_of t 0 ≡ Dynamic
   pub room : RoomRule t
+  pub table : IsTable t
   pub ground : IsGround s t
   pub nothing : NamesNothing s
   pub live_0 : words_of_class t 0 ≡ live_words

@@ -10,7 +10,7 @@ use area_space::{Class, Ground, Origin, Placed, RegionTable};
 use lisp_graph::{AreaKind, AreaRule, Areas, Condemn};
 use mem_port::{Memory, PlainMemory};
 use std::alloc::Global;
-use store_word::{NoMemory, Space};
+use store_word::{NoMemory, REGION_WORDS, Space};
 
 /// A ground with one dynamic area and one level above 0, its words that are live and old, and the charge of old objects that
 /// remain to be moved, all in words.
@@ -64,7 +64,6 @@ impl OneArea {
         ensures at_most { IfSome result (λ _. words ≤ 2048) }
         ensures in_range { IfSome result (λ _. self.old.live_words + self.old.old_words + words ≤ 2 * quota_of self.new.ground.table 0) }
     {
-        let _regions = self.ground.table.regions();
         let quota = self.ground.table.quota(0);
         if words == 0 || words > 2048 || self.live_words + self.old_words + words > 2 * quota {
             return None;
@@ -78,7 +77,6 @@ impl OneArea {
         ensures { IsOneArea (plain_store self.new.ground.mem) self.new.ground.table self.new.live_words self.new.old_words self.new.moving }
     {
         let placed = self.place(words)?;
-        let _regions = self.ground.table.regions();
         if self.ground.table.account(0) + words > self.ground.table.quota(0) {
             return None;
         }
@@ -93,7 +91,6 @@ impl OneArea {
         ensures { IsOneArea (plain_store self.new.ground.mem) self.new.ground.table self.new.live_words self.new.old_words self.new.moving }
     {
         let placed = self.place(words)?;
-        let _regions = self.ground.table.regions();
         if words > self.moving {
             return None;
         }
@@ -114,7 +111,6 @@ impl OneArea {
         requires { IsOneArea (plain_store self.old.ground.mem) self.old.ground.table self.old.live_words self.old.old_words self.old.moving }
         ensures { IsOneArea (plain_store self.new.ground.mem) self.new.ground.table self.new.live_words self.new.old_words self.new.moving }
     {
-        let _regions = self.ground.table.regions();
         if has_no_old(&self.ground.table) {
             self.ground.condemn(Condemn::Full);
             self.old_words = self.live_words;
@@ -131,7 +127,6 @@ impl OneArea {
         requires { IsOneArea (plain_store self.old.ground.mem) self.old.ground.table self.old.live_words self.old.old_words self.old.moving }
         ensures { IsOneArea (plain_store self.new.ground.mem) self.new.ground.table self.new.live_words self.new.old_words self.new.moving }
     {
-        let _regions = self.ground.table.regions();
         self.ground.free_old();
         self.old_words = 0;
         self.moving = 0;
@@ -142,7 +137,7 @@ impl OneArea {
         let regions = self.ground.table.regions();
         let mut count = 0u32;
         for region in 0..regions {
-            if self.ground.table.class_of(region * 4096).is_some() {
+            if self.ground.table.class_of(region * REGION_WORDS).is_some() {
                 count += 1;
             }
         }
@@ -156,7 +151,7 @@ fn has_no_old(table: &RegionTable) -> bool
 {
     let regions = table.regions();
     for region in 0..regions {
-        if table.is_old(region * 4096) {
+        if table.is_old(region * REGION_WORDS) {
             return false;
         }
     }

@@ -28,4 +28,4 @@ returns c =
     let u = c.commit.new.self.table in
     let g = subst (λ (m : Plain). IsGround (plain_store m) u) c.commit.ensures.memory (c.commit.ensures.stays_ground p.sound.ground) in
     subst (λ (m : Plain). IsOneArea (plain_store m) u (made.live_words + c.args.words) made.old_words (made.moving - c.args.words)) (sym c.commit.ensures.memory)
-    (area_moved (plain_store made.ground.mem) made.ground.table u made.live_words made.old_words made.moving c.in_ok-placed.placed.at c.args.words c.regions-regions.ensures.sound end (c.commit.ensures.table 0 end) (omega arith) (omega arith) g p.sound)
+    (area_moved (plain_store made.ground.mem) made.ground.table u made.live_words made.old_words made.moving c.in_ok-placed.placed.at c.args.words c.commit.ensures.sound end (c.commit.ensures.table 0 end) (omega arith) (omega arith) g p.sound)

@@ -14,4 +14,4 @@ returns-then-has_no_old c =
     let u = c.condemn.new.self.table in
     let g = subst (λ (m : Plain). IsGround (plain_store m) u) c.condemn.ensures.memory (c.condemn.ensures.stays_ground c.requires.ground) in
     subst (λ (m : Plain). IsOneArea (plain_store m) u 0 now.live_words now.live_words) (sym c.condemn.ensures.memory)
-    (area_flipped (plain_store now.ground.mem) now.ground.table u now.live_words now.old_words now.moving c.regions-regions.ensures.sound (c.has_no_old.ensures c.if-has_no_old.true) c.condemn.ensures.table g c.requires)
+    (area_flipped (plain_store now.ground.mem) now.ground.table u now.live_words now.old_words now.moving c.condemn.ensures.sound (c.has_no_old.ensures c.if-has_no_old.true) c.condemn.ensures.table g c.requires)

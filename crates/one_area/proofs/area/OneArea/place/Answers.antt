@@ -16,7 +16,7 @@ returns-clause-sound c =
     let now = c.args.self.now in
     let made = c.place.new.self in
     let p = c.place.ensures in
-    area_placed c.place.result.opened (plain_store now.ground.mem) (plain_store made.mem) now.ground.table made.table now.live_words now.old_words now.moving c.regions-regions.ensures.sound p.unchanged p.memory p.table p.opened p.free p.stays_ground c.requires
+    area_placed c.place.result.opened (plain_store now.ground.mem) (plain_store made.mem) now.ground.table made.table now.live_words now.old_words now.moving p.sound p.unchanged p.memory p.table p.opened p.free p.stays_ground c.requires
 
 pub returns-clause-end : goal.returns-clause-end
 returns-clause-end c = end_first c.args.self.now.ground.table c.place.new.self.table c.place.result.at c.args.words c.place.ensures.end
