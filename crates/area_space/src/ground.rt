@@ -2,7 +2,7 @@
 ghost use Rattle.std.specs.Prelude.{◌≡◌, ℕ, ◌+◌, ◌-◌, ◌*◌, ◌/◌, ◌<◌, ◌≤◌, IfSome, IfNone, Some, length, slice_index, Contains};
 ghost use Rattle.index_lists.specs.Chains.{last_of};
 ghost use Rattle.mem_port.specs.Frames.{outside};
-ghost use Rattle.mem_port.specs.Store.{Clears};
+ghost use Rattle.mem_port.specs.Store.{Clears, IsMemory};
 ghost use Rattle.area_space.specs.Table.{areas_of, levels_of, slot_of, live, chain, used_of, quota_of, IsOld, IsUnclassed, page_list};
 ghost use Rattle.area_space.specs.Room.{RoomRule, words_of_area};
 ghost use Rattle.area_space.specs.Sound.{IsTable};
@@ -28,8 +28,8 @@ pub struct Ground<M: Memory> {
     pub mem: M,
     pub table: RegionTable,
 
-    // At most 1,024 regions of 4,096 words: no address overflows.
-    ghost small: { length (M.seen mem).words ≤ 4194304 },
+    // What always holds of a memory. So no address overflows.
+    ghost sound: { IsMemory (M.seen mem) },
 }
 
 /// The place at which an object may be written, and the region that was opened for it, if one was.
@@ -183,6 +183,7 @@ fn clear_if_old<M: Memory>(mem: &mut M, table: &RegionTable, region: u32)
     ensures cleared { IsOld table.now region → Clears (M.seen mem.old) (M.seen mem.new) region }
     ensures resident { IsOld table.now region → M.resident mem.new ≡ outside region (M.resident mem.old) }
     ensures memory { (IsOld table.now region → ⊥) → M.seen mem.new ≡ M.seen mem.old }
+    ensures sound { IsMemory (M.seen mem.old) → IsMemory (M.seen mem.new) }
     ensures unchanged { (IsOld table.now region → ⊥) → M.resident mem.new ≡ M.resident mem.old }
     ensures no_fault { M.faults mem.new ≡ M.faults mem.old }
     ensures taken { M.taken mem.new ≡ M.taken mem.old }

@@ -1,5 +1,5 @@
 //! Reads and writes fields.
-ghost use Rattle.std.specs.Prelude.{◌≡◌, ◌≢◌, ◌↔◌, ℕ, suc, ◌+◌, ◌<◌, ◌≤◌, Err, IfOk, OnOk, OnErr};
+ghost use Rattle.std.specs.Prelude.{◌≡◌, ◌≢◌, ◌↔◌, ℕ, suc, ◌+◌, ◌<◌, ◌≤◌, Err, IfOk, OnOk, OnErr, ◌^◌, length as list_length};
 ghost use Rattle.mem_port.specs.View.{AccountsForFaultsIf, shown};
 ghost use Rattle.area_space.specs.View.{view};
 ghost use Rattle.block_store.specs.Faults.{is_fault};
@@ -18,7 +18,7 @@ ghost use Rattle.block_store.specs.Fields.{IsFieldPlace, LacksField, WritesField
 use crate::fault::BlockFault;
 use crate::header::find;
 use area_space::Ground;
-use mem_port::{Memory, assert_invariant};
+use mem_port::Memory;
 use std::sync::ledger::Ledger;
 use store_word::{CdrCode, Steps, SwapFault, Tag, Word};
 use transporter::{FIND_ACCESSES, SETTLE_ACCESSES, fetch};
@@ -31,7 +31,8 @@ fn find_field<M: Memory, L: Ledger>(
     index: u32,
     steps: &mut Steps<L>,
 ) -> Result<u32, BlockFault>
-    requires { CanFind (M.seen mem.old).words of.content }
+    requires can { CanFind (M.seen mem.old).words of.content }
+    requires fits { list_length (M.seen mem.old).words < 2 ^ 28 }
     ensures place { IfOk result (IsFieldPlace (M.seen mem.old).words of.content index) }
     ensures refused { (result ≡ Err BlockFault.NotABlock) ↔ (tag_of of.content ≢ Tag.Struct) }
     ensures no_field { (count : ℕ) → result ≡ Err (BlockFault.NoField count) → LacksField (M.seen mem.old).words of.content index count }
@@ -39,8 +40,6 @@ fn find_field<M: Memory, L: Ledger>(
     ensures accounted { AccountsForFaultsIf (shown M.Memory mem.old) (shown M.Memory mem.new) steps.old steps.new (is_fault result) }
     ensures cost { steps.new ≤ steps.old + FIND_ACCESSES }
 {
-    // No address of a memory overflows, as this call's contract says.
-    assert_invariant(mem);
     let head = find(mem, of, steps)?;
     if index >= head.length as u32 {
         return Err(BlockFault::NoField {

@@ -18,7 +18,7 @@ ghost use Rattle.area_space.specs.Table.{slot_of};
 
 use crate::widening::fill;
 use area_space::{Ground, Origin};
-use mem_port::{Memory, Span, assert_invariant, hold_spans};
+use mem_port::{Memory, Span, hold_spans};
 use std::sync::ledger::Ledger;
 use store_word::{Steps, SwapFault, Word};
 use transporter::place_for;
@@ -40,8 +40,6 @@ fn write_block<M: Memory, L: Ledger>(
     ensures no_fault { WithoutFault (shown M.Memory mem.old) (shown M.Memory mem.new) steps.old steps.new }
     ensures cost { steps.new ≡ steps.old + length + 1 }
 {
-    // No address of a memory overflows, as this call's contract says.
-    assert_invariant(mem);
     mem.write(at, Word::header(code, length), steps)?;
     fill(mem, at + 1, length as u32, Word::nil(), steps)
 }

@@ -1,14 +1,14 @@
 //! Writes the words of a block again, wider, and turns the old ones into a husk.
-ghost use Rattle.std.specs.Prelude.{◌≡◌, ◌+◌, ◌*◌, ◌<◌, ◌≤◌, ℕ, IsOk, OnOk, OnErr, length as list_length, ◌%◌};
+ghost use Rattle.std.specs.Prelude.{◌≡◌, ◌+◌, ◌*◌, ◌<◌, ◌≤◌, ℕ, IsOk, OnOk, OnErr, length as list_length, ◌%◌, ◌^◌};
 ghost use Rattle.mem_port.specs.View.{WithoutFault, AccountsForFaults, shown};
 ghost use Rattle.mem_port.specs.Spans.{HoldsSpan};
-ghost use Rattle.mem_port.specs.Store.{StoresNothing};
+ghost use Rattle.mem_port.specs.Store.{IsMemory, StoresNothing};
 ghost use Rattle.mem_port.specs.declared.spans.Span.{Span};
 ghost use Rattle.transporter.specs.Writes.{Writes};
 ghost use Rattle.block_store.specs.Growing.{CanLayAnew, LaysAnew, grown_word, husk_word};
 
 use crate::header::Head;
-use mem_port::{Memory, Span, assert_invariant, hold_spans};
+use mem_port::{Memory, Span, hold_spans};
 use std::sync::ledger::Ledger;
 use store_word::{PAGE_WORDS, Steps, SwapFault, Word};
 use transporter::{HOLD_ACCESSES, copy_words};
@@ -40,8 +40,6 @@ pub(crate) fn fill<M: Memory, L: Ledger>(
     ensures no_fault { WithoutFault (shown M.Memory mem.old) (shown M.Memory mem.new) steps.old steps.new }
     ensures cost { steps.new ≡ steps.old + count }
 {
-    // No address of a memory overflows, as this call's contract says.
-    assert_invariant(mem);
     let mut done = 0;
     while done < count {
         let piece = on_one_page(at + done, count - done);
@@ -73,10 +71,9 @@ fn write_wide<M: Memory, L: Ledger>(
     // What stays held, swap errors and the cost.
     ensures stays_held { (page : ℕ) → M.held mem.old page → M.held mem.new page }
     ensures no_fault { WithoutFault (shown M.Memory mem.old) (shown M.Memory mem.new) steps.old steps.new }
+    ensures sound { IsMemory (M.seen mem.new) }
     ensures cost { steps.new ≡ steps.old + head.length + wide + 1 }
 {
-    // No address of a memory overflows, as this call's contract says.
-    assert_invariant(mem);
     let fields = head.length as u32;
     mem.write(to, Word::header(head.code, wide), steps)?;
     copy_words(mem, head.at + 1, to + 1, fields, steps)?;
@@ -100,13 +97,12 @@ fn leave_husk<M: Memory, L: Ledger>(
     requires in_range { head.at + head.length + 1 ≤ list_length (M.seen mem.old).words }
     requires to { to < list_length (M.seen mem.old).words }
     requires held { HoldsSpan (M.held mem.old) (record { at = head.at; words = head.length + 1 }) }
+    requires fits { list_length (M.seen mem.old).words < 2 ^ 28 }
     ensures succeeds { IsOk result }
     ensures written { Writes (M.seen mem.old) (M.seen mem.new) head.at (head.length + 1) (husk_word to) }
     ensures no_fault { WithoutFault (shown M.Memory mem.old) (shown M.Memory mem.new) steps.old steps.new }
     ensures cost { steps.new ≡ steps.old + head.length + 1 }
 {
-    // No address of a memory overflows, as this call's contract says.
-    assert_invariant(mem);
     mem.write(head.at, Word::header_forward(to), steps)?;
     fill(mem, head.at + 1, head.length as u32, Word::null(), steps)
 }

@@ -13,7 +13,7 @@ ghost use Rattle.heap_collect.specs.Views.{FreesAtMost, IsDone, IsIdle, StandsFo
 
 use area_space::Ground;
 use lisp_graph::{Condemn, Reply};
-use mem_port::{Memory, assert_invariant};
+use mem_port::Memory;
 use scavenger::ScanSet;
 
 /// `flip`: begins a collection, and replies with the number of base pages to scan; if one runs,
@@ -89,7 +89,6 @@ pub(crate) fn begin_collection<M: Memory>(
     ensures memory { ground.new.mem ≡ ground.old.mem }
     ensures regions { ground.new.table.regions ≡ ground.old.table.regions }
 {
-    assert_invariant(&ground.mem);
     ground.condemn(what);
     scan.start(ground, what)
 }
@@ -104,5 +103,4 @@ pub(crate) fn end_collection<M: Memory>(ground: &mut Ground<M>)
     ensures no_fault { CountsUnchanged (view ground.old) (view ground.new) }
 {
     ground.free_old();
-    assert_invariant(&ground.mem);
 }

@@ -41,6 +41,7 @@ quiet-then q tells = record {
   honest = (let a = q.honest in let b = tells.honest in omega arith);
   room = λ is. (let a = q.room in let b = tells.room is in omega arith);
   gone = (let a = q.room in let b = tells.gone in omega arith);
+  sound = λ was. tells.sound (q.sound was);
 }
 
 pub unwrapped : (r : Result Reply SwapFault) → result_unwrap_or r R.Fault ≡ reply_of r

@@ -146,14 +146,14 @@ module _ (m m' : Store) (t t' : Table) (scan : Scan) (registers registers' : Lis
 
 -- the registers are in a vector, and are lent
 module _ {M Z : Type 0} {g : Ghosts M} (ground ground' : Ground M g) {scan : Scan} (v : Vec Parts Z) {registers registers' : List Parts} {space : Space} {before after : ℕ} (c : Command) {r : Reply} where
-  pub lent_runs : registers ≡ v.items → length registers ≡ v.len → PerformsIsStep → MarksHold (g.seen ground'.mem) → IsSound (contents_at ground scan v.items space) → IsAllowed c → allocates c ≡ false
+  pub lent_runs : registers ≡ v.items → length registers ≡ v.len → PerformsIsStep → IsSound (contents_at ground scan v.items space) → IsAllowed c → allocates c ≡ false
       → Performs (g.seen ground.mem) ground.table registers (g.seen ground'.mem) ground'.table registers' c r → AccountsForFaultsIf (view ground).mem (view ground').mem before after (is_fault r)
       → IsSound (contents_at ground' scan (with_items v registers').items space) × Runs (contents_at ground scan v.items space) (contents_at ground' scan (with_items v registers').items space) before after c r
-  lent_runs lent count law marks sound allowed none performs told =
+  lent_runs lent count law sound allowed none performs told =
       subst (λ (ws : List Parts). IsSound (contents_at ground' scan ws space) × Runs (contents_at ground scan v.items space) (contents_at ground' scan ws space) before after c r)
       (sym (with_items_is v registers' (performs.others.count ∙ count)))
       (performs_runs (g.seen ground.mem) (g.seen ground'.mem) ground.table ground'.table scan v.items registers' space (g.faults ground.mem) (g.faults ground'.mem) (g.resident ground.mem) (g.resident ground'.mem) (counted g ground.mem) (counted g ground'.mem) before after c r
-      law sound marks allowed none (subst (λ (ws : List Parts). Performs (g.seen ground.mem) ground.table ws (g.seen ground'.mem) ground'.table registers' c r) lent performs) told)
+      law sound ground'.sound.marked allowed none (subst (λ (ws : List Parts). Performs (g.seen ground.mem) ground.table ws (g.seen ground'.mem) ground'.table registers' c r) lent performs) told)
 
 pub lent_consistent : {M : Type 0} {g : Ghosts M} (ground : Ground M g) {scan : Scan} {lent registers : List Parts} {space : Space} → lent ≡ registers → IsSound (contents_at ground scan registers space) → RepresentsState (g.seen ground.mem) ground.table lent
 lent_consistent {M} {g} ground {scan} {lent} {registers} {space} same sound = rw (same) (consistent (g.seen ground.mem) ground.table scan registers space (g.faults ground.mem) (g.resident ground.mem) (counted g ground.mem) sound)

@@ -74,6 +74,7 @@ nothing_asked v steps faulted none = record {
   honest = refl;
   room = λ _. omega arith;
   gone = omega arith;
+  sound = λ was. was;
 }
 
 -- the memory counted nothing
@@ -118,6 +119,7 @@ tells_then x y =
       honest = (let a = x.honest in let b = y.honest in omega arith);
       room = λ e. (let a = y.room e in omega arith);
       gone = (let a = y.gone in omega arith);
+      sound = λ was. y.sound (x.sound was);
     }
 
 -- an allocation, after its silent steps

@@ -1,7 +1,7 @@
 //! A heap over a memory: its regions and its registers.
 ghost use Rattle.std.specs.Prelude.{◌≡◌, ◌<◌, ◌*◌, length, replicate, IfOk, IfErr};
 ghost use Rattle.store_word.specs.declared.word.Content.TheVariants.{Nil as NilWord};
-ghost use Rattle.mem_port.specs.Store.{IsFresh, MarksHold};
+ghost use Rattle.mem_port.specs.Store.{IsFresh};
 ghost use Rattle.area_space.specs.Fresh.{fresh, kinds_in};
 ghost use Rattle.word_graph.specs.lisp_meaning.State.{State, new_level};
 ghost use Rattle.word_graph.specs.lisp_meaning.Charges.{account_now};
@@ -28,7 +28,7 @@ mod walk;
 use area_space::{Ground, RegionTable};
 use heap_state::commands_are_steps;
 use lisp_graph::{AreaKind, Areas, Reply};
-use mem_port::{Memory, assert_invariant};
+use mem_port::Memory;
 use scavenger::ScanSet;
 use std::alloc::Global;
 use std::marker::Model;
@@ -75,7 +75,6 @@ impl<M: Memory> Heap<M> {
         ensures no_fault { IfOk result (λ heap. heap.faults ≡ M.faults mem) }
         ensures err { IfErr result (λ refused. refused.back ≡ mem) }
     {
-        assert_invariant(&mem);
         let parts = match make_parts(alloc, space, areas) {
             Ok(parts) => parts,
             Err(_) => return Err(Refused { back: mem }),
@@ -132,23 +131,13 @@ fn reply_of(answer: Result<Reply, SwapFault>) -> Reply
     }
 }
 
-// The same at the end of a command: it is known that its memory satisfies the law of marks.
-fn finish_reply<M: Memory>(mem: &M, answer: Result<Reply, SwapFault>) -> Reply
-    ensures value { result ≡ reply_of answer }
-    ensures marks { MarksHold (M.seen mem.now) }
-{
-    assert_invariant(mem);
-    reply_of(answer)
-}
-
 // Ends a command that was performed, and makes nothing: what it performed is a transition.
-fn finish_step<M: Memory>(mem: &M, answer: Result<Reply, SwapFault>) -> Reply
+fn finish_step(answer: Result<Reply, SwapFault>) -> Reply
     ensures value { result ≡ reply_of answer }
-    ensures marks { MarksHold (M.seen mem.now) }
     ensures step { PerformsIsStep }
 {
     commands_are_steps();
-    finish_reply(mem, answer)
+    reply_of(answer)
 }
 
 // The level of an object that a command makes in an area of this kind.

@@ -9,10 +9,10 @@ use Rattle.mem_port.specs.View.{MemoryView, WithoutFault, AccountsForFaults, Acc
 -- A call that met no swap error
 
 pub answered : {T E : Type 0} {v v' : MemoryView} {n n' : ℕ} (x : T) → AccountsForFaults {T = T} {E = E} v v' n n' (Ok x) → WithoutFault v v' n n'
-answered x tells = record { faults = tells.cause.quiet; honest = tells.honest; room = tells.room.answered }
+answered x tells = record { faults = tells.cause.quiet; honest = tells.honest; room = tells.room.answered; sound = tells.sound }
 
 pub answered-if : {v v' : MemoryView} {n n' : ℕ} → AccountsForFaultsIf v v' n n' false → WithoutFault v v' n n'
-answered-if tells = record { faults = tells.quiet refl; honest = tells.honest; room = tells.room refl }
+answered-if tells = record { faults = tells.quiet refl; honest = tells.honest; room = tells.room refl; sound = tells.sound }
 
 pub answers : {v v' : MemoryView} {n n' : ℕ} → WithoutFault v v' n n' → AccountsForFaultsIf v v' n n' false
 answers q = record {
@@ -22,6 +22,7 @@ answers q = record {
   honest = q.honest;
   room = λ _. q.room;
   gone = (let r = q.room in omega arith);
+  sound = q.sound;
 }
 
 -- two such calls
@@ -30,6 +31,7 @@ quiet-twice p q = record {
   faults = q.faults ∙ p.faults;
   honest = (let a = p.honest in let b = q.honest in omega arith);
   room = (let a = p.room in let b = q.room in omega arith);
+  sound = λ before. q.sound (p.sound before);
 }
 
 -- and one that met a swap error after them
@@ -41,7 +43,17 @@ quiet-then_fault e q tells faulted is = record {
   honest = (let a = q.honest in let b = tells.honest in omega arith);
   room = λ not. absurd (false≢true (sym not ∙ is));
   gone = (let a = q.room in let b = tells.room.failed in omega arith);
+  sound = λ before. tells.sound (q.sound before);
 }
+
+-- and one whose error is returned
+pub quiet-then_err : {T T' E : Type 0} {v v' v'' : MemoryView} {n n' n'' : ℕ} (e : E) (r : Result T' E) → r ≡ Err e → WithoutFault v v' n n' → AccountsForFaults {T = T} {E = E} v' v'' n' n'' (Err e) → AccountsForFaults {T = T'} {E = E} v v'' n n'' r
+quiet-then_err e r is q tells = rw is (record {
+  cause = record { later = (let a = q.faults in let b = tells.cause.later in omega arith); failed = (let a = q.faults in let b = tells.cause.failed in omega arith); quiet = tt };
+  honest = (let a = q.honest in let b = tells.honest in omega arith);
+  room = record { answered = tt; failed = (let a = q.room in let b = tells.room.failed in omega arith) };
+  sound = λ before. tells.sound (q.sound before);
+})
 
 -- A read or a write, whatever it returns
 

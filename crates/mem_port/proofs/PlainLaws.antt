@@ -7,7 +7,7 @@ use Rattle.store_word.proofs.SetLaws.{has_low}
 use Rattle.store_word.specs.Words.{Parts, address_of}
 use Rattle.mem_port.proofs.StoreLaws.{address_low}
 use Rattle.mem_port.proofs.Lookups.{get-set_same, get-set_other, get-slice_range}
-use Rattle.mem_port.specs.Store.{level_of_word, IsSound, Stores, Remarks}
+use Rattle.mem_port.specs.Store.{level_of_word, IsMemory, IsSound, Stores, Remarks}
 use Rattle.mem_port.specs.Tags.{HasEphemeral}
 use Rattle.mem_port.specs.Plain.{Plain, IsPlain, plain_store, tag_at}
 
@@ -23,6 +23,10 @@ plain_sound p pages h count = record {
       let low : level_of_word p.levels word ≤ p.top = address_low p.levels p.top h.low (address_of word.content) in
       rw (h.tagged at word found ephemeral) ((has_low p.top (level_of_word p.levels word) ephemeral).1 low);
 }
+
+-- and of a memory, whatever its count of accesses
+pub plain_memory : (p : Plain) → IsPlain p → IsMemory (plain_store p)
+plain_memory p h = let size = h.size in plain_sound p (length p.words / 256) h (omega arith)
 
 -- the tag of the page that was written
 pub tag_at-set_same : (tags : List Bool) (page other : ℕ) (tag : Bool) → page < length tags → other ≡ page → tag_at (slice_set tags page tag) other ≡ tag
@@ -134,4 +138,22 @@ plain_remark p page tag inside is = record {
         | inr off ↦ rw (tag_at-set_same p.tags page page tag inside refl, off) refl
       ];
   others = λ other ne. rw (tag_at-set_other p.tags page other tag ne) refl;
+}
+
+-- and keeps what always holds
+pub plain_remarked : (p : Plain) (page : ℕ) (tag : Bool) → IsPlain p → page < length p.tags → (IsTrue tag ↔ (IsTrue (tag_at p.tags page) × HasEphemeral (page_words p.words page) p.levels)) → IsPlain (record p { tags = slice_set p.tags page tag })
+plain_remarked p page tag h inside is = record {
+  size = omega (arith, h.size, length-set p.tags page tag);
+  regions = omega (arith, h.regions, length-set p.tags page tag);
+  few = h.few;
+  low = h.low;
+  deep = h.deep;
+  tagged = λ at word found ephemeral.
+      elim (cases_eq (at / 256) page) [
+        | inl here ↦
+            let place : 256 * page + (at - 256 * page) ≡ at = omega arith in
+            let there : slice_get (page_words p.words page) (at - 256 * page) ≡ Some word = get-slice_range p.words (256 * page) (256 * page + 256) (at - 256 * page) (omega arith) ∙ rw place found in
+            tag_at-set_same p.tags page (at / 256) tag inside here ∙ is.1 (rw here at (h.tagged at word found ephemeral), (at - 256 * page, word, (there, ephemeral)))
+        | inr apart ↦ tag_at-set_other p.tags page (at / 256) tag apart ∙ h.tagged at word found ephemeral
+      ];
 }

@@ -37,6 +37,10 @@ pub record IsSound (s : Store) (pages : ℕ) : Type 0 where
   pub deep : s.top ≤ 6
   pub marked : MarksHold s
 
+-- the same, by the number of its words
+abbrev pub IsMemory : Store → Type 0
+IsMemory s = IsSound s (length s.words / PAGE_WORDS)
+
 -- a new memory: every word is NULL, every level is 0, and no page has marks
 pub record IsFresh (s : Store) (regions greatest : ℕ) : Type 0 where
   pub words : s.words ≡ replicate (REGION_WORDS * regions) null_word

@@ -11,7 +11,7 @@ mod reading;
 mod spans;
 mod tags;
 
-pub use memory::{HOLD_LIMIT, Memory, assert_invariant};
+pub use memory::{HOLD_LIMIT, Memory};
 pub use plain::PlainMemory;
 pub use reading::{WordTest, words_before};
 pub use spans::{Span, hold_spans};

@@ -1,6 +1,6 @@
 //! The contract of a memory, on which every layer of the heap is built.
 ghost use Rattle.std.specs.Prelude.{◌≡◌, ◌≢◌, ◌+◌, ◌*◌, ◌/◌, ◌<◌, ◌≤◌, ℕ, List, length, slice_get, slice_set, IsOk, IfOk, MatchResult, OnOk, OnErr, IsTrue, ◌↔◌, IfSome, IfNone, All, drop, min, ◌⊎◌, ◌%◌, slice_index_or};
-ghost use Rattle.mem_port.specs.Store.{Store, level_at, level_of_word, IsSound, IsFresh, StoresNothing, Stores, StoresTwo, Clears, IsUnused, Remarks, Covers};
+ghost use Rattle.mem_port.specs.Store.{Store, level_at, level_of_word, IsMemory, IsSound, IsFresh, StoresNothing, Stores, StoresTwo, Clears, IsUnused, Remarks, Covers};
 ghost use Rattle.mem_port.specs.Swaps.{Swaps};
 ghost use Rattle.store_word.specs.Sets.{HasLevel, Meets};
 ghost use Rattle.store_word.specs.Words.{Parts, null_word};
@@ -45,9 +45,9 @@ pub trait Memory {
     /// The pages on the swap device, ascending, and the page calls that were made.
     ghost swaps: { Self → Swaps };
 
-    /// The number of pages, 16 for each region and at most 16,384. What always holds of a memory is
-    /// known when this is called: its sizes, the range of its levels, and that the marks of each
-    /// page have the levels of the addresses on it.
+    /// The number of pages, 16 for each region and at most 16,384. This call promises what always holds of a
+    /// memory: its sizes, the range of its levels, and that the marks of each page have the levels of the
+    /// addresses on it. So does each call that uses pages or drops marks.
     fn pages(&self) -> u32
         ensures { IsSound (seen self.now) result };
 
@@ -62,6 +62,7 @@ pub trait Memory {
         ensures cause { TellsFaults (faults self.old) (faults self.new) result }
         ensures room { LeavesRoom (length (resident self.old)) (length (resident self.new)) result }
         ensures taken { taken self.new ≡ taken self.old + 1 }
+        ensures sound { IsMemory (seen self.new) }
         ensures cost { steps.new ≡ steps.old + 1 };
 
     /// Reads up to `count` words, at least one, one after another from an address on, and stops at the first that is
@@ -89,6 +90,7 @@ pub trait Memory {
         ensures cause { TellsFaults (faults self.old) (faults self.new) result }
         ensures room { LeavesRoom (length (resident self.old)) (length (resident self.new)) result }
         ensures taken { MatchResult result (λ passed. taken self.new ≡ taken self.old + min count (passed + 1)) (λ _. taken self.new ≡ taken self.old + 1) }
+        ensures sound { IsMemory (seen self.new) }
         ensures cost { MatchResult result (λ passed. steps.new ≡ steps.old + min count (passed + 1)) (λ _. steps.new ≡ steps.old + 1) };
 
     /// Stores a word at an address. It takes one memory access. A swap error occurs only if the page isn't held,
@@ -107,6 +109,7 @@ pub trait Memory {
         ensures cause { TellsFaults (faults self.old) (faults self.new) result }
         ensures room { LeavesRoom (length (resident self.old)) (length (resident self.new)) result }
         ensures taken { taken self.new ≡ taken self.old + 1 }
+        ensures sound { IsMemory (seen self.new) }
         ensures cost { steps.new ≡ steps.old + 1 };
 
     /// Stores two words, at an address and at the next one, both or none. They are on one page, which is used once. It
@@ -132,6 +135,7 @@ pub trait Memory {
         ensures cause { TellsFaults (faults self.old) (faults self.new) result }
         ensures room { LeavesRoom (length (resident self.old)) (length (resident self.new)) result }
         ensures taken { taken self.new ≡ taken self.old + 2 }
+        ensures sound { IsMemory (seen self.new) }
         ensures cost { steps.new ≡ steps.old + 2 };
 
     /// Holds up to 24 pages together, in the order of the list, whatever was held before. Each page
@@ -144,6 +148,7 @@ pub trait Memory {
         ensures cause { TellsFaults (faults self.old) (faults self.new) result }
         ensures room { LeavesRoom (length (resident self.old)) (length (resident self.new)) result }
         ensures taken { taken self.new ≡ taken self.old + length pages.now }
+        ensures sound { IsMemory (seen self.new) }
         ensures cost { steps.new ≡ steps.old + length pages.now };
 
     /// Copies `count` words, at least one, from a held page to a held page; they may not overlap the old
@@ -169,6 +174,7 @@ pub trait Memory {
         ensures resident { length (resident self.new) ≡ length (resident self.old) }
         ensures no_fault { faults self.new ≡ faults self.old }
         ensures taken { taken self.new ≡ taken self.old + 2 * count }
+        ensures sound { IsMemory (seen self.new) }
         ensures cost { steps.new ≡ steps.old + 2 * count };
 
     /// Writes one word to `count` addresses, at least one, of a held page. No swap error occurs. It takes one
@@ -183,6 +189,7 @@ pub trait Memory {
         ensures resident { length (resident self.new) ≡ length (resident self.old) }
         ensures no_fault { faults self.new ≡ faults self.old }
         ensures taken { taken self.new ≡ taken self.old + count }
+        ensures sound { IsMemory (seen self.new) }
         ensures cost { steps.new ≡ steps.old + count };
 
     /// Makes the words of a region NULL, and drops the marks of its pages, which are no longer resident. Held
@@ -232,6 +239,7 @@ pub trait Memory {
         ensures stays_held { (page : ℕ) → held self.old page → held self.new page }
         ensures resident { resident self.new ≡ resident self.old }
         ensures no_fault { faults self.new ≡ faults self.old }
+        ensures sound { IsMemory (seen self.new) }
         ensures taken { taken self.new ≡ taken self.old };
 
     /// Evicts this many resident pages, or all if there are fewer, the least recently used
@@ -243,15 +251,8 @@ pub trait Memory {
         ensures stops { OnErr result (EvictsFewer (resident self.old) (resident self.new) count) }
         ensures unchanged { StoresNothing (seen self.old) (seen self.new) }
         ensures cause { TellsFaults (faults self.old) (faults self.new) result }
+        ensures sound { IsMemory (seen self.old) → IsMemory (seen self.new) }
         ensures taken { taken self.new ≡ taken self.old };
-}
-
-/// What always holds of a memory, by the number of its pages: its sizes, the range of its levels,
-/// and that the marks of each page have the levels of the addresses on it.
-pub fn assert_invariant<M: Memory>(mem: &M)
-    ensures { (pages : ℕ) × IsSound (M.seen mem.now) pages }
-{
-    let _pages = mem.pages();
 }
 
 /// What the marks say about the addresses on a page: if they have none of these levels, no word on

@@ -2,7 +2,7 @@
 //! resident, and no swap error occurs.
 ghost use Rattle.std.specs.Prelude.{◌≡◌, ◌<◌, ◌≤◌, ℕ, length, slice_get, Some, IfOk, ◌+◌, slice_index_or};
 ghost use Rattle.mem_port.specs.Plain.{plain_store};
-ghost use Rattle.mem_port.specs.Store.{IsFresh, Overwrites, Stores};
+ghost use Rattle.mem_port.specs.Store.{IsFresh, IsMemory, Overwrites, Stores};
 ghost use Rattle.store_word.specs.Words.{null_word};
 
 use crate::memory::Memory;
@@ -60,6 +60,7 @@ impl PlainMemory {
     fn store(&mut self, at: u32, word: Word)
         requires { at < length self.old.words }
         ensures written { Stores (plain_store self.old) (plain_store self.new) at word }
+        ensures sound { IsMemory (plain_store self.new) }
         ensures taken { self.new.taken ≡ self.old.taken }
     {
         let page = (at / PAGE_WORDS) as usize;

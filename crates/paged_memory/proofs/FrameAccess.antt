@@ -8,7 +8,7 @@ use Rattle.std.proofs.lemmas.List.FromFn.{get_or-map-range_with_len, fill_by_all
 use Rattle.std.proofs.lemmas.Nat.Bits.{bit_at_ones}
 use Rattle.store_word.specs.Words.{Parts, null_word}
 use Rattle.store_word.specs.Sets.{HasLevel}
-use Rattle.mem_port.specs.Store.{Store, level_of_word, StoresNothing, Stores, StoresTwo, IsSound}
+use Rattle.mem_port.specs.Store.{Store, level_of_word, StoresNothing, Stores, StoresTwo, IsMemory, IsSound}
 use Rattle.mem_port.specs.Reading.{Passes}
 use Rattle.mem_port.specs.Tags.{marks_of_tag}
 use Rattle.mem_port.proofs.Lookups.{get-slice_range}
@@ -59,6 +59,9 @@ store_sound p stored pages h is = record {
       let same : word_at p stored at ≡ word = cc in
       sound_at p stored at (level_of_word p.levels word) (place_at p.places (at / 256)) h refl (ap (level_of_word p.levels) same) young (level_low p.levels p.top word h.low);
 }
+
+pub paged_sound : (p : Paging) (stored : List Parts) → IsPaged p stored → IsMemory (store_of p stored)
+paged_sound p stored h = store_sound p stored (length (words_of p stored) / 256) h (omega (arith, words_size p stored))
 
 -- a word is stored into the frame of its page, which has the tag if it had it or the word has an address of level 1 or more
 pub record PutsWord (p : Paging) (stored : List Parts) (pool : Pool) (frame at : ℕ) (word : Parts) (tag : Bool) : Type 0 where

@@ -2,7 +2,7 @@
 ghost use Rattle.std.specs.Prelude.{◌≡◌, ◌≢◌, ◌+◌, ◌*◌, ◌/◌, ◌<◌, ◌≤◌, ℕ, length, false, nat_lt, drop, min, slice_get, slice_set, Some, All, Contains, IsOk, IfOk, MatchResult, OnOk, OnErr, ◌⊎◌, ◌%◌, ◌||◌, slice_index_or};
 ghost use Rattle.store_word.specs.Faults.{TellsFaults};
 ghost use Rattle.mem_port.specs.Frames.{EvictsFewer, LeavesRoom, outside};
-ghost use Rattle.mem_port.specs.Store.{IsSound, IsClean, IsUnused, StoresNothing, Stores, StoresTwo, Clears, Remarks, level_of_word, Covers};
+ghost use Rattle.mem_port.specs.Store.{IsMemory, IsSound, IsClean, IsUnused, StoresNothing, Stores, StoresTwo, Clears, Remarks, level_of_word, Covers};
 ghost use Rattle.mem_port.specs.Reading.{Passes};
 ghost use Rattle.store_word.specs.Words.{null_word};
 ghost use Rattle.page_map.specs.Map.{place_at};
@@ -65,6 +65,7 @@ impl<D: Swap> Memory for PagedMemory<D> {
         ensures cause { TellsFaults (D.faults self.old.1) (D.faults self.new.1) result }
         ensures room { LeavesRoom (length (resident_of self.old.0)) (length (resident_of self.new.0)) result }
         ensures taken { self.new.2 ≡ self.old.2 + 1 }
+        ensures sound { IsMemory (store_of self.new.0 (D.stored self.new.1)) }
         ensures calls { OnOk result (D.calls self.new.1 ≡ calls_to_use self.old.0 (at / PAGE_WORDS) (D.calls self.old.1)) }
         ensures stopped { OnErr result (StopsCalls self.old.0 (at / PAGE_WORDS) (D.calls self.old.1) (D.calls self.new.1)) }
         ensures cost { steps.new ≡ steps.old + 1 }
@@ -104,6 +105,7 @@ impl<D: Swap> Memory for PagedMemory<D> {
         ensures cause { TellsFaults (D.faults self.old.1) (D.faults self.new.1) result }
         ensures room { LeavesRoom (length (resident_of self.old.0)) (length (resident_of self.new.0)) result }
         ensures taken { MatchResult result (λ passed. self.new.2 ≡ self.old.2 + min count (passed + 1)) (λ _. self.new.2 ≡ self.old.2 + 1) }
+        ensures sound { IsMemory (store_of self.new.0 (D.stored self.new.1)) }
         ensures calls { OnOk result (D.calls self.new.1 ≡ calls_to_use self.old.0 (at / PAGE_WORDS) (D.calls self.old.1)) }
         ensures stopped { OnErr result (StopsCalls self.old.0 (at / PAGE_WORDS) (D.calls self.old.1) (D.calls self.new.1)) }
         ensures cost { MatchResult result (λ passed. steps.new ≡ steps.old + min count (passed + 1)) (λ _. steps.new ≡ steps.old + 1) }
@@ -147,6 +149,7 @@ impl<D: Swap> Memory for PagedMemory<D> {
         ensures cause { TellsFaults (D.faults self.old.1) (D.faults self.new.1) result }
         ensures room { LeavesRoom (length (resident_of self.old.0)) (length (resident_of self.new.0)) result }
         ensures taken { self.new.2 ≡ self.old.2 + 1 }
+        ensures sound { IsMemory (store_of self.new.0 (D.stored self.new.1)) }
         ensures calls { OnOk result (D.calls self.new.1 ≡ calls_to_use self.old.0 (at / PAGE_WORDS) (D.calls self.old.1)) }
         ensures stopped { OnErr result (StopsCalls self.old.0 (at / PAGE_WORDS) (D.calls self.old.1) (D.calls self.new.1)) }
         ensures cost { steps.new ≡ steps.old + 1 }
@@ -189,6 +192,7 @@ impl<D: Swap> Memory for PagedMemory<D> {
         ensures cause { TellsFaults (D.faults self.old.1) (D.faults self.new.1) result }
         ensures room { LeavesRoom (length (resident_of self.old.0)) (length (resident_of self.new.0)) result }
         ensures taken { self.new.2 ≡ self.old.2 + 2 }
+        ensures sound { IsMemory (store_of self.new.0 (D.stored self.new.1)) }
         ensures calls { OnOk result (D.calls self.new.1 ≡ calls_to_use self.old.0 (at / PAGE_WORDS) (D.calls self.old.1)) }
         ensures stopped { OnErr result (StopsCalls self.old.0 (at / PAGE_WORDS) (D.calls self.old.1) (D.calls self.new.1)) }
         ensures cost { steps.new ≡ steps.old + 2 }
@@ -214,6 +218,7 @@ impl<D: Swap> Memory for PagedMemory<D> {
         ensures cause { TellsFaults (D.faults self.old.1) (D.faults self.new.1) result }
         ensures room { LeavesRoom (length (resident_of self.old.0)) (length (resident_of self.new.0)) result }
         ensures taken { self.new.2 ≡ self.old.2 + length pages.now }
+        ensures sound { IsMemory (store_of self.new.0 (D.stored self.new.1)) }
         ensures cost { steps.new ≡ steps.old + length pages.now }
     {
         let count = pages.len() as u64;
@@ -250,6 +255,7 @@ impl<D: Swap> Memory for PagedMemory<D> {
         ensures unchanged { self.new.1 ≡ self.old.1 }
         ensures no_fault { D.faults self.new.1 ≡ D.faults self.old.1 }
         ensures taken { self.new.2 ≡ self.old.2 + 2 * count }
+        ensures sound { IsMemory (store_of self.new.0 (D.stored self.new.1)) }
         ensures cost { steps.new ≡ steps.old + 2 * count }
     {
         let taken = 2 * count as u64;
@@ -275,6 +281,7 @@ impl<D: Swap> Memory for PagedMemory<D> {
         ensures unchanged { self.new.1 ≡ self.old.1 }
         ensures no_fault { D.faults self.new.1 ≡ D.faults self.old.1 }
         ensures taken { self.new.2 ≡ self.old.2 + count }
+        ensures sound { IsMemory (store_of self.new.0 (D.stored self.new.1)) }
         ensures cost { steps.new ≡ steps.old + count }
     {
         let taken = count as u64;
@@ -352,6 +359,7 @@ impl<D: Swap> Memory for PagedMemory<D> {
         ensures frames { frames_of self.new.0.pool ≡ frames_of self.old.0.pool }
         ensures unchanged { self.new.1 ≡ self.old.1 }
         ensures taken { self.new.2 ≡ self.old.2 }
+        ensures sound { IsMemory (store_of self.new.0 (D.stored self.new.1)) }
         ensures no_fault { D.faults self.new.1 ≡ D.faults self.old.1 }
     {
         let place = self.pager.places.place_of(page);
@@ -374,6 +382,7 @@ impl<D: Swap> Memory for PagedMemory<D> {
         ensures unchanged { StoresNothing (store_of self.old.0 (D.stored self.old.1)) (store_of self.new.0 (D.stored self.new.1)) }
         ensures cause { TellsFaults (D.faults self.old.1) (D.faults self.new.1) result }
         ensures taken { self.new.2 ≡ self.old.2 }
+        ensures sound { IsMemory (store_of self.old.0 (D.stored self.old.1)) → IsMemory (store_of self.new.0 (D.stored self.new.1)) }
         ensures calls { IfOk result (λ evicted. D.calls self.new.1 ≡ with_writes evicted (D.calls self.old.1)) }
     {
         let mut evicted = 0;

@@ -96,8 +96,6 @@ fn new_ground<M: Memory + Drop>(alloc: Global, mem: M, world: &World) -> Result<
         return Err("no memory".into());
     };
     let _regions = table.regions();
-    // No address of a memory overflows, as this call's contract says.
-    let _pages = mem.pages();
     Ok(Ground { mem, table })
 }
 

@@ -54,7 +54,6 @@ impl<M: Memory + Drop> Machine<M> {
         requires room { RoomRuleFor space.now.regions space.now.levels areas }
         requires fresh { IsFresh (M.seen mem) space.now.regions space.now.levels }
     {
-        let _pages = mem.pages();
         let table = RegionTable::new(alloc, space, &areas)?;
         let scan = ScanSet::new(alloc, space)?;
         let registers = nils(alloc)?;

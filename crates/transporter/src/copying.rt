@@ -1,14 +1,15 @@
 //! Words are copied within a memory, and forwards are written at their old places.
-ghost use Rattle.std.specs.Prelude.{◌≡◌, ◌⊎◌, ◌+◌, ◌*◌, ◌<◌, ◌≤◌, ℕ, IfSome, IsOk, length, ◌%◌};
+ghost use Rattle.std.specs.Prelude.{◌≡◌, ◌⊎◌, ◌+◌, ◌*◌, ◌<◌, ◌≤◌, ℕ, IfSome, IsOk, length, ◌%◌, ◌^◌};
 ghost use Rattle.mem_port.specs.View.{WithoutFault, shown};
 ghost use Rattle.mem_port.specs.Spans.{HoldsSpan};
+ghost use Rattle.mem_port.specs.Store.{IsMemory};
 ghost use Rattle.obj_layout.specs.Forwards.{word_at};
 ghost use Rattle.transporter.specs.Parcels.{ArePairOf, word_count_of, new_word};
 ghost use Rattle.transporter.specs.Relocations.{CanCopy, Moves};
 ghost use Rattle.transporter.specs.Writes.{Writes, forward_to, pair_word, two_words};
 
 use crate::parcel::{Pair, Parcel};
-use mem_port::{Memory, assert_invariant};
+use mem_port::Memory;
 use std::sync::ledger::Ledger;
 use store_word::{CdrCode, LAST_OFFSET, PAGE_WORDS, Steps, SwapFault, Word};
 
@@ -48,9 +49,9 @@ pub fn copy_words<M: Memory, L: Ledger>(
     // What remains held, swap errors and the cost.
     ensures stays_held { (page : ℕ) → M.held mem.old page → M.held mem.new page }
     ensures no_fault { WithoutFault (shown M.Memory mem.old) (shown M.Memory mem.new) steps.old steps.new }
+    ensures sound { 0 < count → IsMemory (M.seen mem.new) }
     ensures cost { steps.new ≡ steps.old + 2 * count }
 {
-    assert_invariant(mem);
     let mut done = 0;
     while done < count {
         let piece = on_one_page(from + done, to + done, count - done);
@@ -73,13 +74,13 @@ pub(crate) fn leave_forwards<M: Memory, L: Ledger>(
     requires in_range { at + count ≤ length (M.seen mem.old).words }
     requires to { to + count ≤ length (M.seen mem.old).words }
     requires held { HoldsSpan (M.held mem.old) (record { at = at; words = count }) }
+    requires fits { length (M.seen mem.old).words < 2 ^ 28 }
     ensures succeeds { IsOk result }
     ensures written { Writes (M.seen mem.old) (M.seen mem.new) at count (λ i. forward_to (to + i)) }
     ensures stays_held { (page : ℕ) → M.held mem.old page → M.held mem.new page }
     ensures no_fault { WithoutFault (shown M.Memory mem.old) (shown M.Memory mem.new) steps.old steps.new }
     ensures cost { steps.new ≡ steps.old + count }
 {
-    assert_invariant(mem);
     for i in 0..count {
         mem.write(at + i, Word::gc_forward(to + i), steps)?;
     }
@@ -110,9 +111,9 @@ pub(crate) fn make_last_pair<M: Memory, L: Ledger>(
     // What remains held, swap errors and the cost.
     ensures stays_held { (page : ℕ) → M.held mem.old page → M.held mem.new page }
     ensures no_fault { WithoutFault (shown M.Memory mem.old) (shown M.Memory mem.new) steps.old steps.new }
+    ensures sound { IsMemory (M.seen mem.new) }
     ensures cost { steps.new ≡ steps.old + 3 }
 {
-    assert_invariant(mem);
     let car = mem.read(from, steps)?;
     mem.write(to, car.with_cdr(CdrCode::Normal), steps)?;
     mem.write(to + 1, Word::list_at(rest), steps)?;
@@ -134,9 +135,9 @@ fn write_pair<M: Memory, L: Ledger>(
     ensures written { Writes (M.seen mem.old) (M.seen mem.new) to 2 (two_words pair.first pair.second) }
     ensures stays_held { (page : ℕ) → M.held mem.old page → M.held mem.new page }
     ensures no_fault { WithoutFault (shown M.Memory mem.old) (shown M.Memory mem.new) steps.old steps.new }
+    ensures sound { IsMemory (M.seen mem.new) }
     ensures cost { steps.new ≡ steps.old + 2 }
 {
-    assert_invariant(mem);
     if to % PAGE_WORDS < LAST_OFFSET {
         mem.write_two(to, pair.first, pair.second, steps)?;
         return Ok(());
@@ -161,6 +162,7 @@ fn lay_parcel<M: Memory, L: Ledger>(
     ensures written { Writes (M.seen mem.old) (M.seen mem.new) to (word_count_of parcel.now) (new_word (M.seen mem.old).words parcel.now) }
     ensures stays_held { (page : ℕ) → M.held mem.old page → M.held mem.new page }
     ensures no_fault { WithoutFault (shown M.Memory mem.old) (shown M.Memory mem.new) steps.old steps.new }
+    ensures sound { IsMemory (M.seen mem.new) }
     ensures cost { steps.new ≤ steps.old + 2 * word_count_of parcel.now }
 {
     match pair {
@@ -212,9 +214,9 @@ fn copy_parcel<M: Memory, L: Ledger>(
     // What remains held, swap errors and the cost.
     ensures stays_held { (page : ℕ) → M.held mem.old page → M.held mem.new page }
     ensures no_fault { WithoutFault (shown M.Memory mem.old) (shown M.Memory mem.new) steps.old steps.new }
+    ensures sound { IsMemory (M.seen mem.new) }
     ensures cost { steps.new ≤ steps.old + 2 * word_count_of parcel.now }
 {
-    assert_invariant(mem);
     match parcel.rest {
         None => copy_words(mem, parcel.at, to, parcel.words, steps)?,
         Some(rest) => {

@@ -19,7 +19,7 @@ use crate::accesses::HOLD_ACCESSES;
 use crate::copying::move_words;
 use crate::parcel::{Pair, Parcel};
 use area_space::{Class, Ground, Origin, Placed, RegionTable};
-use mem_port::{Memory, Span, assert_invariant, hold_spans};
+use mem_port::{Memory, Span, hold_spans};
 use std::sync::ledger::Ledger;
 use store_word::{LAST_OFFSET, MAX_OBJECT_WORDS, PAGE_WORDS, REGION_WORDS, Steps, SwapFault};
 
@@ -85,7 +85,6 @@ fn hold_places<M: Memory, L: Ledger>(
     ensures accounted { AccountsForFaults (shown M.Memory mem.old) (shown M.Memory mem.new) steps.old steps.new result }
     ensures at_most { steps.new ≤ steps.old + HOLD_ACCESSES }
 {
-    assert_invariant(mem);
     if from.words == 2
         && to.words == 2
         && from.at % PAGE_WORDS < LAST_OFFSET

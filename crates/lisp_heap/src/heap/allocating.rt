@@ -12,7 +12,7 @@ use crate::heap::new_level;
 use area_space::Ground;
 use heap_collect::{Allocation, admit, allocations_are_steps, take_silent_steps};
 use lisp_graph::Reply;
-use mem_port::{Memory, assert_invariant};
+use mem_port::Memory;
 use scavenger::ScanSet;
 use std::sync::ledger::Ledger;
 use store_word::{Space, Steps, Word};
@@ -45,9 +45,6 @@ pub(super) fn admit_allocation<M: Memory, L: Ledger>(
     allocations_are_steps();
     match admit(ground, scan, registers, allocation, space.rate, steps) {
         Ok(()) => Ok(level),
-        Err(reply) => {
-            assert_invariant(&ground.mem);
-            Err(reply)
-        }
+        Err(reply) => Err(reply),
     }
 }

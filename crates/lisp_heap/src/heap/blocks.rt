@@ -8,7 +8,7 @@ ghost use Rattle.store_word.specs.Words.{null_word};
 ghost use Rattle.lisp_heap.specs.Stands.{Runs};
 
 use crate::heap::allocating::admit_allocation;
-use crate::heap::{Heap, finish_reply, finish_step};
+use crate::heap::{Heap, finish_step, reply_of};
 use heap_collect::Allocation;
 use heap_commands::NewObject;
 use heap_state::{FIND_ACCESSES, SETTLE_ACCESSES};
@@ -55,7 +55,7 @@ impl<M: Memory> Heap<M> {
                     count,
                     steps,
                 );
-                finish_reply(&self.ground.mem, answer)
+                reply_of(answer)
             }
             Err(reply) => reply,
         }
@@ -78,7 +78,7 @@ impl<M: Memory> Heap<M> {
             index,
             steps,
         );
-        finish_step(&self.ground.mem, answer)
+        finish_step(answer)
     }
 
     /// `put`: a field of the block in a register gets the value of another. It places at most 4,096
@@ -104,7 +104,7 @@ impl<M: Memory> Heap<M> {
             from,
             steps,
         );
-        finish_step(&self.ground.mem, answer)
+        finish_step(answer)
     }
 
     /// `size`: how many fields the block in a register has. It places at most 2,048 words. If no
@@ -116,6 +116,6 @@ impl<M: Memory> Heap<M> {
         ensures moves { MovesAtMost self.old self.new 1 }
     {
         let answer = heap_commands::size(&mut self.ground, &mut self.registers, of, steps);
-        finish_step(&self.ground.mem, answer)
+        finish_step(answer)
     }
 }

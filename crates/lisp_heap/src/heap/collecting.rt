@@ -15,7 +15,7 @@ ghost use Rattle.lisp_heap.specs.Units.{IsUnfinished, ScansInOrder};
 use crate::heap::Heap;
 use heap_collect::{flip, reclaim, scavenge};
 use lisp_graph::{Command, Condemn, Reply};
-use mem_port::{Memory, assert_invariant};
+use mem_port::Memory;
 use scavenger::STEP_ACCESSES;
 use std::sync::ledger::Ledger;
 use store_word::{MAX_OBJECT_WORDS, Steps};
@@ -33,9 +33,7 @@ impl<M: Memory> Heap<M> {
         ensures refused { result ≡ Reply.Busy → self.new.scan ≡ self.old.scan }
         ensures no_fault { self.new.faults ≡ self.old.faults }
     {
-        let reply = flip(&mut self.ground, &mut self.scan, what);
-        assert_invariant(&self.ground.mem);
-        reply
+        flip(&mut self.ground, &mut self.scan, what)
     }
 
     /// `scavenge`: scans this number of units of the collection that runs, or all that remain. It replies `More`
@@ -57,15 +55,13 @@ impl<M: Memory> Heap<M> {
         ensures at_most { result ≢ Reply.Fault → self.new.table.placed ≤ self.old.table.placed + MAX_OBJECT_WORDS * (self.new.scan.done - self.old.scan.done) }
         ensures cost { result ≢ Reply.Fault → steps.new ≤ steps.old + 4 * (self.new.table.placed - self.old.table.placed) + STEP_ACCESSES * (self.new.scan.done - self.old.scan.done) }
     {
-        let reply = scavenge(
+        scavenge(
             &mut self.ground,
             &mut self.scan,
             &mut self.registers,
             count,
             steps,
-        );
-        assert_invariant(&self.ground.mem);
-        reply
+        )
     }
 
     /// `reclaim`: ends the collection that runs, if no unit remains to be scanned: what was condemned and
@@ -81,8 +77,6 @@ impl<M: Memory> Heap<M> {
         ensures unchanged { result ≢ Reply.Reclaimed → self.new.resident ≡ self.old.resident }
         ensures no_fault { self.new.faults ≡ self.old.faults }
     {
-        let reply = reclaim(&mut self.ground, &self.scan);
-        assert_invariant(&self.ground.mem);
-        reply
+        reclaim(&mut self.ground, &self.scan)
     }
 }

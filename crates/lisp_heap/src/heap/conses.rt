@@ -10,7 +10,7 @@ ghost use Rattle.lisp_heap.specs.NewMarks.{MarksMade};
 ghost use Rattle.lisp_heap.specs.Stands.{Runs};
 
 use crate::heap::allocating::admit_allocation;
-use crate::heap::{Heap, finish_reply, finish_step};
+use crate::heap::{Heap, finish_step, reply_of};
 use heap_collect::Allocation;
 use heap_commands::{CELL, NewObject, PAIR};
 use heap_state::{FIND_ACCESSES, SETTLE_ACCESSES};
@@ -63,7 +63,7 @@ impl<M: Memory> Heap<M> {
                     cdr,
                     steps,
                 );
-                finish_reply(&self.ground.mem, answer)
+                reply_of(answer)
             }
             Err(reply) => reply,
         }
@@ -106,7 +106,7 @@ impl<M: Memory> Heap<M> {
                     items,
                     steps,
                 );
-                finish_reply(&self.ground.mem, answer)
+                reply_of(answer)
             }
             Err(reply) => reply,
         }
@@ -122,7 +122,7 @@ impl<M: Memory> Heap<M> {
         ensures moves { MovesAtMost self.old self.new 2 }
     {
         let answer = heap_commands::car(&mut self.ground, &mut self.registers, to, from, steps);
-        finish_step(&self.ground.mem, answer)
+        finish_step(answer)
     }
 
     /// `cdr`: a register gets the cdr of the cons in another. It places at most 4,096 words. If no
@@ -135,7 +135,7 @@ impl<M: Memory> Heap<M> {
         ensures moves { MovesAtMost self.old self.new 2 }
     {
         let answer = heap_commands::cdr(&mut self.ground, &mut self.registers, to, from, steps);
-        finish_step(&self.ground.mem, answer)
+        finish_step(answer)
     }
 
     /// `rplaca`: the car of the cons in a register gets the value of another. It places at most 4,096
@@ -154,7 +154,7 @@ impl<M: Memory> Heap<M> {
             from,
             steps,
         );
-        finish_step(&self.ground.mem, answer)
+        finish_step(answer)
     }
 
     /// `rplacd`: the cdr of the cons in a register gets the value of another. It places at most 6,146
@@ -174,7 +174,7 @@ impl<M: Memory> Heap<M> {
             from,
             steps,
         );
-        finish_step(&self.ground.mem, answer)
+        finish_step(answer)
     }
 }
 

@@ -5,7 +5,6 @@ ghost use Rattle.area_space.specs.View.{view};
 ghost use Rattle.heap_collect.specs.Views.{RepresentsMachineState};
 ghost use Rattle.heap_commands.specs.Views.{MarksMade as MarksOnGround, WantsGrowth};
 ghost use Rattle.heap_state.specs.Views.{RepresentsAll, StepsTo};
-ghost use Rattle.mem_port.specs.Store.{MarksHold};
 ghost use Rattle.area_space.specs.Table.{areas_of};
 ghost use Rattle.word_graph.specs.lisp_meaning.Roles.{RoleMap};
 ghost use Rattle.word_graph.specs.lisp_meaning.State.{State};
@@ -26,7 +25,7 @@ use area_space::Ground;
 use heap_collect::{Allocation, admit, looks_are_steps, take_silent_steps};
 use heap_commands::{Growing, find_growing};
 use lisp_graph::{Command, Reply};
-use mem_port::{Memory, assert_invariant};
+use mem_port::Memory;
 use scavenger::ScanSet;
 use std::sync::ledger::Ledger;
 use store_word::{Steps, Word};
@@ -55,7 +54,7 @@ impl<M: Memory> Heap<M> {
     {
         let registers = self.registers.as_mut_slice();
         take_silent_steps(&mut self.ground, &mut self.scan, &self.space);
-        let reply = grow_register(
+        grow_register(
             &mut self.ground,
             &mut self.scan,
             registers,
@@ -63,9 +62,7 @@ impl<M: Memory> Heap<M> {
             wanted,
             self.space.rate,
             steps,
-        );
-        assert_invariant(&self.ground.mem);
-        reply
+        )
     }
 }
 
@@ -105,7 +102,7 @@ fn grow_register<M: Memory, L: Ledger>(
     ensures accounted { AccountsForFaultsIf (view ground.old).mem (view ground.new).mem steps.old steps.new (is_fault result) }
 {
     let found = find_growing(ground, registers, target, wanted, steps);
-    look_laws(&ground.mem);
+    looks_are_steps();
     match found {
         Growing::Answered(reply) => reply,
         Growing::Wants { area, charge } => {
@@ -150,15 +147,4 @@ fn grow_charged<M: Memory, L: Ledger>(
         Ok(()) => reply_of(heap_commands::grow(ground, registers, target, wanted, steps)),
         Err(reply) => reply,
     }
-}
-
-// After a block was looked at, its memory satisfies the law of marks, and the
-// machine represents the same states.
-fn look_laws<M: Memory>(mem: &M)
-    ensures marks { MarksHold (M.seen mem.now) }
-    ensures stands { StandsAfterLook }
-    ensures idle { UnaskedIsStep }
-{
-    assert_invariant(mem);
-    looks_are_steps();
 }

@@ -12,7 +12,7 @@ ghost use Rattle.lisp_heap.specs.Stands.{Stands};
 use crate::heap::Heap;
 use heap_load::{LoadFault, load};
 use lisp_graph::World;
-use mem_port::{Memory, assert_invariant};
+use mem_port::Memory;
 use std::alloc::Global;
 use std::sync::ledger::Ledger;
 use store_word::Steps;
@@ -47,8 +47,6 @@ impl<M: Memory> Heap<M> {
         ensures room { is_fault result ≡ false → length self.old.resident ≤ length self.new.resident }
         ensures resident { length self.old.resident ≤ length self.new.resident + 1 }
     {
-        let loaded = load(alloc, &mut self.ground, &mut self.registers, world, steps);
-        assert_invariant(&self.ground.mem);
-        loaded
+        load(alloc, &mut self.ground, &mut self.registers, world, steps)
     }
 }

@@ -7,7 +7,7 @@ ghost use Rattle.lisp_heap.specs.Words.{paged};
 use crate::heap::Heap;
 use heap_state::commands_are_steps;
 use lisp_graph::{Command, Reply};
-use mem_port::{Memory, assert_invariant};
+use mem_port::Memory;
 use store_word::SwapFault;
 
 impl<M: Memory> Heap<M> {
@@ -19,7 +19,6 @@ impl<M: Memory> Heap<M> {
         ensures stops { result ≡ Reply.Fault → EvictsFewer self.old.resident self.new.resident count }
     {
         let evicted = self.ground.mem.evict_oldest(count);
-        assert_invariant(&self.ground.mem);
         commands_are_steps();
         paged(evicted)
     }

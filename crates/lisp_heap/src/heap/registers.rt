@@ -10,7 +10,7 @@ ghost use Rattle.lisp_heap.specs.Words.{content_of};
 use crate::heap::{Heap, finish_step};
 use heap_state::{RESOLVE_ACCESSES, SETTLE_ACCESSES, commands_are_steps};
 use lisp_graph::{Command, Reply, Value};
-use mem_port::{Memory, assert_invariant};
+use mem_port::Memory;
 use std::sync::ledger::Ledger;
 use store_word::{MAX_MOVED_WORDS, MAX_OBJECT_WORDS, Steps, Word};
 
@@ -24,7 +24,6 @@ impl<M: Memory> Heap<M> {
         ensures no_fault { self.new.faults ≡ self.old.faults }
     {
         self.registers[to as usize] = word_of(value);
-        assert_invariant(&self.ground.mem);
         commands_are_steps();
         Reply::Fine
     }
@@ -45,7 +44,7 @@ impl<M: Memory> Heap<M> {
             from,
             steps,
         );
-        finish_step(&self.ground.mem, answer)
+        finish_step(answer)
     }
 
     /// `eq`: whether the values of two registers are equal; references are if they lead to the same object.
@@ -59,7 +58,7 @@ impl<M: Memory> Heap<M> {
         ensures moves { MovesAtMost self.old self.new 2 }
     {
         let answer = heap_commands::eq(&mut self.ground, &mut self.registers, left, right, steps);
-        finish_step(&self.ground.mem, answer)
+        finish_step(answer)
     }
 }
 

@@ -7,7 +7,7 @@ ghost use Rattle.lisp_heap.specs.Walking.{StandsAsBefore, graph_in};
 
 use crate::heap::Heap;
 use lisp_graph::{Form, Seen, SeenCons, Walk};
-use mem_port::{Memory, assert_invariant};
+use mem_port::Memory;
 use store_word::SwapFault;
 use word_graph::{read_cons, read_field, read_form, read_word};
 
@@ -31,9 +31,7 @@ impl<M: Memory> Walk for Heap<M> {
         ensures stands { StandsAsBefore self.old self.new }
     {
         let word = self.registers[register as usize];
-        let seen = read_word(&mut self.ground, word);
-        assert_invariant(&self.ground.mem);
-        seen
+        read_word(&mut self.ground, word)
     }
 
     fn form_of(&mut self, key: u64) -> Result<Form, SwapFault>
@@ -43,9 +41,7 @@ impl<M: Memory> Walk for Heap<M> {
         ensures cause { HasCause self.old.faults self.new.faults result }
         ensures stands { StandsAsBefore self.old self.new }
     {
-        let form = read_form(&mut self.ground, key);
-        assert_invariant(&self.ground.mem);
-        form
+        read_form(&mut self.ground, key)
     }
 
     fn field_of(&mut self, key: u64, index: u32) -> Result<Seen, SwapFault>
@@ -57,9 +53,7 @@ impl<M: Memory> Walk for Heap<M> {
         ensures cause { HasCause self.old.faults self.new.faults result }
         ensures stands { StandsAsBefore self.old self.new }
     {
-        let seen = read_field(&mut self.ground, key, index);
-        assert_invariant(&self.ground.mem);
-        seen
+        read_field(&mut self.ground, key, index)
     }
 
     fn cons_of(&mut self, key: u64) -> Result<SeenCons, SwapFault>
@@ -71,8 +65,6 @@ impl<M: Memory> Walk for Heap<M> {
         ensures cause { HasCause self.old.faults self.new.faults result }
         ensures stands { StandsAsBefore self.old self.new }
     {
-        let cons = read_cons(&mut self.ground, key);
-        assert_invariant(&self.ground.mem);
-        cons
+        read_cons(&mut self.ground, key)
     }
 }

@@ -1,5 +1,6 @@
 //! Words of new objects: a place for them, and how they are written.
 ghost use Rattle.std.specs.Prelude.{◌≡◌, ◌+◌, ◌*◌, ◌<◌, ◌≤◌, OnOk, length};
+ghost use Rattle.mem_port.specs.Store.{IsMemory};
 ghost use Rattle.area_space.specs.View.{view};
 ghost use Rattle.area_space.specs.Views.{IsGround, NamesNoFree};
 ghost use Rattle.test_ground.specs.Views.{Reserves};
@@ -10,7 +11,7 @@ ghost use Rattle.transporter.specs.Writes.{Writes};
 ghost use Rattle.test_ground.specs.Written.{IsMade, pair_of, cell_of, block_of};
 
 use area_space::{Ground, Origin};
-use mem_port::{Memory, assert_invariant};
+use mem_port::Memory;
 use std::sync::ledger::Ledger;
 use store_word::{CdrCode, Steps, SwapFault, Word};
 
@@ -47,12 +48,12 @@ pub(crate) fn write_pair<M: Memory, L: Ledger>(
     code: CdrCode,
     steps: &mut Steps<L>,
 ) -> Result<(), SwapFault>
-    requires { at + 2 ≤ length (M.seen mem.old).words }
+    requires in_range { at + 2 ≤ length (M.seen mem.old).words }
+    requires sound { IsMemory (M.seen mem.old) }
+    ensures sound { IsMemory (M.seen mem.new) }
     ensures size { length (M.seen mem.new).words ≡ length (M.seen mem.old).words }
     ensures written { OnOk result (Writes (M.seen mem.old) (M.seen mem.new) at 2 (pair_of code car cdr)) }
 {
-    // No address of a memory overflows, as this call's contract says.
-    assert_invariant(mem);
     mem.write(at, car.with_cdr(CdrCode::Normal), steps)?;
     mem.write(at + 1, cdr.with_cdr(code), steps)?;
     Ok(())
@@ -65,12 +66,12 @@ pub(crate) fn write_cells<M: Memory, L: Ledger>(
     count: u16,
     steps: &mut Steps<L>,
 ) -> Result<(), SwapFault>
-    requires { at + count ≤ length (M.seen mem.old).words }
+    requires in_range { at + count ≤ length (M.seen mem.old).words }
+    requires sound { IsMemory (M.seen mem.old) }
+    ensures sound { IsMemory (M.seen mem.new) }
     ensures size { length (M.seen mem.new).words ≡ length (M.seen mem.old).words }
     ensures written { OnOk result (Writes (M.seen mem.old) (M.seen mem.new) at count (cell_of count)) }
 {
-    // No address of a memory overflows, as this call's contract says.
-    assert_invariant(mem);
     for i in 0..count {
         mem.write(at + i as u32, cell(count, i), steps)?;
     }
@@ -99,11 +100,11 @@ pub(crate) fn write_block<M: Memory, L: Ledger>(
 ) -> Result<(), SwapFault>
     requires at_most { fields ≤ 2047 }
     requires in_range { at + fields + 1 ≤ length (M.seen mem.old).words }
+    requires sound { IsMemory (M.seen mem.old) }
+    ensures sound { IsMemory (M.seen mem.new) }
     ensures size { length (M.seen mem.new).words ≡ length (M.seen mem.old).words }
     ensures written { OnOk result (Writes (M.seen mem.old) (M.seen mem.new) at (fields + 1) (block_of fields)) }
 {
-    // No address of a memory overflows, as this call's contract says.
-    assert_invariant(mem);
     mem.write(at, Word::header(0, fields), steps)?;
     for i in 0..fields as u32 {
         mem.write(at + 1 + i, Word::nil(), steps)?;

@@ -1,13 +1,13 @@
 //! Objects that are relocated: their new words, and what they leave.
 ghost use Rattle.std.specs.Prelude.{◌≡◌, ◌⊎◌, ◌+◌, ◌*◌, ◌/◌, ◌<◌, ◌≤◌, IsTrue, IfOk, OnOk, None, length, Contains};
-ghost use Rattle.mem_port.specs.Store.{StoresNothing};
+ghost use Rattle.mem_port.specs.Store.{IsMemory, StoresNothing};
 ghost use Rattle.area_space.specs.Table.{slot_of, live, chain};
 ghost use Rattle.obj_layout.specs.Forwards.{forward_of};
 ghost use Rattle.transporter.specs.Writes.{Writes};
 ghost use Rattle.test_ground.specs.Written.{field_or_nil, wider_of, husk_of};
 
 use area_space::RegionTable;
-use mem_port::{Memory, assert_invariant};
+use mem_port::Memory;
 use std::sync::ledger::Ledger;
 use store_word::{CdrCode, Content, Steps, SwapFault, Word};
 
@@ -46,11 +46,11 @@ pub(crate) fn write_wider<M: Memory, L: Ledger>(
     requires from { at + fields < length (M.seen mem.old).words }
     requires to { to + 2 * fields + 2 ≤ length (M.seen mem.old).words }
     requires apart { (at + fields < to) ⊎ (to + 2 * fields + 2 ≤ at) }
+    requires sound { IsMemory (M.seen mem.old) }
+    ensures sound { IsMemory (M.seen mem.new) }
     ensures size { length (M.seen mem.new).words ≡ length (M.seen mem.old).words }
     ensures written { OnOk result (Writes (M.seen mem.old) (M.seen mem.new) to (2 * fields + 2) (wider_of (M.seen mem.old).words at code fields)) }
 {
-    // No address of a memory overflows, as this call's contract says.
-    assert_invariant(mem);
     let wide = 2 * fields + 1;
     mem.write(to, Word::header(code, wide), steps)?;
     for i in 0..wide {
@@ -68,12 +68,12 @@ fn field<M: Memory, L: Ledger>(
     i: u16,
     steps: &mut Steps<L>,
 ) -> Result<Word, SwapFault>
-    requires { at + fields < length (M.seen mem.old).words }
+    requires in_range { at + fields < length (M.seen mem.old).words }
+    requires sound { IsMemory (M.seen mem.old) }
+    ensures sound { IsMemory (M.seen mem.new) }
     ensures value { IfOk result (λ word. word ≡ field_or_nil (M.seen mem.old).words at fields i) }
     ensures unchanged { StoresNothing (M.seen mem.old) (M.seen mem.new) }
 {
-    // No address of a memory overflows, as this call's contract says.
-    assert_invariant(mem);
     if i < fields {
         mem.read(at + 1 + i as u32, steps)
     } else {
@@ -91,11 +91,11 @@ pub(crate) fn leave_husk<M: Memory, L: Ledger>(
 ) -> Result<(), SwapFault>
     requires in_range { at + blank < length (M.seen mem.old).words }
     requires to { to < length (M.seen mem.old).words }
+    requires sound { IsMemory (M.seen mem.old) }
+    ensures sound { IsMemory (M.seen mem.new) }
     ensures size { length (M.seen mem.new).words ≡ length (M.seen mem.old).words }
     ensures written { OnOk result (Writes (M.seen mem.old) (M.seen mem.new) at (blank + 1) (husk_of to)) }
 {
-    // No address of a memory overflows, as this call's contract says.
-    assert_invariant(mem);
     mem.write(at, Word::header_forward(to), steps)?;
     for i in 0..blank {
         mem.write(at + 1 + i as u32, Word::null(), steps)?;

@@ -10,7 +10,7 @@ use crate::transports::making::{reserve, write_block, write_cells, write_pair};
 use crate::transports::relaying::{is_cell, is_first_class, leave_husk, write_wider};
 use area_space::{Ground, Origin, RegionTable};
 use lisp_graph::{Areas, Condemn};
-use mem_port::{Memory, assert_invariant};
+use mem_port::Memory;
 use obj_layout::resolve;
 use std::alloc::Global;
 use std::sync::ledger::Ledger;
@@ -180,7 +180,6 @@ impl<M: Memory + Drop> Trial<M> {
         ensures { IsRunning (view self.new.ground) self.new.front self.new.middle }
     {
         self.ground.condemn(Condemn::Full);
-        assert_invariant(&self.ground.mem);
     }
 
     /// Settles a register.

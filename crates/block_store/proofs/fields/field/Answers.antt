@@ -13,8 +13,8 @@ use Rattle.block_store.proofs.MovedFields.{field_moved}
 use Rattle.block_store.proofs.FieldReads.{read_can_find, reads_block, field_fetched, field_faulted, field_is_live, field_is_settleable, field_settled}
 use Rattle.block_store.proofs.fields.field.Goals as goal
 
-pub find_field-requires : goal.find_field-requires
-find_field-requires g c = read_can_find _ _ _ c.requires
+pub find_field-requires-clause-can : goal.find_field-requires-clause-can
+find_field-requires-clause-can g c = read_can_find _ _ _ c.requires
 
 pub returns-in_err-at-clause-no_field : goal.returns-in_err-at-clause-no_field
 returns-in_err-at-clause-no_field g c = λ count e. lack_tells _ c.args.ground.now.table c.args.of.content c.args.index count

@@ -15,8 +15,8 @@ use Rattle.transporter.proofs.TransportSequences.{read-writes, writes-moves}
 use Rattle.block_store.proofs.FieldReads.{field_moves}
 use Rattle.block_store.proofs.fields.set_field.Goals as goal
 
-pub find_field-requires : goal.find_field-requires
-find_field-requires g c = can_find _ c.args.ground.now.table c.args.of.content (set_meaning _ c.args.ground.now.table c.args.of.content c.args.value c.requires)
+pub find_field-requires-clause-can : goal.find_field-requires-clause-can
+find_field-requires-clause-can g c = can_find _ c.args.ground.now.table c.args.of.content (set_meaning _ c.args.ground.now.table c.args.of.content c.args.value c.requires)
 
 pub returns-in_err-at-clause-no_field : goal.returns-in_err-at-clause-no_field
 returns-in_err-at-clause-no_field g c = λ count e. lack_tells _ c.args.ground.now.table c.args.of.content c.args.index count
@@ -64,24 +64,16 @@ returns-clause-stays_fresh g c =
     stored-stays_fresh c.args.ground.now.table c.requires.kept.table (field_preserves _ _ _ c.args.ground.now.table c.args.of.content c.args.index c.in_ok-at.at c.args.value c.requires at.place (stores_nothing-twice at.unchanged c.in_ok-old.ensures.unchanged) c.with_cdr.result (ap (λ (w : Parts). w.content) c.with_cdr.ensures) c.in_ok-write.ensures.ok)
 
 pub invariant_of-ground-2 : goal.invariant_of-ground-2
-invariant_of-ground-2 g c = record {
-  small = (
-      let at = ap length c.in_ok-at.ensures.unchanged.words in
-      let read = ap length c.in_ok-old.ensures.unchanged.words in
-      let write = size-kept _ _ _ _ c.write.result c.write.ensures.ok c.write.ensures.err in
-      let small = c.args.ground.now.small in
-      omega arith
-      );
-}
+invariant_of-ground-2 g c = record { sound = c.write.ensures.sound }
 
 pub returns-in_err-write-clause-accounted : goal.returns-in_err-write-clause-accounted
 returns-in_err-write-clause-accounted g c =
     let read = c.in_ok-old.ensures in
     let write = c.in_err-write.ensures in
-    let before : WithoutFault (shown g.M.Memory c.args.ground.now.mem) (shown g.M.Memory c.read.new.self) c.args.steps.now c.read.new.steps = quiet-twice (answered-if c.in_ok-at.ensures.accounted) (record { faults = read.cause.quiet; honest = (let a = read.taken in let b = read.cost in omega arith); room = read.room.answered }) in
+    let before : WithoutFault (shown g.M.Memory c.args.ground.now.mem) (shown g.M.Memory c.read.new.self) c.args.steps.now c.read.new.steps = quiet-twice (answered-if c.in_ok-at.ensures.accounted) (record { faults = read.cause.quiet; honest = (let a = read.taken in let b = read.cost in omega arith); room = read.room.answered; sound = λ _. read.sound }) in
     let is : is_fault c.from_residual-in_err-write.result ≡ true =
     (let was = c.in_err-write.was in let from = c.from_residual-in_err-write.ensures in let branch = c.branch-write.ensures in let is = c.in_err-write.is in grind arith) in
-    quiet-then_fault c.in_err-write.field-0.0 before (record { cause = write.cause; honest = (let a = write.taken in let b = write.cost in omega arith); room = write.room }) _ is
+    quiet-then_fault c.in_err-write.field-0.0 before (record { cause = write.cause; honest = (let a = write.taken in let b = write.cost in omega arith); room = write.room; sound = λ _. write.sound }) _ is
 
 pub returns-clause-accounted : goal.returns-clause-accounted
 returns-clause-accounted g c =
@@ -91,6 +83,7 @@ returns-clause-accounted g c =
       faults = write.cause.quiet ∙ read.cause.quiet ∙ c.in_ok-at.ensures.accounted.quiet refl;
       honest = (let a = c.in_ok-at.ensures.accounted.honest in let b = read.taken in let d = read.cost in let e = write.taken in let f = write.cost in omega arith);
       room = (let a = c.in_ok-at.ensures.accounted.room refl in let b = read.room.answered in let d = write.room.answered in omega arith);
+      sound = λ _. write.sound;
     })
 
 pub returns-in_err-at-clause-marks : goal.returns-in_err-at-clause-marks

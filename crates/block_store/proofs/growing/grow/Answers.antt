@@ -171,7 +171,7 @@ returns-clause-stays_fresh g c = (has_grown g (goal.at.returns-clause-stays_fres
 pub returns-in_err-lay_anew-clause-accounted : goal.returns-in_err-lay_anew-clause-accounted
 returns-in_err-lay_anew-clause-accounted g c =
     let p = c.place_for-placed.ensures in
-    let before : WithoutFault (shown g.M.Memory c.args.ground.now.mem) (shown g.M.Memory c.place_for-placed.new.ground.mem) c.args.steps.now c.find.new.steps = quiet-twice (answered-if c.in_ok-head.ensures.accounted) (record { faults = p.no_fault; honest = (let a = p.taken in omega arith); room = (let a = ap length p.resident in omega arith) }) in
+    let before : WithoutFault (shown g.M.Memory c.args.ground.now.mem) (shown g.M.Memory c.place_for-placed.new.ground.mem) c.args.steps.now c.find.new.steps = quiet-twice (answered-if c.in_ok-head.ensures.accounted) (record { faults = p.no_fault; honest = (let a = p.taken in omega arith); room = (let a = ap length p.resident in omega arith); sound = λ _. c.place_for-placed.new.ground.sound }) in
     let is : is_fault c.from_residual-in_err-lay_anew.result ≡ true =
     (let was = c.in_err-lay_anew.was in let from = c.from_residual-in_err-lay_anew.ensures in let branch = c.branch-lay_anew.ensures in let is = c.in_err-lay_anew.is in grind arith) in
     quiet-then_fault c.in_err-lay_anew.field-0.0 before c.in_err-lay_anew.ensures.accounted _ is
@@ -179,7 +179,7 @@ returns-in_err-lay_anew-clause-accounted g c =
 pub returns-clause-accounted : goal.returns-clause-accounted
 returns-clause-accounted g c =
     let p = c.place_for-placed.ensures in
-    let before : WithoutFault (shown g.M.Memory c.args.ground.now.mem) (shown g.M.Memory c.place_for-placed.new.ground.mem) c.args.steps.now c.find.new.steps = quiet-twice (answered-if c.in_ok-head.ensures.accounted) (record { faults = p.no_fault; honest = (let a = p.taken in omega arith); room = (let a = ap length p.resident in omega arith) }) in
+    let before : WithoutFault (shown g.M.Memory c.args.ground.now.mem) (shown g.M.Memory c.place_for-placed.new.ground.mem) c.args.steps.now c.find.new.steps = quiet-twice (answered-if c.in_ok-head.ensures.accounted) (record { faults = p.no_fault; honest = (let a = p.taken in omega arith); room = (let a = ap length p.resident in omega arith); sound = λ _. c.place_for-placed.new.ground.sound }) in
     let tells = answers (quiet-twice before (answered c.in_ok-lay_anew.field-0 c.in_ok-lay_anew.ensures.accounted)) in
     subst (λ m. AccountsForFaultsIf (shown g.M.Memory c.args.ground.now.mem) (shown g.M.Memory m) c.args.steps.now c.lay_anew.new.steps false) (sym (c.note_husk.ensures.memory ∙ c.commit.ensures.memory)) tells
 

@@ -13,12 +13,14 @@ loop-done-preserved g c =
     let below = c.loop-done-test.true in
     record {
       low = (let few = piece.at_most in omega arith);
+      fits = λ _. (let size = call.sound.size in let few = call.sound.few in omega arith);
       written = writes-span i.written call.filled piece.page (λ k l. refl);
       held = λ page h. call.stays_held page (i.held page h);
       quiet = record {
         faults = call.no_fault ∙ i.quiet.faults;
         honest = (let a = i.quiet.honest in let b = call.taken in let d = call.cost in omega arith);
         room = (let a = i.quiet.room in let b = call.resident in omega arith);
+        sound = λ _. call.sound;
       };
       cost = (let a = i.cost in let b = call.cost in omega arith);
     }

@@ -1,4 +1,6 @@
-use Rattle.std.proofs.Common.{ℕ, ◌≡◌, ◌<◌, length, ◌*◌, ◌+◌, ◌∙◌, sym, ap, subst, arith, List, rules}
+use Rattle.std.proofs.Common.{ℕ, ◌≡◌, ◌<◌, length, ◌*◌, ◌+◌, ◌∙◌, sym, ap, subst, arith, List}
+use Rattle.std.proofs.lemmas.Result.{err_from_is_err_and}
+use Rattle.cdr_lists.proofs.CallReports.{placed-then_fault}
 use Rattle.mem_port.specs.Store.{Store}
 use Rattle.area_space.specs.Table.{Table}
 use Rattle.obj_layout.specs.Forwards.{word_at}
@@ -27,7 +29,7 @@ lay_cells-requires g c =
     let can = same_items c.as_slice-numbers.ensures.value c.requires in
     let p = c.place_for-placed.ensures in
     let inside = words_inside _ _ _ c.requires.kept c.args.area c.args.level (list_area _ _ _ _ _ _ can) (list_level _ _ _ _ _ _ can) _ _ _ p.opened c.place_for-placed.result.at p.end in
-    record { few = can.few; inside = inside; small = c.place_for-placed.new.ground.small; each = can.inside }
+    record { few = can.few; inside = inside; small = (let sound = c.place_for-placed.new.ground.sound in omega arith); each = can.inside }
 
 pub commit-requires-clause-allowed : goal.commit-requires-clause-allowed
 commit-requires-clause-allowed g c =
@@ -42,7 +44,7 @@ returns-in_err-lay_cells-clause-fault g c =
     record {
       opened = on_err c.from_residual.result _ (opened_or_same _ _ _ c.requires.kept c.args.area c.args.level (list_area _ _ _ _ _ _ can) (list_level _ _ _ _ _ _ can) _ _ _ p.opened c.place_for-placed.result.at p.end);
       fault = on_err c.from_residual.result _ (opened_stays _ _ _ c.requires.kept c.args.area c.args.level (list_area _ _ _ _ _ _ can) (list_level _ _ _ _ _ _ can) _ _ _ p.opened c.place_for-placed.result.at p.end (g.M.Memory.seen c.lay_cells.new.mem) c.in_err-lay_cells.ensures.err);
-      accounted = search rules;
+      accounted = placed-then_fault p.no_fault p.taken (ap length p.resident) c.place_for-placed.new.ground.sound _ c.from_residual.result (err_from_is_err_and c.from_residual.result c.from_residual.ensures.1).1 c.in_err-lay_cells.ensures.accounted;
     }
 
 pub returns-in_err-lay_cells-clause-stays_ground : goal.returns-in_err-lay_cells-clause-stays_ground

@@ -1,4 +1,6 @@
-use Rattle.std.proofs.Common.{◌∙◌, sym, ap, subst, arith, length}
+use Rattle.std.proofs.Common.{◌∙◌, sym, ap, subst, arith, length, Ok}
+use Rattle.mem_port.specs.View.{AccountsForFaults, shown}
+use Rattle.cdr_lists.proofs.CallReports.{placed-then, placed-then_fault}
 use Rattle.std.proofs.lemmas.Result.{err_from_is_err_and}
 use Rattle.store_word.specs.declared.word.CdrCode.{CdrCode}
 use Rattle.mem_port.specs.Store.{Store}
@@ -12,7 +14,6 @@ use Rattle.transporter.proofs.WrittenMarks.{marks_by_words}
 use Rattle.cdr_lists.proofs.NewPlaces.{end_there, opened_stays_fresh, opened_live, opened_marks, opened_or_same, opened_stays, opens_if_needed, needed_then, words_inside, words_low}
 use Rattle.cdr_lists.proofs.PartStores.{on_err}
 use Rattle.cdr_lists.proofs.NewPairs.{area_inside, level_inside, pair_allowed, pair_fresh, pair_live, pair_marks, pair_placed, paired_on, room_for_pair}
-use Rattle.mem_port.proofs.CallReports.{on-either}
 use Rattle.transporter.specs.Marking.{MarksFollow}
 use Rattle.transporter.proofs.MovedParcels.{within-written}
 use Rattle.transporter.proofs.GroundPlaces.{is_place}
@@ -40,22 +41,17 @@ returns-in_err-write_pair-clause-fault g c =
     let q = c.place-placed.ensures in
     let p = is_place (g.M.Memory.seen c.args.ground.now.mem) c.args.ground.now.table c.args.pair.area c.args.pair.level 2 c.place-placed.result.opened q.end q.unchanged q.memory q.table q.opened q.needed q.free q.lowest q.sound q.stays_ground q.stays_named in
     let failed = err_from_is_err_and c.from_residual.result c.from_residual.ensures.1 in
-    let a = c.in_err-write_pair.ensures.accounted in
-    let same = ap length q.resident in
-    let later = a.cause.failed in
-    let honest = a.honest in
-    let room = a.room.failed in
-    let faults = q.no_fault in
-    let taken = q.taken in
     record {
       opened = on_err c.from_residual.result _ (opened_or_same _ _ _ c.requires.kept c.args.pair.area c.args.pair.level (area_inside _ _ _ _ _ _ _ c.requires) (level_inside _ _ _ _ _ _ _ c.requires) _ _ _ p.opens c.place-placed.result.at p.end);
       fault = on_err c.from_residual.result _ (opened_stays _ _ _ c.requires.kept c.args.pair.area c.args.pair.level (area_inside _ _ _ _ _ _ _ c.requires) (level_inside _ _ _ _ _ _ _ c.requires) _ _ _ p.opens c.place-placed.result.at p.end (g.M.Memory.seen c.write_pair.new.mem) c.in_err-write_pair.ensures.err);
-      accounted = rw failed.1 (record {
-        cause = record { later = omega arith; failed = omega arith; quiet = tt };
-        honest = omega arith;
-        room = record { answered = tt; failed = omega arith };
-      });
+      accounted = placed-then_fault q.no_fault q.taken (ap length q.resident) c.place-placed.new.self.sound _ c.from_residual.result failed.1 c.in_err-write_pair.ensures.accounted;
     }
+
+pub returns-clause-fault : goal.returns-clause-fault
+returns-clause-fault g c =
+    let q = c.place-placed.ensures in
+    let tells = placed-then {v = shown g.M.Memory c.args.ground.now.mem} {v' = shown g.M.Memory c.place-placed.new.self.mem} {v'' = shown g.M.Memory c.write_pair.new.mem} q.no_fault q.taken (ap length q.resident) c.place-placed.new.self.sound _ c.place-placed.result.at c.in_ok-write_pair.ensures.accounted in
+    record { opened = tt; fault = tt; accounted = subst (λ m. AccountsForFaults (shown g.M.Memory c.args.ground.now.mem) (shown g.M.Memory m) c.args.steps.now c.write_pair.new.steps (Ok c.place-placed.result.at)) (sym c.commit.ensures.memory) tells }
 
 pub returns-in_err-write_pair-clause-stays_ground : goal.returns-in_err-write_pair-clause-stays_ground
 returns-in_err-write_pair-clause-stays_ground g c =
@@ -121,12 +117,7 @@ returns-clause-stays_ground g c =
     }
 
 pub invariant_of-ground : goal.invariant_of-ground
-invariant_of-ground g c = record {
-  small = (
-      let small = c.place-placed.new.self.small in
-      on-either c.write_pair.result c.write_pair.ensures.pair c.write_pair.ensures.err (λ w. let size = w.size in omega arith) (λ none. let size = ap length none.words in omega arith)
-      );
-}
+invariant_of-ground g c = record { sound = c.write_pair.ensures.accounted.sound c.place-placed.new.self.sound }
 
 pub returns-in_err-write_pair-clause-needed : goal.returns-in_err-write_pair-clause-needed
 returns-in_err-write_pair-clause-needed g c =

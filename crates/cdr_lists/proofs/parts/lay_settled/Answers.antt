@@ -1,4 +1,7 @@
-use Rattle.std.proofs.Common.{refl, sym, ◌∙◌, ap, subst, arith, length}
+use Rattle.std.proofs.Common.{refl, sym, ap, subst, arith, length, Ok}
+use Rattle.std.proofs.lemmas.Result.{err_from_is_err_and}
+use Rattle.mem_port.specs.View.{AccountsForFaults, shown}
+use Rattle.cdr_lists.proofs.CallReports.{placed-then, placed-then_fault}
 use Rattle.store_word.specs.declared.word.Content.TheVariants.{List as ListAt}
 use Rattle.mem_port.specs.Store.{Store}
 use Rattle.area_space.specs.Table.{Table}
@@ -10,10 +13,8 @@ use Rattle.cdr_lists.proofs.ConsAddresses.{set_here, sets_cdr}
 use Rattle.cdr_lists.proofs.NewPlaces.{end_there, none_placed, opened_stays_fresh, opened_live, opened_marks, opened_moves, opened_or_same, opened_stays, opens_if_needed, words_inside}
 use Rattle.cdr_lists.proofs.CellRelocations.{cell_stays_fresh, cell_classed, class_found, cell_inside, cell_laid, cell_marks, cell_others, cell_set, cell_preserves, room_for_relay}
 use Rattle.cdr_lists.proofs.PartStores.{on_err}
-use Rattle.mem_port.proofs.CallReports.{on-either}
 use Rattle.transporter.specs.Marking.{MarksFollow}
 use Rattle.transporter.proofs.PageMarks.{marks-read, marks-then}
-use Rattle.transporter.proofs.lisp_ground.words.WrittenWords.{stores_within}
 use Rattle.cdr_lists.proofs.parts.lay_settled.Goals as goal
 
 pub unwrap-class-requires : goal.unwrap-class-requires
@@ -117,12 +118,7 @@ returns-clause-at_most g c =
     omega arith
 
 pub invariant_of-ground : goal.invariant_of-ground
-invariant_of-ground g c = record {
-  small = (
-      let small = c.place_for-placed.new.ground.small in
-      on-either c.write_relay.result c.write_relay.ensures.ok c.write_relay.ensures.err (λ w. let size = (stores_within _ _ _ _ w.rest).size ∙ w.pair.size in omega arith) (λ none. let size = ap length none.words in omega arith)
-      );
-}
+invariant_of-ground g c = record { sound = c.write_relay.ensures.accounted.sound c.place_for-placed.new.ground.sound }
 
 pub returns-in_err-write_relay-clause-marks : goal.returns-in_err-write_relay-clause-marks
 returns-in_err-write_relay-clause-marks g c =
@@ -139,3 +135,14 @@ returns-clause-marks g c =
     c.with_cdr-first.result c.with_cdr-second.result c.in_ok-write_relay.ensures.ok c.commit.ensures.sound (c.commit.ensures.table _ end) c.commit.ensures.pages in
     let memory = ap g.M.Memory.seen c.commit.ensures.memory in
     subst (λ (m : Store). MarksFollow (g.M.Memory.seen c.args.ground.now.mem) c.args.ground.now.table m c.commit.new.self.table) (sym memory) marks
+
+pub returns-in_err-write_relay-clause-accounted : goal.returns-in_err-write_relay-clause-accounted
+returns-in_err-write_relay-clause-accounted g c =
+    let p = c.place_for-placed.ensures in
+    placed-then_fault p.no_fault p.taken (ap length p.resident) c.place_for-placed.new.ground.sound _ c.from_residual.result (err_from_is_err_and c.from_residual.result c.from_residual.ensures.1).1 c.in_err-write_relay.ensures.accounted
+
+pub returns-clause-accounted : goal.returns-clause-accounted
+returns-clause-accounted g c =
+    let p = c.place_for-placed.ensures in
+    let tells = placed-then {v = shown g.M.Memory c.args.ground.now.mem} {v' = shown g.M.Memory c.place_for-placed.new.ground.mem} {v'' = shown g.M.Memory c.write_relay.new.mem} p.no_fault p.taken (ap length p.resident) c.place_for-placed.new.ground.sound _ (tt {0}) c.in_ok-write_relay.ensures.accounted in
+    subst (λ m. AccountsForFaults (shown g.M.Memory c.args.ground.now.mem) (shown g.M.Memory m) c.args.steps.now c.write_relay.new.steps (Ok (tt {0}))) (sym c.commit.ensures.memory) tells

@@ -1,7 +1,7 @@
-use Rattle.std.proofs.Common.{◌≡◌, true, length, ◌∙◌, sym, subst, ap, arith}
+use Rattle.std.proofs.Common.{◌≡◌, true, ◌∙◌, sym, subst, ap, arith}
 use Rattle.store_word.specs.Words.{Parts}
 use Rattle.mem_port.specs.View.{shown}
-use Rattle.mem_port.proofs.CallReports.{answered-if, answers, size-kept}
+use Rattle.mem_port.proofs.CallReports.{answered-if, answers}
 use Rattle.obj_layout.proofs.ForwardChains.{stores_nothing-twice}
 use Rattle.transporter.specs.Preserving.{FreshOn}
 use Rattle.transporter.proofs.ScannedWords.{fresh-value, read-stays_fresh, read-preserves, stored-preserves, preserves-then}
@@ -89,14 +89,7 @@ returns-clause-stays_ground g c =
     }
 
 pub invariant_of-ground-2 : goal.invariant_of-ground-2
-invariant_of-ground-2 g c = record {
-  small = (
-      let read = ap length c.in_ok-cons.ensures.unchanged.words in
-      let write = size-kept _ _ _ _ c.write.result c.write.ensures.ok c.write.ensures.err in
-      let small = c.args.ground.now.small in
-      omega arith
-      );
-}
+invariant_of-ground-2 g c = record { sound = c.write.ensures.sound }
 
 -- Swap errors
 
@@ -105,9 +98,9 @@ returns-in_err-write-clause-accounted g c =
     let write = c.in_err-write.ensures in
     let is : is_fault c.from_residual-in_err-write.result ≡ true =
     (let was = c.in_err-write.was in let from = c.from_residual-in_err-write.ensures in let branch = c.branch-write.ensures in let is = c.in_err-write.is in grind arith) in
-    asked-then_fault c.in_err-write.field-0.0 (answered-if c.in_ok-cons.ensures.accounted) write.cause write.taken write.cost write.room _ is
+    asked-then_fault c.in_err-write.field-0.0 (answered-if c.in_ok-cons.ensures.accounted) write.cause write.taken write.cost write.room write.sound _ is
 
 pub returns-clause-accounted : goal.returns-clause-accounted
 returns-clause-accounted g c =
     let write = c.in_ok-write.ensures in
-    answers (asked-then {v'' = shown g.M.Memory c.write.new.self} {n'' = c.write.new.steps} (answered-if c.in_ok-cons.ensures.accounted) write.cause.quiet write.taken write.cost write.room.answered)
+    answers (asked-then {v'' = shown g.M.Memory c.write.new.self} {n'' = c.write.new.steps} (answered-if c.in_ok-cons.ensures.accounted) write.cause.quiet write.taken write.cost write.room.answered write.sound)

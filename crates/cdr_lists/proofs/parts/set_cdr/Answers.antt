@@ -1,8 +1,8 @@
-use Rattle.std.proofs.Common.{◌≡◌, true, length, suc, ◌+◌, refl, sym, ◌∙◌, ap, arith, inl, subst, List}
+use Rattle.std.proofs.Common.{◌≡◌, true, suc, ◌+◌, refl, sym, ◌∙◌, ap, arith, inl, subst, List}
 use Rattle.store_word.specs.Words.{Parts}
 use Rattle.store_word.specs.declared.word.CdrCode.TheVariants.{Normal}
 use Rattle.mem_port.specs.View.{shown}
-use Rattle.mem_port.proofs.CallReports.{answered, answered-if, answers, quiet-then_fault, quiet-twice, size-kept}
+use Rattle.mem_port.proofs.CallReports.{answered, answered-if, answers, quiet-then_fault, quiet-twice}
 use Rattle.obj_layout.specs.Forwards.{IsFinal, word_at}
 use Rattle.obj_layout.proofs.ForwardChains.{stores_nothing-twice, word_at-read}
 use Rattle.transporter.specs.Preserving.{FreshOn}
@@ -80,7 +80,7 @@ returns-in_err-second-in-Normal-clause-accounted g c =
     let second = c.in_err-second-in-Normal.ensures in
     let is : is_fault c.from_residual-in_err-second-in-Normal.result ≡ true =
     (let was = c.in_err-second-in-Normal.was in let from = c.from_residual-in_err-second-in-Normal.ensures in let branch = c.branch-second.ensures in let is = c.in_err-second-in-Normal.is in grind arith) in
-    asked-then_fault c.in_err-second-in-Normal.field-0.0 (answered-if c.in_ok-cons.ensures.accounted) second.cause second.taken second.cost second.room _ is
+    asked-then_fault c.in_err-second-in-Normal.field-0.0 (answered-if c.in_ok-cons.ensures.accounted) second.cause second.taken second.cost second.room second.sound _ is
 
 -- And written
 
@@ -118,11 +118,11 @@ returns-in_err-write-in-Normal-clause-stays_ground g c =
 pub returns-in_err-write-in-Normal-clause-accounted : goal.returns-in_err-write-in-Normal-clause-accounted
 returns-in_err-write-in-Normal-clause-accounted g c =
     let second = c.in_ok-second-in-Normal.ensures in
-    let before = asked-then {v'' = shown g.M.Memory c.read.new.self} {n'' = c.read.new.steps} (answered-if c.in_ok-cons.ensures.accounted) second.cause.quiet second.taken second.cost second.room.answered in
+    let before = asked-then {v'' = shown g.M.Memory c.read.new.self} {n'' = c.read.new.steps} (answered-if c.in_ok-cons.ensures.accounted) second.cause.quiet second.taken second.cost second.room.answered second.sound in
     let write = c.in_err-write-in-Normal.ensures in
     let is : is_fault c.from_residual-in_err-write-in-Normal.result ≡ true =
     (let was = c.in_err-write-in-Normal.was in let from = c.from_residual-in_err-write-in-Normal.ensures in let branch = c.branch-write.ensures in let is = c.in_err-write-in-Normal.is in grind arith) in
-    asked-then_fault c.in_err-write-in-Normal.field-0.0 before write.cause write.taken write.cost write.room _ is
+    asked-then_fault c.in_err-write-in-Normal.field-0.0 before write.cause write.taken write.cost write.room write.sound _ is
 
 pub returns-in_ok-write-in-Normal-clause-set : goal.returns-in_ok-write-in-Normal-clause-set
 returns-in_ok-write-in-Normal-clause-set g c =
@@ -180,20 +180,12 @@ returns-in_ok-write-in-Normal-clause-stays_ground g c =
 pub returns-in_ok-write-in-Normal-clause-accounted : goal.returns-in_ok-write-in-Normal-clause-accounted
 returns-in_ok-write-in-Normal-clause-accounted g c =
     let second = c.in_ok-second-in-Normal.ensures in
-    let before = asked-then {v'' = shown g.M.Memory c.read.new.self} {n'' = c.read.new.steps} (answered-if c.in_ok-cons.ensures.accounted) second.cause.quiet second.taken second.cost second.room.answered in
+    let before = asked-then {v'' = shown g.M.Memory c.read.new.self} {n'' = c.read.new.steps} (answered-if c.in_ok-cons.ensures.accounted) second.cause.quiet second.taken second.cost second.room.answered second.sound in
     let write = c.in_ok-write-in-Normal.ensures in
-    answers (asked-then {v'' = shown g.M.Memory c.write.new.self} {n'' = c.write.new.steps} before write.cause.quiet write.taken write.cost write.room.answered)
+    answers (asked-then {v'' = shown g.M.Memory c.write.new.self} {n'' = c.write.new.steps} before write.cause.quiet write.taken write.cost write.room.answered write.sound)
 
 pub invariant_of-ground-in-Normal : goal.invariant_of-ground-in-Normal
-invariant_of-ground-in-Normal g c = record {
-  small = (
-      let read = ap length c.in_ok-cons.ensures.unchanged.words in
-      let second = ap length c.in_ok-second-in-Normal.ensures.unchanged.words in
-      let write = size-kept _ _ _ _ c.write.result c.write.ensures.ok c.write.ensures.err in
-      let small = c.args.ground.now.small in
-      omega arith
-      );
-}
+invariant_of-ground-in-Normal g c = record { sound = c.write.ensures.sound }
 
 -- A cell
 

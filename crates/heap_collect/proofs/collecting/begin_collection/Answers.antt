@@ -24,7 +24,7 @@ returns-clause-begins g c =
           (flips_by (g.M.Memory.seen c.args.ground.now.mem) (g.M.Memory.seen c.condemn.new.self.mem) (g.M.Memory.seen c.start.new.ground.mem) c.args.ground.now.table c.condemn.new.self.table c.start.new.ground.table c.args.scan.now c.start.new.self c.args.what c.start.result
           (ap g.M.Memory.seen c.condemn.ensures.memory) (ap g.M.Memory.seen x.memory) x.table c.condemn.ensures.table
           (c.condemn.ensures.stays_ground was.kept.ground) (c.condemn.ensures.stays_named was.kept.named) c.condemn.ensures.sound x.stays_ground (x.stays_named (c.condemn.ensures.stays_named was.kept.named)) (subst IsTable (sym x.table) (noted_is c.condemn.new.self.table c.condemn.new.self.table.aim c.condemn.new.self.table.last c.start.new.ground.table.pages c.condemn.ensures.sound))
-          c.assert_invariant.ensures.1.marked (ap (λ (y : Scan). y.over) x.begins.same) x.sound x.units);
+          c.args.ground.now.sound.marked (ap (λ (y : Scan). y.over) x.begins.same) x.sound x.units);
       table = condemned_there x.table c.condemn.ensures.table;
       begins = begins_there (g.M.Memory.seen c.start.new.ground.mem) (g.M.Memory.seen c.condemn.new.self.mem) c.condemn.new.self.table c.start.new.ground.table c.args.what c.args.scan.now c.start.new.self (sym (ap g.M.Memory.seen x.memory)) x.table x.begins;
       at_most = subst (λ n. base_pages (g.M.Memory.seen c.start.new.ground.mem) c.start.new.ground.table c.args.what ≤ 16 * n) (ap (λ (y : Table). y.regions) x.table ∙ ap (λ (y : Table). y.regions) c.condemn.ensures.table.same) (few_pages (g.M.Memory.seen c.start.new.ground.mem) c.start.new.ground.table c.args.what);

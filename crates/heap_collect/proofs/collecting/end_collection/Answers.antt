@@ -16,7 +16,7 @@ returns-clause-reclaims g c =
     let x = c.free_old.ensures in
     record {
       settles = reclaims_here (g.M.Memory.seen c.args.ground.now.mem) (g.M.Memory.seen c.free_old.new.self.mem) c.args.ground.now.table c.free_old.new.self.table x.table x.words
-          (record { ground = x.stays_ground; named = x.stays_named; table = x.sound; marks = c.assert_invariant.ensures.1.marked });
+          (record { ground = x.stays_ground; named = x.stays_named; table = x.sound; marks = c.free_old.new.self.sound.marked });
       free = x.table;
       end = ap (λ (y : Table). y.aim) x.table.same;
     }

@@ -10,7 +10,7 @@ loop-made-init g c = record {
   drafted = c.requires.none;
   laid = record { each = λ i low. absurd (omega arith); blocks = λ i low. absurd (omega arith) };
   regions = refl;
-  quiet = record { faults = refl; honest = refl; room = omega arith };
+  quiet = record { faults = refl; honest = refl; room = omega arith; sound = λ before. before };
 }
 
 pub make_next-requires-clause-in_range : goal.make_next-requires-clause-in_range
@@ -34,7 +34,7 @@ loop-made-preserved g c =
       drafted = made.drafted;
       laid = made.stays_laid;
       regions = made.regions ∙ v.regions;
-      quiet = record { faults = after.cause.quiet ∙ before.faults; honest = (let a = before.honest in let b = after.honest in omega arith); room = (let a = before.room in let b = after.room.answered in omega arith) };
+      quiet = record { faults = after.cause.quiet ∙ before.faults; honest = (let a = before.honest in let b = after.honest in omega arith); room = (let a = before.room in let b = after.room.answered in omega arith); sound = λ was. after.sound (before.sound was) };
     }
 
 pub returns-clause-drafted : goal.returns-clause-drafted

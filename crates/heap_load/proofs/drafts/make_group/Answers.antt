@@ -38,7 +38,7 @@ put_cells-requires g c =
     let inside = cells_inside _ _ c.args.world.now c.args.places.now c.args.group.number c.args.group.count r.agrees r.loadable r.made r.in_range _ c.make_list.new.ground.table c.nil.result c.nil.ensures c.in_ok-from.from
     (listed_here _ _ _ _ _ _ (c.nil.result ∷ []) c.first_items-items.result (zeros c.args.group.count) c.in_ok-from.from e c.first_items-items.ensures c.in_ok-from.ensures.made)
     (words_here _ (c.nil.result ∷ []) c.first_items-items.result (zeros c.args.group.count) c.in_ok-from.from c.first_items-items.ensures c.in_ok-from.ensures.words) in
-    let small = c.make_list.new.ground.small in
+    let small = c.make_list.new.ground.sound in
     let places = r.places in
     record { in_range = omega arith; at_most = omega arith }
 

@@ -1,5 +1,7 @@
 use Rattle.std.proofs.Common.{◌≡◌, ◌∙◌, refl, ap, sym, arith, get_or}
+use Rattle.std.proofs.lemmas.Result.{err_from_is_err_and}
 use Rattle.std.proofs.lemmas.List.{get_or_default}
+use Rattle.mem_port.proofs.CallReports.{quiet-then_err}
 use Rattle.store_word.specs.declared.word.Content.TheVariants.{Struct as StructAt}
 use Rattle.lisp_graph.specs.declared.object.Value.TheVariants as V
 use Rattle.cdr_lists.proofs.PartStores.{on_err}
@@ -21,14 +23,14 @@ written g c = c.word_of.ensures ∙ ap (word_of c.args.places.now) (get_or_defau
 pub loop-i-init : goal.loop-i-init
 loop-i-init g c =
     let r = c.requires in
-    record { filled = fields_none _ _ c.args.world.now c.args.places.now c.args.number r.agrees.0 c.args.fields.now r.agrees.1 r.in_range r.filled; laid = r.laid; table = refl; quiet = record { faults = refl; honest = refl; room = omega arith } }
+    record { filled = fields_none _ _ c.args.world.now c.args.places.now c.args.number r.agrees.0 c.args.fields.now r.agrees.1 r.in_range r.filled; laid = r.laid; table = refl; quiet = record { faults = refl; honest = refl; room = omega arith; sound = λ before. before } }
 
 pub overflow_add-at : goal.overflow_add-at
 overflow_add-at g c =
     let r = c.requires in
     let inside = field_inside (g.M.Memory.seen c.loop-i.ground.mem) c.loop-i.ground.table c.args.world.now c.args.places.now c.args.number r.loadable r.places r.in_range c.loop-i.invariant.laid c.args.fields.now c.loop-i.i c.loop-i.invariant.filled c.loop-i-test.true
     c.block_at-at.result (stands g (goal.at.overflow_add-at g c).After-block_at-at) in
-    let small = c.loop-i.ground.small in
+    let small = c.loop-i.ground.sound in
     omega arith
 
 pub overflow_add-at-in-loop-i : goal.overflow_add-at-in-loop-i
@@ -36,7 +38,7 @@ overflow_add-at-in-loop-i g c =
     let r = c.requires in
     let inside = field_inside (g.M.Memory.seen c.loop-i.ground.mem) c.loop-i.ground.table c.args.world.now c.args.places.now c.args.number r.loadable r.places r.in_range c.loop-i.invariant.laid c.args.fields.now c.loop-i.i c.loop-i.invariant.filled c.loop-i-test.true
     c.block_at-at.result (stands g (goal.at.overflow_add-at-in-loop-i g c).After-block_at-at) in
-    let small = c.loop-i.ground.small in
+    let small = c.loop-i.ground.sound in
     omega arith
 
 pub store-requires : goal.store-requires
@@ -64,8 +66,12 @@ loop-i-preserved g c =
       laid = field_laid (g.M.Memory.seen c.loop-i.ground.mem) c.loop-i.ground.table c.args.world.now c.args.places.now c.args.number r.loadable r.places r.in_range c.loop-i.invariant.laid c.args.fields.now c.loop-i.i c.loop-i.invariant.filled c.loop-i-test.true
           c.block_at-at.result (stands g at.After-block_at-at) c.word_of.result (written g at.After-word_of) _ c.with_cdr-word.result c.with_cdr-word.ensures c.in_ok-store.ensures.written;
       table = c.in_ok-store.ensures.table ∙ c.loop-i.invariant.table;
-      quiet = record { faults = after.cause.quiet ∙ before.faults; honest = (let a = before.honest in let b = after.honest in omega arith); room = (let a = before.room in let b = after.room.answered in omega arith) };
+      quiet = record { faults = after.cause.quiet ∙ before.faults; honest = (let a = before.honest in let b = after.honest in omega arith); room = (let a = before.room in let b = after.room.answered in omega arith); sound = λ was. after.sound (before.sound was) };
     }
 
 pub returns-clause-stays_filled : goal.returns-clause-stays_filled
 returns-clause-stays_filled g c = fields_all _ _ c.args.world.now c.args.places.now c.args.number c.args.fields.now c.loop-i.i c.loop-i.invariant.filled c.loop-i-test.false
+
+pub returns-in_err-store-clause-accounted : goal.returns-in_err-store-clause-accounted
+returns-in_err-store-clause-accounted g c =
+    quiet-then_err _ c.from_residual.result (err_from_is_err_and c.from_residual.result c.from_residual.ensures.1).1 c.loop-i.invariant.quiet c.in_err-store.ensures.accounted

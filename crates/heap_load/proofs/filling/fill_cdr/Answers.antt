@@ -32,7 +32,7 @@ overflow_add-at g c =
     let r = c.requires in
     let inside = cdr_inside (g.M.Memory.seen c.args.ground.now.mem) c.args.ground.now.table c.args.world.now c.args.places.now c.args.cons.number r.loadable r.places r.in_range r.laid c.args.cons.car c.args.cons.cdr r.agrees r.filled c.word_of.result c.word_of.ensures r.pair c.cons_at-at.result
     (stands g (goal.at.overflow_add-at g c).After-cons_at-at) in
-    let small = c.args.ground.now.small in
+    let small = c.args.ground.now.sound in
     omega arith
 
 pub store-requires : goal.store-requires

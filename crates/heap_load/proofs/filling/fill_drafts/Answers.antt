@@ -7,5 +7,5 @@ loop-number-init g c = record {
   filled = filled_none _ _ c.args.world.now c.args.places.now c.requires.made;
   laid = c.requires.laid;
   table = refl;
-  quiet = record { faults = refl; honest = refl; room = omega arith };
+  quiet = record { faults = refl; honest = refl; room = omega arith; sound = λ before. before };
 }

@@ -21,7 +21,7 @@ loop-i-init g c = record {
   stays_fresh = λ fresh words. words;
   marks = marks-read c.args.ground.now.table same-stores;
   moves = record { count = 0; few = omega arith; moves = none };
-  quiet = record { faults = refl; honest = refl; room = omega arith };
+  quiet = record { faults = refl; honest = refl; room = omega arith; sound = λ before. before };
   few = omega arith;
   cost = omega arith;
 }
@@ -65,7 +65,7 @@ loop-i-preserved g c =
       stays_fresh = λ fresh words. x.stays_fresh (registers_fresh _ _ _ _ y.preserves.grows y.others fresh) (y.stays_fresh fresh words);
       marks = marks-then y.marks x.marks;
       moves = moves-then y.moves x.moves;
-      quiet = record { faults = x.accounted.cause.quiet ∙ y.quiet.faults; honest = (let a = y.quiet.honest in let b = x.accounted.honest in omega arith); room = (let a = y.quiet.room in let b = x.accounted.room.answered in omega arith) };
+      quiet = record { faults = x.accounted.cause.quiet ∙ y.quiet.faults; honest = (let a = y.quiet.honest in let b = x.accounted.honest in omega arith); room = (let a = y.quiet.room in let b = x.accounted.room.answered in omega arith); sound = λ was. x.accounted.sound (y.quiet.sound was) };
       few = omega arith;
       cost = omega arith;
     }

@@ -26,6 +26,6 @@ loop-turn-preserved g c =
     record {
       way = way-goes_on _ _ _ _ _ i.way leads;
       stays = stores_nothing-twice i.stays read.unchanged;
-      quiet = record { faults = read.cause.quiet ∙ i.quiet.faults; honest = (let a = i.quiet.honest in let b = read.taken in let d = read.cost in omega arith); room = (let a = i.quiet.room in let b = read.room.answered in omega arith) };
+      quiet = record { faults = read.cause.quiet ∙ i.quiet.faults; honest = (let a = i.quiet.honest in let b = read.taken in let d = read.cost in omega arith); room = (let a = i.quiet.room in let b = read.room.answered in omega arith); sound = λ _. read.sound };
       cost = (let a = i.cost in let b = read.cost in omega arith);
     }

@@ -13,7 +13,7 @@ loop-behind-init g c =
       found = found-one words c.args.at c.requires.can;
       word = ap (word_at words) place ∙ sym c.requires.first;
       stays = record { words = refl; levels = refl; top = refl; unmarked = λ page none. none };
-      quiet = record { faults = refl; honest = refl; room = omega arith };
+      quiet = record { faults = refl; honest = refl; room = omega arith; sound = λ before. before };
       cost = omega arith;
     }
 
@@ -70,6 +70,6 @@ loop-behind-preserved g c =
       found = found-more behind c.cdr_code-in-loop-behind.ensures c.if-eq.ensures;
       word = ap (word_at (g.M.Memory.seen c.args.mem.now).words) place ∙ behind.word_is;
       stays = stores_nothing-twice i.stays read.unchanged;
-      quiet = record { faults = read.cause.quiet ∙ i.quiet.faults; honest = (let a = i.quiet.honest in let b = read.taken in let d = read.cost in omega arith); room = (let a = i.quiet.room in let b = read.room.answered in omega arith) };
+      quiet = record { faults = read.cause.quiet ∙ i.quiet.faults; honest = (let a = i.quiet.honest in let b = read.taken in let d = read.cost in omega arith); room = (let a = i.quiet.room in let b = read.room.answered in omega arith); sound = λ _. read.sound };
       cost = (let a = i.cost in let b = read.cost in omega arith);
     }

@@ -21,12 +21,15 @@ loop-done-preserved g c =
     i.copied.others (c.args.from + c.loop-done.done + k) (λ x. (let a = x.0 in let b = x.1 in go c.args.from c.args.to c.args.count c.loop-done.done k c.requires.apart (omega arith) a b)) ∙ ap (word_at (g.M.Memory.seen c.args.mem.now).words) place in
     record {
       low = (let few = piece.at_most in omega arith);
+      sound = λ _. call.sound;
+      fits = λ _. (let size = call.sound.size in let few = call.sound.few in omega arith);
       copied = writes-span i.copied call.written piece.to same;
       held = λ page h. call.stays_held page (i.held page h);
       quiet = record {
         faults = call.no_fault ∙ i.quiet.faults;
         honest = (let a = i.quiet.honest in let b = call.taken in let d = call.cost in omega arith);
         room = (let a = i.quiet.room in let b = call.resident in omega arith);
+        sound = λ _. call.sound;
       };
       cost = (let a = i.cost in let b = call.cost in omega arith);
     }

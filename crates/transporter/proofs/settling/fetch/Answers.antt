@@ -1,4 +1,5 @@
 use Rattle.std.proofs.Common.{refl, sym, subst, arith}
+use Rattle.std.proofs.lemmas.Grind.{common_steps}
 use Rattle.store_word.specs.Words.{Parts}
 use Rattle.obj_layout.proofs.ForwardChains.{word_at-read}
 use Rattle.transporter.specs.Settling.{RefersToOld, IsSettleable, Settles, CanSettle, SettlesOn}
@@ -8,7 +9,6 @@ use Rattle.transporter.proofs.FetchedWords.{later-read, later-stays, later-then_
 use Rattle.transporter.proofs.PageMarks.{marks-then, marks-read, marks-replaced}
 use Rattle.transporter.proofs.TransportSequences.{read-once, fetched-once, unwritten-once, read-writes, writes-moves, moves-then, fetch_moves-of}
 use Rattle.transporter.proofs.ScannedWords.{preserves-then, read-preserves, read-stays_fresh, replaced-preserves, unmoved-reads}
-use Rattle.transporter.proofs.WriteSequences.{size-replaced}
 use Rattle.transporter.proofs.settling.fetch.Goals as goal
 
 pub read-requires : goal.read-requires
@@ -145,13 +145,7 @@ returns-clause-words g c =
     fetch_moves-of read.unchanged is c.in_ok-settled.ensures.words c.in_ok-write_changed.ensures.ok (fetched-word there.inside there.same c.in_ok-write_changed.ensures.ok)
 
 pub invariant_of-ground-2 : goal.invariant_of-ground-2
-invariant_of-ground-2 g c = record {
-  small = (
-      let same = size-replaced _ _ _ _ _ c.write_changed.result c.write_changed.ensures.ok c.write_changed.ensures.err in
-      let few = c.settle.new.ground.small in
-      omega arith
-      );
-}
+invariant_of-ground-2 g c = record { sound = c.write_changed.ensures.accounted.sound c.settle.new.ground.sound }
 
 pub returns-in_err-word-clause-marks : goal.returns-in_err-word-clause-marks
 returns-in_err-word-clause-marks g c = marks-read c.args.ground.now.table c.in_err-word.ensures.unchanged
@@ -167,3 +161,11 @@ returns-clause-marks g c =
     let settled = c.in_ok-settled.ensures in
     let there = unwritten-there c.requires.in_range c.requires.can c.in_ok-word.ensures.unchanged c.in_ok-word.ensures.value c.in_ok-settled.ensures.live c.in_ok-settled.ensures.settles in
     marks-then (marks-read c.args.ground.now.table c.in_ok-word.ensures.unchanged) (marks-then settled.marks (marks-replaced settled.live.table there.inside there.same settled.word c.in_ok-write_changed.ensures.ok))
+
+pub returns-in_err-write_changed-clause-accounted : goal.returns-in_err-write_changed-clause-accounted
+returns-in_err-write_changed-clause-accounted g c = record {
+  cause = grind (arith, common_steps);
+  honest = omega arith;
+  room = grind (arith, common_steps);
+  sound = λ _. c.write_changed.ensures.accounted.sound c.settle.new.ground.sound;
+}

@@ -1,5 +1,8 @@
-use Rattle.std.proofs.Common.{refl, sym, ◌∙◌, ap, subst, List}
+use Rattle.std.proofs.Common.{refl, sym, ◌∙◌, ap, subst, List, arith}
+use Rattle.std.proofs.lemmas.Result.{err_from_is_err_and}
 use Rattle.store_word.specs.Words.{Parts}
+use Rattle.mem_port.specs.View.{WithoutFault, shown}
+use Rattle.mem_port.proofs.CallReports.{answered, quiet-then_err, quiet-twice}
 use Rattle.area_space.specs.Table.{Table}
 use Rattle.obj_layout.specs.Shapes.{charge_at}
 use Rattle.obj_layout.proofs.ForwardChains.{stores_nothing-twice, word_at-read}
@@ -8,6 +11,8 @@ use Rattle.word_graph.specs.Placed.{CanSee}
 use Rattle.word_graph.specs.Shown.{told}
 use Rattle.word_graph.proofs.ShownObjects.{object_classed}
 use Rattle.word_graph.proofs.ShownConses.{cons_shaped, car_can, cdr_can, car_told, cdr_told, cons_told}
+use Rattle.word_graph.proofs.walking.cons_at.Given.{Over}
+use Rattle.word_graph.proofs.walking.cons_at.Goals.{In_ok-first}
 use Rattle.word_graph.proofs.walking.cons_at.Goals as goal
 
 pub rest_behind-requires-clause-pair : goal.rest_behind-requires-clause-pair
@@ -58,3 +63,19 @@ returns-clause-value g c =
 pub returns-clause-unchanged : goal.returns-clause-unchanged
 returns-clause-unchanged g c =
     stores_nothing-twice (stores_nothing-twice (stores_nothing-twice c.in_ok-first.ensures.unchanged c.in_ok-rest.ensures.unchanged) c.in_ok-car.ensures.unchanged) c.in_ok-cdr.ensures.unchanged
+
+-- the first word was read
+read : (g : Over) (c : In_ok-first g) → WithoutFault (shown g.M.Memory c.args.ground.now.mem) (shown g.M.Memory c.read.new.self) c.args.steps.now c.read.new.steps
+read g c =
+    let x = c.in_ok-first.ensures in
+    record { faults = x.cause.quiet; honest = (let a = x.taken in let b = x.cost in omega arith); room = x.room.answered; sound = λ _. x.sound }
+
+pub returns-in_err-car-clause-accounted : goal.returns-in_err-car-clause-accounted
+returns-in_err-car-clause-accounted g c =
+    let before = quiet-twice (read g (goal.at.returns-in_err-car-clause-accounted g c).In_ok-first) (answered _ c.in_ok-rest.ensures.accounted) in
+    quiet-then_err _ c.from_residual-in_err-car.result (err_from_is_err_and c.from_residual-in_err-car.result c.from_residual-in_err-car.ensures.1).1 before c.in_err-car.ensures.accounted
+
+pub returns-in_err-cdr-clause-accounted : goal.returns-in_err-cdr-clause-accounted
+returns-in_err-cdr-clause-accounted g c =
+    let before = quiet-twice (quiet-twice (read g (goal.at.returns-in_err-cdr-clause-accounted g c).In_ok-first) (answered _ c.in_ok-rest.ensures.accounted)) (answered _ c.in_ok-car.ensures.accounted) in
+    quiet-then_err _ c.from_residual-in_err-cdr.result (err_from_is_err_and c.from_residual-in_err-cdr.result c.from_residual-in_err-cdr.ensures.1).1 before c.in_err-cdr.ensures.accounted

@@ -1,4 +1,5 @@
 use Rattle.std.proofs.Common.{◌≡◌, ◌<◌, ◌≤◌, ◌+◌, ℕ, Some, arith}
+use Rattle.mem_port.proofs.StoreLaws.{level_memory}
 use Rattle.area_space.proofs.Room.{some_free, fits_share}
 use Rattle.area_space.proofs.NewRegionWords.{unused_from_free, opened_end, ground_opened, named_opened}
 use Rattle.index_lists.specs.Chains.{last_of}
@@ -41,3 +42,10 @@ returns-in-None-clause-stays_named g c =
 
 pub open-requires-clause-needed : goal.open-requires-clause-needed
 open-requires-clause-needed g c = half_full c.args.self.now.table c.args.area c.args.level c.args.words c.requires.at_most c.in-None.ensures.none
+
+pub invariant_of-self : goal.invariant_of-self
+invariant_of-self g c =
+    let m = g.M.Memory.seen c.args.self.now.mem in
+    let t = c.args.self.now.table in
+    let free = unused_from_free m t c.lowest_free-region.result c.in-None.ensures.sound c.requires.ground c.requires.named c.lowest_free-region.ensures.free in
+    record { sound = rw (c.set_level.ensures.level) (level_memory m c.lowest_free-region.result c.args.level c.args.self.now.sound (omega (arith, c.requires.ground.levels_size, c.lowest_free-region.ensures.in_range)) (omega (arith, c.requires.ground.top, c.requires.level)) free) }

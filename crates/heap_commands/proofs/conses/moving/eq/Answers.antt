@@ -36,3 +36,9 @@ returns-clause-moves g c = moves_read c.in_ok-settle_items.ensures.moves c.in_ok
 
 pub returns-in_err-same-clause-moves : goal.returns-in_err-same-clause-moves
 returns-in_err-same-clause-moves g c = moves_read c.in_ok-settle_items.ensures.moves c.in_err-same.ensures.unchanged refl
+
+pub returns-in_err-settle_items-clause-performs : goal.returns-in_err-settle_items-clause-performs
+returns-in_err-settle_items-clause-performs g c =
+    let p = err_from_is_err_and c.from_residual.result c.from_residual.ensures.1 in
+    let x = c.in_err-settle_items.ensures in
+    rw p.1 (performs_fault _ _ _ _ c.args.registers.now c.settle_items.new.registers _ refl (record { represented = x.represented; preserves = x.preserves; others = x.registers; stays_fresh = x.stays_fresh; marks = x.marks }))

@@ -1,4 +1,6 @@
 use Rattle.std.proofs.Common.{refl, arith, rules}
+use Rattle.mem_port.proofs.CallReports.{answered, answered-if, quiet-twice}
+use Rattle.heap_commands.proofs.Refusals.{quiet-then}
 use Rattle.std.proofs.lemmas.Result.{on_ok_weaker}
 use Rattle.lisp_graph.specs.declared.reply.Reply.TheVariants as R
 use Rattle.lisp_graph.specs.Effect.{fetched}
@@ -62,7 +64,7 @@ returns-in-Ok-clause-costs g c =
     let reading = c.in-Ok.ensures.costs.cost refl in
     let reading_grows = c.in-Ok.ensures.stays_ground.preserves.grows.placed in
     let showing = c.show_into.ensures.cost in
-    record { tells = search rules; few = search rules; cost = on_ok_weaker c.show_into.result (λ _. omega arith) c.show_into.ensures.set }
+    record { tells = quiet-then (quiet-twice (answered _ c.in_ok-cons.ensures.accounted) (answered-if c.in-Ok.ensures.accounted)) c.show_into.ensures.accounted; few = search rules; cost = on_ok_weaker c.show_into.result (λ _. omega arith) c.show_into.ensures.set }
 
 -- What moves
 

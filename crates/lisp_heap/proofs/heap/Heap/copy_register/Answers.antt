@@ -9,11 +9,11 @@ pub copy_register-answer-requires-clause-consistent : goal.copy_register-answer-
 copy_register-answer-requires-clause-consistent g c = lent_consistent c.self.inside.ground c.deref_mut.ensures.value c.self.invariant
 
 pub invariant_of-self : goal.invariant_of-self
-invariant_of-self g c = (lent_runs c.self.inside.ground c.copy_register-answer.new.ground c.self.inside.registers (C.Move c.args.to c.args.from) c.deref_mut.ensures.value c.deref_mut.ensures.len c.finish_step.ensures.step c.finish_step.ensures.marks c.self.invariant tt refl c.copy_register-answer.ensures.performs c.copy_register-answer.ensures.costs.tells).0
+invariant_of-self g c = (lent_runs c.self.inside.ground c.copy_register-answer.new.ground c.self.inside.registers (C.Move c.args.to c.args.from) c.deref_mut.ensures.value c.deref_mut.ensures.len c.finish_step.ensures.step c.self.invariant tt refl c.copy_register-answer.ensures.performs c.copy_register-answer.ensures.costs.tells).0
 
 pub returns : goal.returns
 returns g c = rw (c.finish_step.ensures.value, ← c.self.view_is) (record {
-  runs = (lent_runs c.self.inside.ground c.copy_register-answer.new.ground c.self.inside.registers (C.Move c.args.to c.args.from) c.deref_mut.ensures.value c.deref_mut.ensures.len c.finish_step.ensures.step c.finish_step.ensures.marks c.self.invariant tt refl c.copy_register-answer.ensures.performs c.copy_register-answer.ensures.costs.tells).1;
+  runs = (lent_runs c.self.inside.ground c.copy_register-answer.new.ground c.self.inside.registers (C.Move c.args.to c.args.from) c.deref_mut.ensures.value c.deref_mut.ensures.len c.finish_step.ensures.step c.self.invariant tt refl c.copy_register-answer.ensures.performs c.copy_register-answer.ensures.costs.tells).1;
   costs = takes_by c.copy_register-answer.result _ refl c.copy_register-answer.ensures.costs.few c.copy_register-answer.ensures.costs.cost;
   moves = most_listed c.copy_register-answer.ensures.moves;
 })

@@ -11,8 +11,8 @@ pub invariant_of-self : goal.invariant_of-self
 invariant_of-self g c =
     let read = c.evict_oldest-evicted.ensures in
     (step_runs (g.M.Memory.seen c.self.inside.ground.mem) (g.M.Memory.seen c.evict_oldest-evicted.new.self) _ _ _ _ _ _ _ _ _ _ _ _ _ _ _ (C.PageOut c.args.count) (paged c.evict_oldest-evicted.result)
-    c.self.invariant c.assert_invariant.ensures.1.marked tt refl
-    (λ k s b same. page_steps c.commands_are_steps.ensures.performs _ _ _ _ _ c.args.count c.evict_oldest-evicted.result read.unchanged c.assert_invariant.ensures.1.marked k s b)
+    c.self.invariant (c.evict_oldest-evicted.ensures.sound c.self.inside.ground.sound).marked tt refl
+    (λ k s b same. page_steps c.commands_are_steps.ensures.performs _ _ _ _ _ c.args.count c.evict_oldest-evicted.result read.unchanged (c.evict_oldest-evicted.ensures.sound c.self.inside.ground.sound).marked k s b)
     refl refl (told_paged _ _ c.args.count c.evict_oldest-evicted.result read.cause read.taken) (λ e. (not_less c.self.inside.scan.done, not_less c.self.inside.ground.table.placed)) (λ done i is. absurd (cc (is))) (pages_unmarked _ _ (C.PageOut c.args.count) read.unchanged.unmarked) (λ _. refl)).0
 
 pub returns-clause-runs : goal.returns-clause-runs
@@ -20,8 +20,8 @@ returns-clause-runs g c =
     let read = c.evict_oldest-evicted.ensures in
     rw (c.paged.ensures, ← c.self.view_is)
     ((step_runs (g.M.Memory.seen c.self.inside.ground.mem) (g.M.Memory.seen c.evict_oldest-evicted.new.self) _ _ _ _ _ _ _ _ _ _ _ _ _ _ _ (C.PageOut c.args.count) (paged c.evict_oldest-evicted.result)
-    c.self.invariant c.assert_invariant.ensures.1.marked tt refl
-    (λ k s b same. page_steps c.commands_are_steps.ensures.performs _ _ _ _ _ c.args.count c.evict_oldest-evicted.result read.unchanged c.assert_invariant.ensures.1.marked k s b)
+    c.self.invariant (c.evict_oldest-evicted.ensures.sound c.self.inside.ground.sound).marked tt refl
+    (λ k s b same. page_steps c.commands_are_steps.ensures.performs _ _ _ _ _ c.args.count c.evict_oldest-evicted.result read.unchanged (c.evict_oldest-evicted.ensures.sound c.self.inside.ground.sound).marked k s b)
     refl refl (told_paged _ _ c.args.count c.evict_oldest-evicted.result read.cause read.taken) (λ e. (not_less c.self.inside.scan.done, not_less c.self.inside.ground.table.placed)) (λ done i is. absurd (cc (is))) (pages_unmarked _ _ (C.PageOut c.args.count) read.unchanged.unmarked) (λ _. refl)).1)
 
 pub returns-clause-stops : goal.returns-clause-stops

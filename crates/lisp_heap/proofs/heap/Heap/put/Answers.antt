@@ -9,11 +9,11 @@ pub put-answer-requires-clause-consistent : goal.put-answer-requires-clause-cons
 put-answer-requires-clause-consistent g c = lent_consistent c.self.inside.ground c.deref_mut.ensures.value c.self.invariant
 
 pub invariant_of-self : goal.invariant_of-self
-invariant_of-self g c = (lent_runs c.self.inside.ground c.put-answer.new.ground c.self.inside.registers (C.Put c.args.target c.args.index c.args.from) c.deref_mut.ensures.value c.deref_mut.ensures.len c.finish_step.ensures.step c.finish_step.ensures.marks c.self.invariant tt refl c.put-answer.ensures.performs c.put-answer.ensures.costs.tells).0
+invariant_of-self g c = (lent_runs c.self.inside.ground c.put-answer.new.ground c.self.inside.registers (C.Put c.args.target c.args.index c.args.from) c.deref_mut.ensures.value c.deref_mut.ensures.len c.finish_step.ensures.step c.self.invariant tt refl c.put-answer.ensures.performs c.put-answer.ensures.costs.tells).0
 
 pub returns : goal.returns
 returns g c = rw (c.finish_step.ensures.value, ← c.self.view_is) (record {
-  runs = (lent_runs c.self.inside.ground c.put-answer.new.ground c.self.inside.registers (C.Put c.args.target c.args.index c.args.from) c.deref_mut.ensures.value c.deref_mut.ensures.len c.finish_step.ensures.step c.finish_step.ensures.marks c.self.invariant tt refl c.put-answer.ensures.performs c.put-answer.ensures.costs.tells).1;
+  runs = (lent_runs c.self.inside.ground c.put-answer.new.ground c.self.inside.registers (C.Put c.args.target c.args.index c.args.from) c.deref_mut.ensures.value c.deref_mut.ensures.len c.finish_step.ensures.step c.self.invariant tt refl c.put-answer.ensures.performs c.put-answer.ensures.costs.tells).1;
   costs = takes_by c.put-answer.result _ refl c.put-answer.ensures.costs.few c.put-answer.ensures.costs.cost;
   moves = most_listed c.put-answer.ensures.moves;
 })

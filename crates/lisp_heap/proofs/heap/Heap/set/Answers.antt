@@ -12,11 +12,11 @@ invariant_of-self g c =
     let to = subst (λ (h : HeapView). c.args.to < length h.registers) (sym c.self.view_is) c.requires.to in
     rw (c.word_of.ensures)
     (performs_runs (g.M.Memory.seen c.self.inside.ground.mem) (g.M.Memory.seen c.self.inside.ground.mem) _ _ _ _ _ _ _ _ _ _ _ _ _ _ (C.Set c.args.to c.args.value) R.Fine
-    c.commands_are_steps.ensures.performs c.self.invariant c.assert_invariant.ensures.1.marked (plain_allowed c.args.to c.args.value c.requires.can) refl (set_performs _ _ _ c.args.to c.args.value to c.requires.can) (nothing_asked _ 0 false refl)).0
+    c.commands_are_steps.ensures.performs c.self.invariant c.self.inside.ground.sound.marked (plain_allowed c.args.to c.args.value c.requires.can) refl (set_performs _ _ _ c.args.to c.args.value to c.requires.can) (nothing_asked _ 0 false refl)).0
 
 pub returns-clause-runs : goal.returns-clause-runs
 returns-clause-runs g c =
     let to = subst (λ (h : HeapView). c.args.to < length h.registers) (sym c.self.view_is) c.requires.to in
     rw (c.word_of.ensures, ← c.self.view_is)
     ((performs_runs (g.M.Memory.seen c.self.inside.ground.mem) (g.M.Memory.seen c.self.inside.ground.mem) _ _ _ _ _ _ _ _ _ _ _ _ _ _ (C.Set c.args.to c.args.value) R.Fine
-    c.commands_are_steps.ensures.performs c.self.invariant c.assert_invariant.ensures.1.marked (plain_allowed c.args.to c.args.value c.requires.can) refl (set_performs _ _ _ c.args.to c.args.value to c.requires.can) (nothing_asked _ 0 false refl)).1)
+    c.commands_are_steps.ensures.performs c.self.invariant c.self.inside.ground.sound.marked (plain_allowed c.args.to c.args.value c.requires.can) refl (set_performs _ _ _ c.args.to c.args.value to c.requires.can) (nothing_asked _ 0 false refl)).1)

@@ -60,7 +60,7 @@ returns-in-Err-clause-err g c command all allowed may wants =
     let x = c.in-Err.ensures in
     let p = silent g (goal.at.returns-in-Err-clause-err g c).After-take_silent_steps in
     let ran = refused_runs (prepared_parts c.args.ground.now p c.requires.sound c.requires.area) (g.M.Memory.seen c.admit.new.ground.mem) c.admit.new.ground.table c.admit.new.scan c.admit.new.registers c.args.steps.now c.admit.new.steps command c.in-Err.reply c.args.allocation.charge (g.M.Memory.faults c.admit.new.ground.mem) (g.M.Memory.resident c.admit.new.ground.mem) (counted g.M.Memory c.admit.new.ground.mem)
-    all allowed may wants x.refused prepared_goes c.assert_invariant.ensures.1.marked x.goes_on.registers x.goes_on.table.form.regions
+    all allowed may wants x.refused prepared_goes c.admit.new.ground.sound.marked x.goes_on.registers x.goes_on.table.form.regions
     (told_behind (contents_at c.args.ground.now c.args.scan.now c.args.registers.now c.args.space.now) (contents_at c.admit.new.ground c.admit.new.scan c.admit.new.registers c.args.space.now) p.ground.mem c.args.steps.now c.admit.new.steps command c.in-Err.reply all p.silent.faults p.silent.taken p.resident x.accounted)
     x.goes_on.some x.goes_on.table.placed x.goes_on.table x.goes_on.marks (refused_undone c.in-Err.reply _ _ _ _ (λ e. (x.err e).0)) in
     record {

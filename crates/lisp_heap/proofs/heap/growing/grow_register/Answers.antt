@@ -20,14 +20,14 @@ pub grow_charged-requires-clause-represented : goal.grow_charged-requires-clause
 grow_charged-requires-clause-represented g c =
     let x = c.find_growing-found.ensures in
     standing_looked (g.M.Memory.seen c.args.ground.now.mem) (g.M.Memory.seen c.find_growing-found.new.ground.mem) c.args.ground.now.table c.find_growing-found.new.ground.table c.args.scan.now c.args.registers.now c.find_growing-found.new.registers
-    c.look_laws.ensures.stands c.look_laws.ensures.marks x.preserves x.registers x.stays_fresh x.represented c.requires.represented
+    c.looks_are_steps.ensures.stands c.find_growing-found.new.ground.sound.marked x.preserves x.registers x.stays_fresh x.represented c.requires.represented
 
 pub grow_charged-requires-clause-target : goal.grow_charged-requires-clause-target
 grow_charged-requires-clause-target g c = let many = c.find_growing-found.ensures.registers.count in let low = c.requires.target in omega arith
 
 pub returns-in-Answered-clause-step : goal.returns-in-Answered-clause-step
 returns-in-Answered-clause-step g c k s x same =
-    c.look_laws.ensures.idle _ _ _ _ _ _ _ k s (C.Grow c.args.target c.args.wanted) c.in-Answered.reply x
+    c.looks_are_steps.ensures.idle _ _ _ _ _ _ _ k s (C.Grow c.args.target c.args.wanted) c.in-Answered.reply x
     (λ sure. c.in-Answered.ensures.finds.unwanted sure k s x.represents x.reach) c.in-Answered.ensures.finds.performs
 
 pub returns-in-Answered-clause-settled : goal.returns-in-Answered-clause-settled
@@ -55,7 +55,7 @@ returns-in-Wants-clause-step g c k s x same =
     let y = c.find_growing-found.ensures in
     c.grow_charged.ensures.step (y.represented k s x.represents x.reach).map s
     (looked (g.M.Memory.seen c.args.ground.now.mem) (g.M.Memory.seen c.find_growing-found.new.ground.mem) c.args.ground.now.table c.find_growing-found.new.ground.table c.args.scan.now c.args.registers.now c.find_growing-found.new.registers
-    c.look_laws.ensures.stands c.look_laws.ensures.marks y.preserves y.registers y.stays_fresh y.represented k s x) same
+    c.looks_are_steps.ensures.stands c.find_growing-found.new.ground.sound.marked y.preserves y.registers y.stays_fresh y.represented k s x) same
 
 pub returns-in-Wants-clause-registers : goal.returns-in-Wants-clause-registers
 returns-in-Wants-clause-registers g c = c.grow_charged.ensures.registers ∙ c.find_growing-found.ensures.registers.count

@@ -2,7 +2,7 @@ use Rattle.std.proofs.Common.{◌≡◌, ◌<◌, ◌≤◌, ◌+◌, ◌/◌, �
 use Rattle.std.proofs.lemmas.List.{with_items_is}
 use Rattle.store_word.specs.Words.{null_word}
 use Rattle.mem_port.specs.Plain.{Plain, tag_at}
-use Rattle.mem_port.proofs.PlainLaws.{tag_at_read}
+use Rattle.mem_port.proofs.PlainLaws.{plain_memory, tag_at_read}
 use Rattle.mem_port.proofs.PlainSpans.{CoversPlain, plain_copied, covered_plain, covered_store}
 use Rattle.mem_port.proofs.plain.PlainMemoryMemory.copy_on.Given.{Over}
 use Rattle.mem_port.proofs.plain.PlainMemoryMemory.copy_on.Goals.{After-tag_with-tag}
@@ -35,3 +35,8 @@ pub returns-clause-written : goal.returns-clause-written
 returns-clause-written g c =
     let at = (goal.at.returns-clause-written g c).After-tag_with-tag in
     rw (← c.self.view_is, with_items_is c.self.inside.words c.copy_range.new.words (same_count g at)) (covered_store (before g at) c.copy_range.new.words c.args.to c.args.count (λ i. get_or c.self.inside.words.items (c.args.from + i) null_word) c.tag_with-tag.result c.and-self-inside.result.total c.self.invariant (copied g at))
+
+pub returns-clause-sound : goal.returns-clause-sound
+returns-clause-sound g c =
+    let at = (goal.at.returns-clause-sound g c).After-tag_with-tag in
+    rw (with_items_is c.self.inside.words c.copy_range.new.words (same_count g at)) (plain_memory _ (covered_plain (before g at) c.copy_range.new.words c.args.to c.args.count (λ i. get_or c.self.inside.words.items (c.args.from + i) null_word) c.tag_with-tag.result c.and-self-inside.result.total c.self.invariant (copied g at)))

@@ -1,7 +1,7 @@
 use Rattle.std.proofs.Common.{◌≡◌, ◌<◌, ◌≤◌, ◌+◌, ◌/◌, ◌*◌, length, subst, sym, ap, arith}
 use Rattle.std.proofs.lemmas.List.{with_items_is}
 use Rattle.mem_port.specs.Plain.{Plain, tag_at}
-use Rattle.mem_port.proofs.PlainLaws.{tag_at_read}
+use Rattle.mem_port.proofs.PlainLaws.{plain_memory, tag_at_read}
 use Rattle.mem_port.proofs.PlainSpans.{CoversPlain, filled_over, plain_filled, covered_plain, covered_store}
 use Rattle.mem_port.proofs.plain.PlainMemoryMemory.fill_on.Given.{Over}
 use Rattle.mem_port.proofs.plain.PlainMemoryMemory.fill_on.Goals.{After-fill_range}
@@ -37,3 +37,8 @@ pub returns-clause-filled : goal.returns-clause-filled
 returns-clause-filled g c =
     let at = (goal.at.returns-clause-filled g c).After-fill_range in
     rw (← c.self.view_is, with_items_is c.self.inside.words c.fill_range.new.xs (same_count g at)) (covered_store (before g at) c.fill_range.new.xs c.args.at c.args.count (λ _. c.args.word) c.tag_after-tag.result c.and-self-inside.result.total c.self.invariant (filled g at))
+
+pub returns-clause-sound : goal.returns-clause-sound
+returns-clause-sound g c =
+    let at = (goal.at.returns-clause-sound g c).After-fill_range in
+    rw (with_items_is c.self.inside.words c.fill_range.new.xs (same_count g at)) (plain_memory _ (covered_plain (before g at) c.fill_range.new.xs c.args.at c.args.count (λ _. c.args.word) c.tag_after-tag.result c.and-self-inside.result.total c.self.invariant (filled g at)))

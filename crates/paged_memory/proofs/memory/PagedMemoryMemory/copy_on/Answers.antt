@@ -1,4 +1,5 @@
 use Rattle.std.proofs.Common.{◌∙◌, sym}
+use Rattle.paged_memory.proofs.FrameAccess.{paged_sound}
 use Rattle.paged_memory.proofs.memory.PagedMemoryMemory.copy_on.Goals as goal
 
 pub copy_span-requires-clause-paged : goal.copy_span-requires-clause-paged
@@ -20,3 +21,6 @@ returns-clause-stays_held g c = rw (← c.self.view_is) (c.copy_span.ensures (g.
 
 pub returns-clause-resident : goal.returns-clause-resident
 returns-clause-resident g c = rw (← c.self.view_is) (c.copy_span.ensures (g.D.Swap.stored c.self.inside.swap) c.self.invariant.0).many
+
+pub returns-clause-sound : goal.returns-clause-sound
+returns-clause-sound g c = paged_sound _ _ (c.copy_span.ensures (g.D.Swap.stored c.self.inside.swap) c.self.invariant.0).paged

@@ -3,6 +3,7 @@ use Rattle.paged_memory.specs.Paging.{resident_of}
 use Rattle.paged_memory.specs.Moves.{paging_of}
 use Rattle.paged_memory.proofs.Chains.{evicts_fewer, evicts_then, drop_more, one_gone, stops_evicting, writes_more}
 use Rattle.paged_memory.proofs.Uses.{out_evicts}
+use Rattle.paged_memory.proofs.FrameAccess.{paged_sound}
 use Rattle.paged_memory.proofs.memory.PagedMemoryMemory.evict_oldest.Goals as goal
 
 pub loop-evicted-preserved : goal.loop-evicted-preserved
@@ -33,3 +34,12 @@ pub returns-in_err-evict-clause-stops : goal.returns-in_err-evict-clause-stops
 returns-in_err-evict-clause-stops g c =
     let v = c.loop-evicted.invariant in
     evicts_fewer c.from_residual.result _ _ c.loop-evicted.evicted c.args.count (omega arith) (ap resident_of c.in_err-evict.ensures.unchanged ∙ v.order)
+
+pub returns-in_err-evict-clause-sound : goal.returns-in_err-evict-clause-sound
+returns-in_err-evict-clause-sound g c = λ _. paged_sound _ _ c.in_err-evict.ensures.preserves.paged
+
+pub returns-after-loop-evicted-clause-sound : goal.returns-after-loop-evicted-clause-sound
+returns-after-loop-evicted-clause-sound g c = λ _. paged_sound _ _ c.loop-evicted.invariant.paged
+
+pub returns-in_default-clause-sound : goal.returns-in_default-clause-sound
+returns-in_default-clause-sound g c = λ _. paged_sound _ _ c.loop-evicted.invariant.paged

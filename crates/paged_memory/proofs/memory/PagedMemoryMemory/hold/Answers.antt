@@ -8,6 +8,7 @@ use Rattle.paged_memory.proofs.Chains.{stops_among, uses_each_push}
 use Rattle.paged_memory.proofs.RecentPages.{held_more, recent_in}
 use Rattle.paged_memory.proofs.Residents.{uses_room}
 use Rattle.paged_memory.proofs.Words.{page_in}
+use Rattle.paged_memory.proofs.FrameAccess.{paged_sound}
 use Rattle.paged_memory.proofs.memory.PagedMemoryMemory.hold.Goals as goal
 
 pub use_page-requires-clause-in_range : goal.use_page-requires-clause-in_range
@@ -45,3 +46,9 @@ pub returns-in_err-use_page-clause-stops : goal.returns-in_err-use_page-clause-s
 returns-in_err-use_page-clause-stops g c =
     stops_among c.from_residual.result c.args.self.now.0 (paging_of c.loop-page.self-inside.pager) (paging_of c.use_page.new.self) _ _ _ c.args.pages.now c.loop-page.page-index (omega arith) c.loop-page.invariant.uses
     (λ m. let bad : false ≡ true = c.in_err-use_page.ensures.succeeds m in absurd (cc)) c.in_err-use_page.ensures.stops c.in_err-use_page.ensures.stopped
+
+pub returns-in_err-use_page-clause-sound : goal.returns-in_err-use_page-clause-sound
+returns-in_err-use_page-clause-sound g c = paged_sound _ _ c.in_err-use_page.ensures.stays_held.paged
+
+pub returns-clause-sound : goal.returns-clause-sound
+returns-clause-sound g c = paged_sound _ _ c.loop-page.invariant.paged

@@ -3,7 +3,7 @@ use Rattle.store_word.specs.Words.{Parts}
 use Rattle.paged_memory.specs.Moves.{paging_of}
 use Rattle.paged_memory.proofs.RecentPages.{used_kept}
 use Rattle.paged_memory.proofs.Residents.{uses_room}
-use Rattle.paged_memory.proofs.FrameAccess.{frame_in, read_framed}
+use Rattle.paged_memory.proofs.FrameAccess.{frame_in, read_framed, paged_sound}
 use Rattle.paged_memory.proofs.Words.{inside_of, page_inside}
 use Rattle.paged_memory.proofs.memory.PagedMemoryMemory.read.Goals as goal
 
@@ -31,3 +31,9 @@ pub returns-clause-room : goal.returns-clause-room
 returns-clause-room g c =
     let more = uses_room (paging_of c.self.inside.pager) (paging_of c.use_page.new.self) _ _ _ c.self.invariant.0 c.in_ok-frame.ensures.uses in
     record { answered = rw (← c.self.view_is) more; failed = tt }
+
+pub returns-in_err-frame-clause-sound : goal.returns-in_err-frame-clause-sound
+returns-in_err-frame-clause-sound g c = paged_sound _ _ c.in_err-frame.ensures.stays_held.paged
+
+pub returns-clause-sound : goal.returns-clause-sound
+returns-clause-sound g c = paged_sound _ _ c.in_ok-frame.ensures.stays_held.paged

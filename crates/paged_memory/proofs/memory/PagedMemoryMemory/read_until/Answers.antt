@@ -5,7 +5,7 @@ use Rattle.paged_memory.specs.Paging.{Paging}
 use Rattle.paged_memory.specs.Moves.{paging_of}
 use Rattle.paged_memory.proofs.RecentPages.{used_kept}
 use Rattle.paged_memory.proofs.Residents.{uses_room}
-use Rattle.paged_memory.proofs.FrameAccess.{frame_in, passes_framed}
+use Rattle.paged_memory.proofs.FrameAccess.{frame_in, passes_framed, paged_sound}
 use Rattle.paged_memory.proofs.Words.{inside_of, page_inside}
 use Rattle.paged_memory.proofs.memory.PagedMemoryMemory.read_until.Goals as goal
 
@@ -17,6 +17,9 @@ use_page-requires-clause-in_range g c =
 
 pub returns-in_err-frame-clause-succeeds : goal.returns-in_err-frame-clause-succeeds
 returns-in_err-frame-clause-succeeds g c = rw (← c.self.view_is) (λ m. let bad : false ≡ true = c.in_err-frame.ensures.succeeds m in absurd (cc))
+
+pub returns-in_err-frame-clause-sound : goal.returns-in_err-frame-clause-sound
+returns-in_err-frame-clause-sound g c = paged_sound _ _ c.in_err-frame.ensures.stays_held.paged
 
 pub words-words-requires : goal.words-words-requires
 words-words-requires g c = frame_in _ _ (c.args.at / 256) c.in_ok-frame.frame c.in_ok-frame.ensures.stays_held.paged c.in_ok-frame.ensures.placed
@@ -31,6 +34,9 @@ returns-clause-value g c =
     let some = c.requires.at_least in
     rw (← c.self.view_is) (subst (λ (ws : List Parts). Passes ws (g.T.WordTest.wanted c.args.test.now) c.args.at c.args.count c.words_before-passed.result) k.stays.words
     (passes_framed p (g.D.Swap.stored c.use_page.new.swap) c.words-words.result.now (g.T.WordTest.wanted c.args.test.now) c.args.at c.in_ok-frame.frame c.args.count c.words_before-passed.result page (omega (arith, low, size, some)) c.in_ok-frame.ensures.placed c.words-words.ensures.size c.words-words.ensures.words c.words_before-passed.ensures))
+
+pub returns-clause-sound : goal.returns-clause-sound
+returns-clause-sound g c = paged_sound _ _ c.in_ok-frame.ensures.stays_held.paged
 
 pub returns-clause-stays_held : goal.returns-clause-stays_held
 returns-clause-stays_held g c = rw (← c.self.view_is) (used_kept _ _ _ _ c.in_ok-frame.ensures.uses.order)

@@ -6,7 +6,7 @@ use Rattle.paged_memory.specs.Paging.{size_of}
 use Rattle.paged_memory.specs.Moves.{paging_of}
 use Rattle.paged_memory.proofs.RecentPages.{used_kept}
 use Rattle.paged_memory.proofs.Residents.{uses_room}
-use Rattle.paged_memory.proofs.FrameAccess.{PutsWord, frame_in, puts_word, put_paged, put_stores, put_uses, stores_after}
+use Rattle.paged_memory.proofs.FrameAccess.{PutsWord, frame_in, puts_word, put_paged, put_stores, put_uses, stores_after, paged_sound}
 use Rattle.paged_memory.proofs.Words.{inside_of, page_inside}
 use Rattle.paged_memory.proofs.memory.PagedMemoryMemory.write.Given.{Over}
 use Rattle.paged_memory.proofs.memory.PagedMemoryMemory.write.Goals.{After-store_word}
@@ -77,3 +77,14 @@ returns-clause-room g c =
     let puts = written g at (omega (arith, low, size)) in
     let uses = put_uses (paging_of c.self.inside.pager) (paging_of c.use_page.new.self) _ c.store_word.new.pool c.in_ok-frame.frame c.args.at c.args.word (tag g at) false k.paged k.stays.levels k.stays.top puts c.in_ok-frame.ensures.uses in
     record { answered = rw (← c.self.view_is) (uses_room (paging_of c.self.inside.pager) _ _ _ _ c.self.invariant.0 uses); failed = tt }
+
+pub returns-in_err-frame-clause-sound : goal.returns-in_err-frame-clause-sound
+returns-in_err-frame-clause-sound g c = paged_sound _ _ c.in_err-frame.ensures.stays_held.paged
+
+pub returns-clause-sound : goal.returns-clause-sound
+returns-clause-sound g c =
+    let at = (goal.at.returns-clause-sound g c).After-store_word in
+    let low = inside_of (paging_of c.self.inside.pager) (g.D.Swap.stored c.self.inside.swap) c.args.at (rw (← c.self.view_is) at c.requires) in
+    let k = c.in_ok-frame.ensures.stays_held in
+    let size = k.size in
+    paged_sound _ _ (put_paged (paging_of c.use_page.new.self) _ c.store_word.new.pool c.in_ok-frame.frame c.args.at c.args.word (tag g at) k.paged (written g at (omega (arith, low, size))))

@@ -7,7 +7,7 @@ use Rattle.paged_memory.specs.Moves.{paging_of}
 use Rattle.paged_memory.proofs.RecentPages.{used_kept}
 use Rattle.paged_memory.proofs.Residents.{uses_room}
 use Rattle.paged_memory.proofs.FrameChanges.{with_pool}
-use Rattle.paged_memory.proofs.FrameAccess.{PutsTwo, frame_in, puts_two, stores_two, two_paged, two_uses}
+use Rattle.paged_memory.proofs.FrameAccess.{PutsTwo, frame_in, puts_two, stores_two, two_paged, two_uses, paged_sound}
 use Rattle.paged_memory.proofs.Words.{inside_of, page_inside}
 use Rattle.paged_memory.proofs.memory.PagedMemoryMemory.write_two.Given.{Over}
 use Rattle.paged_memory.proofs.memory.PagedMemoryMemory.write_two.Goals.{After-store_two}
@@ -60,3 +60,11 @@ returns-clause-stays_held g c = rw (← c.self.view_is) (used_kept _ _ _ _ (used
 pub returns-clause-room : goal.returns-clause-room
 returns-clause-room g c =
     record { answered = rw (← c.self.view_is) (uses_room (paging_of c.self.inside.pager) _ _ _ _ c.self.invariant.0 (used g (goal.at.returns-clause-room g c).After-store_two)); failed = tt }
+
+pub returns-in_err-frame-clause-sound : goal.returns-in_err-frame-clause-sound
+returns-in_err-frame-clause-sound g c = paged_sound _ _ c.in_err-frame.ensures.stays_held.paged
+
+pub returns-clause-sound : goal.returns-clause-sound
+returns-clause-sound g c =
+    let at = (goal.at.returns-clause-sound g c).After-store_two in
+    paged_sound _ _ (two_paged (paging_of c.use_page.new.self) _ c.store_two.ensures.written.between c.store_two.new.pool c.in_ok-frame.frame c.args.at c.args.first c.args.second c.in_ok-frame.ensures.stays_held.paged (written g at))

@@ -12,8 +12,8 @@ reserve-at-requires-clause-in_range g c =
     let fits = c.if-account-quota.false in
     enough-room 2 2 c.requires (omega arith) (omega arith)
 
-pub write_pair-requires : goal.write_pair-requires
-write_pair-requires g c = reserved-inside c.reserve-at.result 2 2 c.reserve-at.ensures
+pub write_pair-requires-clause-in_range : goal.write_pair-requires-clause-in_range
+write_pair-requires-clause-in_range g c = reserved-inside c.reserve-at.result 2 2 c.reserve-at.ensures
 
 pub list_at-self-requires : goal.list_at-self-requires
 list_at-self-requires g c = let small = reserved-small c.reserve-at.result 2 2 c.reserve-at.ensures in omega arith

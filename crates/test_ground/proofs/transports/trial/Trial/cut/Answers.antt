@@ -21,8 +21,8 @@ reserve-at-requires-clause-in_range g c =
 pub reserve-at-requires-clause-ground : goal.reserve-at-requires-clause-ground
 reserve-at-requires-clause-ground g c = (open-same c.requires c.in_ok-car.ensures.unchanged).on.ground
 
-pub write_pair-requires : goal.write_pair-requires
-write_pair-requires g c = reserved-inside c.reserve-at.result 2 0 c.reserve-at.ensures
+pub write_pair-requires-clause-in_range : goal.write_pair-requires-clause-in_range
+write_pair-requires-clause-in_range g c = reserved-inside c.reserve-at.result 2 0 c.reserve-at.ensures
 
 pub leave_husk-requires-clause-in_range : goal.leave_husk-requires-clause-in_range
 leave_husk-requires-clause-in_range g c =

@@ -13,4 +13,4 @@ returns g c =
     let same : m' ≡ m = ap g.M.Memory.seen c.condemn.ensures.memory in
     let x = subst (λ s. IsOpen s c.args.self.now.ground.table c.args.self.now.front c.args.self.now.middle) (sym same) c.requires in
     running-flipped m' t u c.args.self.now.front c.args.self.now.middle x Full c.condemn.ensures.table (c.condemn.ensures.stays_ground c.requires.on.ground) (c.condemn.ensures.stays_named c.requires.on.named)
-    c.condemn.ensures.sound c.assert_invariant.ensures.1.marked
+    c.condemn.ensures.sound c.condemn.new.self.sound.marked

@@ -12,8 +12,8 @@ reserve-at-requires-clause-in_range g c =
     let fits = c.if-account-cells.false in
     enough-room c.args.count (3 * c.args.count) c.requires.«open» (omega arith) (omega arith)
 
-pub write_cells-requires : goal.write_cells-requires
-write_cells-requires g c = reserved-inside c.reserve-at.result c.args.count (3 * c.args.count) c.reserve-at.ensures
+pub write_cells-requires-clause-in_range : goal.write_cells-requires-clause-in_range
+write_cells-requires-clause-in_range g c = reserved-inside c.reserve-at.result c.args.count (3 * c.args.count) c.reserve-at.ensures
 
 pub list_at-self-requires : goal.list_at-self-requires
 list_at-self-requires g c = let small = reserved-small c.reserve-at.result c.args.count (3 * c.args.count) c.reserve-at.ensures in omega arith
